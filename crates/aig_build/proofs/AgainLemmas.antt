@@ -1,16 +1,5 @@
 -- Making rows and covers again, over nodes that extend those that they left, adds nothing and gives the same literals.
-use Rattle.std.proofs.Common.{sym, subst, ◌≡◌, ℕ, zero, suc, min, max, List, [], ◌∷◌, ◌++◌, length, refl, ap, ◌∙◌}
-use Rattle.netlist.specs.CoverValue.{RowValue, CoverValue}
-use Rattle.netlist.specs.declared.cell.Cell.{Cell}
-use Rattle.aig_core.specs.declared.lit.Lit.{Lit}
-use Rattle.aig_core.specs.declared.lit.Pair.{Pair}
-use Rattle.aig_core.specs.And.{complement, Answer, product_of}
-use Rattle.aig_core.proofs.GrowthLemmas.{Extends, Extends-trans, and_again, and_grows}
-use Rattle.aig_build.specs.Balanced.{front_half, back_half}
-use Rattle.aig_build.specs.BalancedMade.{balanced, balanced_and}
-use Rattle.aig_build.specs.CoverGraph.{row_literals, Literals}
-use Rattle.aig_build.specs.CoverMade.{row_made, rows_made, cover_made}
-use Rattle.aig_build.specs.RowsOnto.{rows_onto}
+use Rattle.aig_build.proofs.Common.{sym, subst, ◌≡◌, ℕ, zero, suc, min, max, List, [], ◌∷◌, ◌++◌, length, refl, ap, ◌∙◌, RowValue, CoverValue, Cell, Lit, Pair, complement, Answer, product_of, Extends, Extends-trans, and_again, and_grows, front_half, back_half, balanced, balanced_and, row_literals, Literals, row_made, rows_made, cover_made, rows_onto}
 use Rattle.aig_build.proofs.BalancedLemmas.{balanced-grows}
 use Rattle.aig_build.proofs.CoverLemmas.{rows_onto-grows, rows_alone}
 

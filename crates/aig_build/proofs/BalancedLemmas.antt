@@ -1,19 +1,7 @@
 -- The balanced AND of a list: it only adds nodes, doesn't depend on how many halvings are allowed, and has the value of the product of all.
-use Rattle.std.proofs.Common.{◌≡◌, ℕ, zero, suc, ◌+◌, ◌*◌, ◌<◌, ◌≤◌, Bool, true, false, ◌&&◌, min, max, List, [], ◌∷◌, ◌++◌, length, refl, sym, ap, ◌∙◌, arith, length-append}
+use Rattle.aig_build.proofs.Common.{◌≡◌, ℕ, zero, suc, ◌+◌, ◌*◌, ◌<◌, ◌≤◌, Bool, true, false, ◌&&◌, min, max, List, [], ◌∷◌, ◌++◌, length, refl, sym, ap, ◌∙◌, arith, length-append, take-append-drop, length-take, length-drop, All-head, All-tail, All-take, All-drop, All-weaker, Lit, Pair, Aig, AreNormal, IsLit, first_and, Answer, and_of, with_pairs, product_of, value_of, values_from, Extends, Extends-refl, Extends-trans, length-Extends, and_grows, AreBase, Makes, Makes-and, Makes-literal, Makes-one, value_of-more, product, front_half, back_half, balanced, balanced_and}
 use Rattle.std.specs.List.{All}
 use Rattle.std.specs.Int.{div_ceil}
-use Rattle.std.proofs.lemmas.List.{take-append-drop, length-take, length-drop}
-use Rattle.std.proofs.lemmas.List.Elements.{All-head, All-tail, All-take, All-drop, All-weaker}
-use Rattle.aig_core.specs.declared.lit.Lit.{Lit}
-use Rattle.aig_core.specs.declared.lit.Pair.{Pair}
-use Rattle.aig_core.specs.Aig.{Aig, AreNormal, IsLit, first_and}
-use Rattle.aig_core.specs.And.{Answer, and_of, with_pairs, product_of}
-use Rattle.aig_core.specs.Value.{value_of}
-use Rattle.aig_core.proofs.ValueLemmas.{values_from}
-use Rattle.aig_core.proofs.GrowthLemmas.{Extends, Extends-refl, Extends-trans, length-Extends, and_grows}
-use Rattle.aig_core.proofs.ProductLemmas.{AreBase, Makes, Makes-and, Makes-literal, Makes-one, value_of-more, product}
-use Rattle.aig_build.specs.Balanced.{front_half, back_half}
-use Rattle.aig_build.specs.BalancedMade.{balanced, balanced_and}
 
 -- it only adds nodes
 pub balanced-grows : (first depth : ℕ) (pairs : List Pair) (lits : List Lit) → Extends pairs (balanced first depth pairs lits).pairs

@@ -1,25 +1,8 @@
 -- The nodes of rows and covers: their values are those that the definitions of a row and of a cover give.
-use Rattle.std.proofs.Common.{◌≡◌, ℕ, ◌+◌, ◌*◌, ◌<◌, ◌≤◌, Bool, true, false, not, ◌&&◌, ◌||◌, cond, suc, List, [], ◌∷◌, ◌++◌, length, map, drop, get_or, refl, sym, ap, ◌∙◌, subst, append-nil, append_assoc, add-one, arith}
+use Rattle.aig_build.proofs.Common.{◌≡◌, ℕ, ◌+◌, ◌*◌, ◌<◌, ◌≤◌, Bool, true, false, not, ◌&&◌, ◌||◌, cond, suc, List, [], ◌∷◌, ◌++◌, length, map, drop, get_or, refl, sym, ap, ◌∙◌, subst, append-nil, append_assoc, add-one, arith, All-nil, All-cons, All-head, All-tail, All-append, All-push, drop_past, Cell, Zero, One, Any, RowValue, CoverValue, allows, matches, some_row, cover_value, Lit, Pair, Aig, IsLit, AreNormal, first_and, complement, Answer, with_pairs, value_of, KeepsValues, values_from, values_of, Extends, Extends-refl, Extends-trans, length-Extends, AreBase, AreBase-sources, Makes, Makes-complement, Makes-weaker, value_of-more, value_of-complement, complement-below, not-not, KeepsValues-Extends, Makes-fits, balanced_and, flipped, cell_literals, row_literals, Literals, row_made, rows_made, cover_made, cover_of, HasCoverValue, rows_onto}
 use Rattle.std.proofs.Math.Seq.{drop-cons}
 use Rattle.std.specs.List.{All}
-use Rattle.std.proofs.lemmas.List.Elements.{All-nil, All-cons, All-head, All-tail, All-append, All-push}
 use Rattle.std.proofs.Math.Bool.{and-true}
-use Rattle.list_laws.proofs.Places.{drop_past}
-use Rattle.netlist.specs.declared.cell.Cell.{Cell}
-use Rattle.netlist.specs.declared.cell.Cell.TheVariants.{Zero, One, Any}
-use Rattle.netlist.specs.CoverValue.{RowValue, CoverValue, allows, matches, some_row, cover_value}
-use Rattle.aig_core.specs.declared.lit.Lit.{Lit}
-use Rattle.aig_core.specs.declared.lit.Pair.{Pair}
-use Rattle.aig_core.specs.Aig.{Aig, IsLit, AreNormal, first_and}
-use Rattle.aig_core.specs.And.{complement, Answer, with_pairs}
-use Rattle.aig_core.specs.Value.{value_of, KeepsValues}
-use Rattle.aig_core.proofs.ValueLemmas.{values_from, values_of}
-use Rattle.aig_core.proofs.GrowthLemmas.{Extends, Extends-refl, Extends-trans, length-Extends}
-use Rattle.aig_core.proofs.ProductLemmas.{AreBase, AreBase-sources, Makes, Makes-complement, Makes-weaker, value_of-more, value_of-complement, complement-below, not-not, KeepsValues-Extends, Makes-fits}
-use Rattle.aig_build.specs.BalancedMade.{balanced_and}
-use Rattle.aig_build.specs.CoverGraph.{flipped, cell_literals, row_literals, Literals}
-use Rattle.aig_build.specs.CoverMade.{row_made, rows_made, cover_made, cover_of, HasCoverValue}
-use Rattle.aig_build.specs.RowsOnto.{rows_onto}
 use Rattle.aig_build.proofs.BalancedLemmas.{balanced-grows, all_true, all_true-append, IsBelow, AreBelow, AreBelow-more, all_true-more, Makes-balanced}
 
 -- the values of the inputs under the values of the nodes

@@ -1,13 +1,5 @@
 -- The nodes of products, rows and covers are those that the functions give, and no others.
-use Rattle.std.proofs.Common.{◌≡◌, ℕ, zero, suc, ◌≤◌, cond, List, [], ◌∷◌, length, refl, sym, ap, ◌∙◌, arith}
-use Rattle.netlist.specs.CoverValue.{RowValue, CoverValue}
-use Rattle.aig_core.specs.declared.lit.Lit.{Lit}
-use Rattle.aig_core.specs.declared.lit.Pair.{Pair}
-use Rattle.aig_core.specs.And.{complement, Answer, product_of}
-use Rattle.aig_build.specs.Balanced.{front_half, back_half}
-use Rattle.aig_build.specs.BalancedMade.{balanced_and}
-use Rattle.aig_build.specs.CoverGraph.{row_literals, Literals}
-use Rattle.aig_build.specs.CoverMade.{row_made, rows_made, cover_made}
+use Rattle.aig_build.proofs.Common.{◌≡◌, ℕ, zero, suc, ◌≤◌, cond, List, [], ◌∷◌, length, refl, sym, ap, ◌∙◌, arith, RowValue, CoverValue, Lit, Pair, complement, Answer, product_of, front_half, back_half, balanced_and, row_literals, Literals, row_made, rows_made, cover_made}
 use Rattle.aig_build.specs.CoverNodes.{IsBalanced, none, one, halves, AreRows, no_row, a_row, IsCoverMade}
 use Rattle.aig_build.proofs.BalancedLemmas.{balanced_and-halves, front_half-shorter, back_half-shorter}
 

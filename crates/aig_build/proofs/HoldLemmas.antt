@@ -1,26 +1,6 @@
 -- Each net of a flat circuit has a literal of the graph, before a cover is made and after it.
-use Rattle.std.proofs.Common.{◌≡◌, ℕ, suc, ◌+◌, ◌<◌, ◌≤◌, List, [], ◌∷◌, length, drop, drop-cons, get_or, Some, refl, sym, ap, ◌∙◌, subst, inl, inr, arith}
-use Rattle.std.specs.Prelude.{slice_get}
+use Rattle.aig_build.proofs.Common.{◌≡◌, ℕ, suc, ◌+◌, ◌<◌, ◌≤◌, List, [], ◌∷◌, length, drop, drop-cons, get_or, Some, refl, sym, ap, ◌∙◌, subst, inl, inr, arith, slice_get, All-nil, All-cons, All-set, slice_get_read, In, set_length, CoverValue, LibraryValue, Net, Input, Latch, Cover, FlatCoverValue, FlatValue, IsThere, cover_behind, Lit, Pair, Aig, IsLit, first_and, Answer, with_pairs, Extends, length-Extends, cover_of, NetLitsValue, net_lit, net_lits, with_cover, Built, behind_made, gate_made, with_gate, walked, gate_of, order_of, IsHeld, HoldsNets}
 use Rattle.std.specs.List.{All}
-use Rattle.std.proofs.lemmas.List.Elements.{All-nil, All-cons, All-set}
-use Rattle.std.proofs.lemmas.Option.{slice_get_read}
-use Rattle.list_laws.specs.Members.{In}
-use Rattle.list_laws.proofs.Places.{set_length}
-use Rattle.netlist.specs.CoverValue.{CoverValue}
-use Rattle.netlist.specs.LibraryValue.{LibraryValue}
-use Rattle.netlist.specs.declared.flat.Net.{Net}
-use Rattle.netlist.specs.declared.flat.Net.TheVariants.{Input, Latch, Cover}
-use Rattle.netlist.specs.FlatCoverValue.{FlatCoverValue}
-use Rattle.netlist.specs.FlatValue.{FlatValue}
-use Rattle.netlist.specs.Bounds.{IsThere}
-use Rattle.netlist.specs.Evaluation.{cover_behind}
-use Rattle.aig_core.specs.declared.lit.Lit.{Lit}
-use Rattle.aig_core.specs.declared.lit.Pair.{Pair}
-use Rattle.aig_core.specs.Aig.{Aig, IsLit, first_and}
-use Rattle.aig_core.specs.And.{Answer, with_pairs}
-use Rattle.aig_core.proofs.GrowthLemmas.{Extends, length-Extends}
-use Rattle.aig_build.specs.CoverMade.{cover_of}
-use Rattle.aig_build.specs.Walked.{NetLitsValue, net_lit, net_lits, with_cover, Built, behind_made, gate_made, with_gate, walked, gate_of, order_of, IsHeld, HoldsNets}
 use Rattle.aig_build.proofs.BalancedLemmas.{IsBelow, AreBelow-more}
 use Rattle.aig_build.proofs.SignalLemmas.{walked-grows}
 use Rattle.aig_build.proofs.NetValueLemmas.{below_or_zero}

@@ -1,3 +1,4 @@
+mod Common
 mod BalancedLemmas
 mod CoverLemmas
 mod AgainLemmas

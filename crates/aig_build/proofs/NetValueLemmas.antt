@@ -1,47 +1,12 @@
 -- Whatever values fit the graph, the literal of each net has the value that evaluating the flat circuit in its order gives the net.
-use Rattle.std.proofs.Common.{◌≡◌, ℕ, zero, suc, ◌+◌, ◌*◌, ◌/◌, ◌%◌, ◌<◌, ◌≤◌, Bool, true, false, List, [], ◌∷◌, ◌++◌, length, map, replicate, get_or, Option, Some, None, refl, sym, ap, ap₂, ◌∙◌, subst, inl, inr, arith, slice_set}
-use Rattle.std.specs.Prelude.{slice_get, unwrap_or}
-use Rattle.std.specs.Option.{option_map, option_and_then}
+use Rattle.aig_build.proofs.Common.{◌≡◌, ℕ, zero, suc, ◌+◌, ◌*◌, ◌/◌, ◌%◌, ◌<◌, ◌≤◌, Bool, true, false, List, [], ◌∷◌, ◌++◌, length, map, replicate, get_or, Option, Some, None, refl, sym, ap, ap₂, ◌∙◌, subst, inl, inr, arith, slice_set, slice_get, unwrap_or, option_map, option_and_then, All-nil, All-cons, All-head, All-tail, All-get_or, All-set, All-replicate, none-some, same_Some, slice_get_within, slice_get-map, get_or_from_slice_get, In, In-get, at_within, get_left, get_right, RowValue, CoverValue, cover_value, ModelValue, LibraryValue, IsWellFormedBody, IsWellFormed, Net, Input, Latch, Cover, FlatCoverValue, FlatValue, input_values, body_at, IsThere, IsWithinBounds, cover_behind, net_value, gate_value, evaluated, flat_values, Param, param_names, regular_names, Kind, Regular, Parameter, Lit, Pair, AreNormal, Answer, value_of, Extends, AreBase, Makes, value_of-even, value_of-more, values_from, values_old, cover_made, input_names, source_kinds, IsSourceLiteral, an_input, a_latch, source_values, NetLitsValue, no_lit, net_lit, net_lits, Built, gate_made, with_gate, walked}
 use Rattle.std.proofs.lemmas.List.{length-map, length-replicate, length-append, map-set}
-use Rattle.std.proofs.lemmas.List.Elements.{All-nil, All-cons, All-head, All-tail, All-get_or, All-set, All-replicate}
-use Rattle.std.proofs.lemmas.Option.{none-some, same_Some, slice_get_within, slice_get-map, get_or_from_slice_get}
-use Rattle.list_laws.specs.Members.{In}
-use Rattle.list_laws.proofs.Members.{In-get}
-use Rattle.list_laws.proofs.Places.{at_within, get_left}
-use Rattle.list_laws.proofs.TwoLists.{get_right}
 use Rattle.netlist.specs.declared.command.Body.{Body}
 use Rattle.netlist.specs.declared.command.Body.TheVariants.{Cover as CoverBody, Latch as LatchBody, Subckt as SubcktBody}
 use Rattle.netlist.specs.declared.command.Command.{Command}
-use Rattle.netlist.specs.CoverValue.{RowValue, CoverValue, cover_value}
-use Rattle.netlist.specs.LibraryValue.{ModelValue, LibraryValue}
-use Rattle.netlist.specs.WellFormed.{IsWellFormedBody, IsWellFormed}
-use Rattle.netlist.specs.declared.flat.Net.{Net}
-use Rattle.netlist.specs.declared.flat.Net.TheVariants.{Input, Latch, Cover}
-use Rattle.netlist.specs.FlatCoverValue.{FlatCoverValue}
-use Rattle.netlist.specs.FlatValue.{FlatValue}
-use Rattle.netlist.specs.FlatCycle.{input_values}
 use Rattle.netlist.proofs.NameLemmas.{all_members}
-use Rattle.netlist.specs.Models.{body_at}
 use Rattle.netlist.specs.Places.{cover_in}
-use Rattle.netlist.specs.Bounds.{IsThere, IsWithinBounds}
-use Rattle.netlist.specs.Evaluation.{cover_behind, net_value, gate_value, evaluated, flat_values}
 use Rattle.netlist.specs.Evaluation as evaluation
-use Rattle.param_list.specs.declared.params.Param.{Param}
-use Rattle.param_list.specs.Parameters.{param_names, regular_names}
-use Rattle.aig_core.specs.declared.lit.Kind.{Kind}
-use Rattle.aig_core.specs.declared.lit.Kind.TheVariants.{Regular, Parameter}
-use Rattle.aig_core.specs.declared.lit.Lit.{Lit}
-use Rattle.aig_core.specs.declared.lit.Pair.{Pair}
-use Rattle.aig_core.specs.Aig.{AreNormal}
-use Rattle.aig_core.specs.And.{Answer}
-use Rattle.aig_core.specs.Value.{value_of}
-use Rattle.aig_core.proofs.GrowthLemmas.{Extends}
-use Rattle.aig_core.proofs.ProductLemmas.{AreBase, Makes, value_of-even, value_of-more}
-use Rattle.aig_core.proofs.ValueLemmas.{values_from, values_old}
-use Rattle.aig_build.specs.CoverMade.{cover_made}
-use Rattle.aig_build.specs.NetlistGraph.{input_names, source_kinds, IsSourceLiteral, an_input, a_latch}
-use Rattle.aig_build.specs.NetlistCycle.{source_values}
-use Rattle.aig_build.specs.Walked.{NetLitsValue, no_lit, net_lit, net_lits, Built, gate_made, with_gate, walked}
 use Rattle.aig_build.proofs.BalancedLemmas.{IsBelow, AreBelow, AreBelow-more}
 use Rattle.aig_build.proofs.CoverLemmas.{values_at, HaveWidth, Makes-cover}
 use Rattle.aig_build.proofs.SignalLemmas.{AreSourced, IsBehind, behind_at, gate_is}

@@ -1,21 +1,8 @@
 -- A worked example: the multiplexer `.names p a b y` with the rows `11- 1` and `0-1 1`, over the inputs a, b and p, of which p is the parameter. Its nodes are 4 = a · p, 5 = b · not p and
 -- 6 = not 4 · not 5, and its root is the complement of node 6, the literal 13.
-use Rattle.std.proofs.Common.{◌≡◌, ℕ, true, false, List, [], ◌∷◌, codes, None, refl}
-use Rattle.netlist.specs.declared.cell.Cell.TheVariants.{Zero, One, Any}
+use Rattle.aig_build.proofs.Common.{◌≡◌, ℕ, true, false, List, [], ◌∷◌, codes, None, refl, Zero, One, Any, CoverValue, LibraryValue, Net, Input, Cover, FlatCoverValue, FlatValue, Param, Regular, Parameter, Lit, Aig, RootsValue, Literals}
 use Rattle.netlist.specs.declared.command.Body.TheVariants.{Cover as CoverBody}
-use Rattle.netlist.specs.CoverValue.{CoverValue}
-use Rattle.netlist.specs.LibraryValue.{LibraryValue}
-use Rattle.netlist.specs.declared.flat.Net.{Net}
-use Rattle.netlist.specs.declared.flat.Net.TheVariants.{Input, Cover}
-use Rattle.netlist.specs.FlatCoverValue.{FlatCoverValue}
-use Rattle.netlist.specs.FlatValue.{FlatValue}
-use Rattle.param_list.specs.declared.params.Param.{Param}
-use Rattle.aig_core.specs.declared.lit.Kind.TheVariants.{Regular, Parameter}
-use Rattle.aig_core.specs.declared.lit.Lit.{Lit}
-use Rattle.aig_core.specs.Aig.{Aig}
-use Rattle.aig_core.specs.Roots.{RootsValue}
 use Rattle.aig_core.proofs.ValueExample.{pair}
-use Rattle.aig_build.specs.CoverGraph.{Literals}
 use Rattle.aig_build.specs.NetlistGraph.{source_kinds, input_names, IsSourceLiteral, an_input, Makes, a_source, a_cover, MakesAll, none, more, AreRootsMade, IsGraphOf}
 use Rattle.aig_build.proofs.CoverNodeLemmas.{cover_is}
 

@@ -1,38 +1,10 @@
 -- The graph that the code makes of a flat circuit is its graph, and its roots have the outputs and the next states of a clock cycle.
-use Rattle.std.proofs.Common.{◌≡◌, ℕ, ◌+◌, ◌<◌, ◌≤◌, Bool, false, List, [], ◌∷◌, ◌++◌, length, map, reverse, replicate, refl, sym, ap, ap₂, ◌∙◌, subst, subst₂, inl, inr, arith}
+use Rattle.aig_build.proofs.Common.{◌≡◌, ℕ, ◌+◌, ◌<◌, ◌≤◌, Bool, false, List, [], ◌∷◌, ◌++◌, length, map, reverse, replicate, refl, sym, ap, ap₂, ◌∙◌, subst, subst₂, inl, inr, arith, All-from_get_or, All-replicate, unwrap_or-slice_get, In, In-append, place_in, from_map, LibraryValue, IsWellFormed, Net, Input, Latch, Cover, OutPort, FlatLatch, FlatValue, cover_numbers, reads_at, PostsAll, IsThere, IsWithinBounds, net_value, flat_values, flat_outputs, flat_next, input_values, HasCycles, Param, AreParameters, Lit, Aig, IsLit, with_pairs, RootsValue, lits_of, roots_of, AreRoots, value_of, FitsGraph, MOST_NODES, Literals, input_names, source_kinds, root_nets, MakesAll, IsGraphOf, HasTooManyNodes, source_values, literal_values, HasSourceCycles, NetLitsValue, no_lit, net_lit, net_lits, Built, marks_of, regular_lits, regular_next, start_nets, source_aig, order_of, root_lits, HoldsNets}
 use Rattle.std.proofs.lemmas.Simd.{map-map}
 use Rattle.std.proofs.lemmas.List.{length-map, length-replicate, length-append, map-append}
-use Rattle.std.proofs.lemmas.List.Elements.{All-from_get_or, All-replicate}
-use Rattle.std.proofs.lemmas.Option.{unwrap_or-slice_get}
-use Rattle.list_laws.specs.Members.{In}
-use Rattle.list_laws.proofs.Members.{In-append, place_in, from_map}
-use Rattle.netlist.specs.LibraryValue.{LibraryValue}
-use Rattle.netlist.specs.WellFormed.{IsWellFormed}
-use Rattle.netlist.specs.declared.flat.Net.{Net}
-use Rattle.netlist.specs.declared.flat.Net.TheVariants.{Input, Latch, Cover}
-use Rattle.netlist.specs.declared.flat.OutPort.{OutPort}
-use Rattle.netlist.specs.declared.flat.FlatLatch.{FlatLatch}
-use Rattle.netlist.specs.FlatValue.{FlatValue}
-use Rattle.netlist.specs.Flat.{cover_numbers, reads_at}
 use Rattle.netlist.specs.Flattened.{HasValues}
-use Rattle.depth_first.specs.DepthFirst.{PostsAll}
-use Rattle.netlist.specs.Bounds.{IsThere, IsWithinBounds}
-use Rattle.netlist.specs.Evaluation.{net_value, flat_values}
 use Rattle.netlist.specs.Runs.{IsCycle}
-use Rattle.netlist.specs.FlatCycle.{flat_outputs, flat_next, input_values, HasCycles}
-use Rattle.param_list.specs.declared.params.Param.{Param}
-use Rattle.param_list.specs.Parameters.{AreParameters}
-use Rattle.aig_core.specs.declared.lit.Lit.{Lit}
-use Rattle.aig_core.specs.Aig.{Aig, IsLit}
-use Rattle.aig_core.specs.And.{with_pairs}
-use Rattle.aig_core.specs.Roots.{RootsValue, lits_of, roots_of, AreRoots}
-use Rattle.aig_core.specs.Value.{value_of, FitsGraph}
 use Rattle.aig_core.proofs.FitLemmas.{is_values_of}
-use Rattle.aig_build.specs.declared.TheConstants.{MOST_NODES}
-use Rattle.aig_build.specs.CoverGraph.{Literals}
-use Rattle.aig_build.specs.NetlistGraph.{input_names, source_kinds, root_nets, MakesAll, IsGraphOf, HasTooManyNodes}
-use Rattle.aig_build.specs.NetlistCycle.{source_values, literal_values, HasSourceCycles}
-use Rattle.aig_build.specs.Walked.{NetLitsValue, no_lit, net_lit, net_lits, Built, marks_of, regular_lits, regular_next, start_nets, source_aig, order_of, root_lits, HoldsNets}
 use Rattle.aig_build.proofs.SignalLemmas.{AreKnown, order_made}
 use Rattle.aig_build.proofs.SourceLemmas.{length-marked, length-regular, length-param_lits, regular_next-le, start_latches, start_sourced}
 use Rattle.aig_build.proofs.NetValueLemmas.{source_count, source_below, IsRight, net_right, flat_right}

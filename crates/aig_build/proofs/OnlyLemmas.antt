@@ -1,20 +1,5 @@
 -- The signals made again at every use are one list of nodes and literals: what makes them determines them.
-use Rattle.std.proofs.Common.{◌≡◌, ℕ, ◌+◌, ◌*◌, List, [], ◌∷◌, length, Some, sym, ap, ◌∙◌, subst}
-use Rattle.std.specs.Prelude.{slice_get}
-use Rattle.std.proofs.lemmas.Option.{same_Some}
-use Rattle.netlist.specs.CoverValue.{CoverValue}
-use Rattle.netlist.specs.LibraryValue.{LibraryValue}
-use Rattle.netlist.specs.declared.flat.Net.{Net}
-use Rattle.netlist.specs.declared.flat.Net.TheVariants.{Input, Latch, Cover}
-use Rattle.netlist.specs.FlatCoverValue.{FlatCoverValue}
-use Rattle.netlist.specs.FlatValue.{FlatValue}
-use Rattle.netlist.specs.Evaluation.{cover_behind}
-use Rattle.list_laws.proofs.Apart.{AreApart, apart_once}
-use Rattle.param_list.specs.declared.params.Param.{Param}
-use Rattle.aig_core.specs.declared.lit.Pair.{Pair}
-use Rattle.aig_core.specs.And.{Answer}
-use Rattle.aig_build.specs.CoverGraph.{Literals}
-use Rattle.aig_build.specs.CoverMade.{cover_made}
+use Rattle.aig_build.proofs.Common.{◌≡◌, ℕ, ◌+◌, ◌*◌, List, [], ◌∷◌, length, Some, sym, ap, ◌∙◌, subst, slice_get, same_Some, CoverValue, LibraryValue, Net, Input, Latch, Cover, FlatCoverValue, FlatValue, cover_behind, AreApart, apart_once, Param, Pair, Answer, Literals, cover_made}
 use Rattle.aig_build.proofs.CoverNodeLemmas.{cover_only}
 use Rattle.aig_build.specs.NetlistGraph.{input_names, source_kinds, IsSourceLiteral, an_input, a_latch, Makes, a_source, a_cover, MakesAll, none, more, HasOneGraph}
 

@@ -1,31 +1,10 @@
 -- Covers made in the order of a depth-first walk, each once, give the nodes and the literals of the signals that are made again at every use.
-use Rattle.std.proofs.Common.{◌≡◌, ℕ, ◌+◌, ◌<◌, List, [], ◌∷◌, ◌++◌, length, Option, Some, None, refl, sym, ap, ◌∙◌, subst, inl, inr, reverse}
-use Rattle.std.specs.Prelude.{slice_get, unwrap_or, IsSome}
+use Rattle.aig_build.proofs.Common.{◌≡◌, ℕ, ◌+◌, ◌<◌, List, [], ◌∷◌, ◌++◌, length, Option, Some, None, refl, sym, ap, ◌∙◌, subst, inl, inr, reverse, slice_get, unwrap_or, IsSome, In, In-left, In-right, at_within, set_here, set_other, set_length, same_or, CoverValue, LibraryValue, Net, Input, Latch, Cover, FlatCoverValue, FlatValue, cover_behind, cover_numbers, inputs_at, reads_at, IsThere, IsWithinBounds, Param, Lit, Pair, Answer, Extends, Extends-refl, Extends-trans, cover_made, IsCoverMade, NetLitsValue, no_lit, net_lit, net_lits, with_cover, Built, behind_made, gate_made, with_gate, walked}
 use mathlib.Core.List.{reverse_aux, reverse-reverse}
-use Rattle.list_laws.specs.Members.{In}
-use Rattle.list_laws.proofs.Members.{In-left, In-right}
-use Rattle.list_laws.proofs.Places.{at_within, set_here, set_other, set_length, same_or}
-use Rattle.netlist.specs.CoverValue.{CoverValue}
-use Rattle.netlist.specs.LibraryValue.{LibraryValue}
-use Rattle.netlist.specs.declared.flat.Net.{Net}
-use Rattle.netlist.specs.declared.flat.Net.TheVariants.{Input, Latch, Cover}
-use Rattle.netlist.specs.FlatCoverValue.{FlatCoverValue}
-use Rattle.netlist.specs.FlatValue.{FlatValue}
-use Rattle.netlist.specs.Evaluation.{cover_behind}
-use Rattle.netlist.specs.Flat.{cover_numbers, inputs_at, reads_at}
 use Rattle.depth_first.specs.DepthFirst.{Posts, skips, posts, PostsAll, none, more}
-use Rattle.netlist.specs.Bounds.{IsThere, IsWithinBounds}
 use Rattle.depth_first.proofs.PostLemmas.{nodes_done}
-use Rattle.param_list.specs.declared.params.Param.{Param}
-use Rattle.aig_core.specs.declared.lit.Lit.{Lit}
-use Rattle.aig_core.specs.declared.lit.Pair.{Pair}
-use Rattle.aig_core.specs.And.{Answer}
-use Rattle.aig_core.proofs.GrowthLemmas.{Extends, Extends-refl, Extends-trans}
-use Rattle.aig_build.specs.CoverMade.{cover_made}
-use Rattle.aig_build.specs.CoverNodes.{IsCoverMade}
 use Rattle.aig_build.specs.NetlistGraph.{source_kinds, IsSourceLiteral, Makes, a_source, a_cover, MakesAll}
 use Rattle.aig_build.specs.NetlistGraph as graph
-use Rattle.aig_build.specs.Walked.{NetLitsValue, no_lit, net_lit, net_lits, with_cover, Built, behind_made, gate_made, with_gate, walked}
 use Rattle.aig_build.proofs.CoverLemmas.{cover_made-grows}
 use Rattle.aig_build.proofs.AgainLemmas.{cover_made-again}
 use Rattle.aig_build.proofs.CoverNodeLemmas.{cover_is}

@@ -1,25 +1,9 @@
 -- The literals of the inputs as the code gives them: the regular ones in their order, then the parameters in the order of their list.
-use Rattle.std.proofs.Common.{◌≡◌, ℕ, zero, suc, ◌+◌, ◌*◌, ◌<◌, ◌≤◌, Bool, true, false, not, List, [], ◌∷◌, length, map, filter, Some, replicate, refl, sym, ap, ◌∙◌, subst, inl, inr, arith, slice_set}
-use Rattle.std.specs.Prelude.{slice_get, unwrap_or}
-use Rattle.std.specs.Option.{option_map}
+use Rattle.aig_build.proofs.Common.{◌≡◌, ℕ, zero, suc, ◌+◌, ◌*◌, ◌<◌, ◌≤◌, Bool, true, false, not, List, [], ◌∷◌, length, map, filter, Some, replicate, refl, sym, ap, ◌∙◌, subst, inl, inr, arith, slice_set, slice_get, unwrap_or, option_map, none-some, same_Some, slice_get_within, slice_get-map, In, In-map, In-filter, from_map, place_in, at_within, get_left, set_here, set_other, set_length, same_or, replicate_at, same_list, get_right, Input, FlatValue, has_name, AreApart, joined_apart, filtered_apart, apart_once, Param, param_names, regular_names, AreParameters, Lit, input_names, IsSourceLiteral, an_input, a_latch, NetLitsValue, no_lit, net_lit, marked, index_behind, regular_lits, regular_next, with_param_lits, marks_of, start_nets}
 use Rattle.std.proofs.lemmas.Bool.{both_ways, cases_Bool}
 use Rattle.std.proofs.lemmas.List.{length-map, length-replicate, length-append}
-use Rattle.std.proofs.lemmas.Option.{none-some, same_Some, slice_get_within, slice_get-map}
-use Rattle.list_laws.specs.Members.{In}
-use Rattle.list_laws.proofs.Members.{In-map, In-filter, from_map, place_in}
-use Rattle.list_laws.proofs.Places.{at_within, get_left, set_here, set_other, set_length, same_or, replicate_at, same_list}
-use Rattle.list_laws.proofs.TwoLists.{get_right}
 use Rattle.tl_text.specs.Once.{AreOnce}
 use Rattle.tl_text.proofs.NameSetLemmas.{has_in, in_has}
-use Rattle.netlist.specs.declared.flat.Net.TheVariants.{Input}
-use Rattle.netlist.specs.FlatValue.{FlatValue}
-use Rattle.netlist.specs.Models.{has_name}
-use Rattle.list_laws.proofs.Apart.{AreApart, joined_apart, filtered_apart, apart_once}
-use Rattle.param_list.specs.declared.params.Param.{Param}
-use Rattle.param_list.specs.Parameters.{param_names, regular_names, AreParameters}
-use Rattle.aig_core.specs.declared.lit.Lit.{Lit}
-use Rattle.aig_build.specs.NetlistGraph.{input_names, IsSourceLiteral, an_input, a_latch}
-use Rattle.aig_build.specs.Walked.{NetLitsValue, no_lit, net_lit, marked, index_behind, regular_lits, regular_next, with_param_lits, marks_of, start_nets}
 use Rattle.aig_build.proofs.SignalLemmas.{AreSourced}
 
 -- the marks

@@ -1,14 +1,5 @@
 -- One list of values fits a graph under the values of its sources, that of all nodes in order; the first of those that fit a larger graph fit the smaller one.
-use Rattle.std.proofs.Common.{◌≡◌, ℕ, zero, suc, ◌+◌, ◌-◌, ◌/◌, ◌<◌, ◌≤◌, Bool, false, ◌&&◌, List, ◌∷◌, length, take, get_or, Some, sym, ap, ◌∙◌, subst, inl, inr, arith, length-append}
-use Rattle.std.specs.List.{slice_get}
-use Rattle.std.proofs.lemmas.Bool.{cases_lt}
-use Rattle.std.proofs.lemmas.List.{ext_get_or, get_or-take, length-take}
-use Rattle.std.proofs.lemmas.Option.{slice_get_within}
-use Rattle.list_laws.proofs.Places.{get_left}
-use Rattle.aig_core.specs.declared.lit.Pair.{Pair}
-use Rattle.aig_core.specs.Aig.{Aig, IsNormal, AreNormal, first_and, node_count}
-use Rattle.aig_core.specs.And.{with_pairs}
-use Rattle.aig_core.specs.Value.{in_phase, node_value, value_of, FitsGraph, HasOneFit}
+use Rattle.aig_core.proofs.Common.{◌≡◌, ℕ, zero, suc, ◌+◌, ◌-◌, ◌/◌, ◌<◌, ◌≤◌, Bool, false, ◌&&◌, List, ◌∷◌, length, take, get_or, Some, sym, ap, ◌∙◌, subst, inl, inr, arith, length-append, slice_get, cases_lt, ext_get_or, get_or-take, length-take, slice_get_within, get_left, Pair, Aig, IsNormal, AreNormal, first_and, node_count, with_pairs, in_phase, node_value, value_of, FitsGraph, HasOneFit}
 use Rattle.aig_core.proofs.GrowthLemmas.{Extends}
 use Rattle.aig_core.proofs.NodeLemmas.{node_normal, node_at}
 use Rattle.aig_core.proofs.ValueLemmas.{values_of, values_old, values_node, length-values_from}

@@ -1,17 +1,6 @@
 -- The pairs of a graph only grow, and a product that was made stays made.
-use Rattle.std.proofs.Common.{◌≡◌, ℕ, ◌+◌, ◌/◌, ◌<◌, ◌≤◌, Bool, true, eqb, List, [], ◌∷◌, ◌++◌, length, get_or, Option, Some, None, refl, sym, ap, ◌∙◌, arith, length-append, append_assoc, append-nil}
-use Rattle.std.specs.List.{slice_get, position}
-use Rattle.std.proofs.lemmas.Option.{slice_get-get_or}
-use Rattle.std.proofs.lemmas.List.Quantifiers.{position-Some}
-use Rattle.std.proofs.Math.ListN.{get_or-append}
+use Rattle.aig_core.proofs.Common.{◌≡◌, ℕ, ◌+◌, ◌/◌, ◌<◌, ◌≤◌, Bool, true, eqb, List, [], ◌∷◌, ◌++◌, length, get_or, Option, Some, None, refl, sym, ap, ◌∙◌, arith, length-append, append_assoc, append-nil, slice_get, position, slice_get-get_or, position-Some, get_or-append, and_from, eq-eqb, Pair, AreNormal, is_pair, Answer, and_in_order, found_or_new, choose_one, choose_both, fails_everywhere, position_is, get_left}
 use Rattle.std.proofs.Math.Seq.{get_or-append_seam}
-use Rattle.std.proofs.lemmas.Bool.{and_from, eq-eqb}
-use Rattle.aig_core.specs.declared.lit.Pair.{Pair}
-use Rattle.aig_core.specs.Aig.{AreNormal}
-use Rattle.aig_core.specs.And.{is_pair, Answer, and_in_order, found_or_new}
-use Rattle.list_laws.proofs.Choice.{choose_one, choose_both}
-use Rattle.list_laws.proofs.FirstPlace.{fails_everywhere, position_is}
-use Rattle.list_laws.proofs.Places.{get_left}
 
 -- qs are ps and maybe more
 pub record Extends (ps qs : List Pair) : Type 0 where

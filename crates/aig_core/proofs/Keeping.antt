@@ -1,13 +1,5 @@
 -- A graph's normal form stays when a new pair is put at the end.
-use Rattle.std.proofs.Common.{◌≡◌, ℕ, ◌+◌, eqb, List, [], ◌∷◌, ◌++◌, length, Some, None, ap, inl, inr, ◌⊎◌, arith, length-append}
-use Rattle.std.specs.List.{slice_get, position}
-use Rattle.std.proofs.lemmas.Bool.{eq-eqb, and_from, both_ways}
-use Rattle.list_laws.proofs.FirstPlace.{fails_everywhere}
-use Rattle.list_laws.proofs.Places.{get_pushed}
-use Rattle.aig_core.specs.declared.lit.Kind.{Kind}
-use Rattle.aig_core.specs.declared.lit.Pair.{Pair}
-use Rattle.aig_core.specs.Aig.{IsNormal, AreNormal}
-use Rattle.aig_core.specs.And.{is_pair}
+use Rattle.aig_core.proofs.Common.{◌≡◌, ℕ, ◌+◌, eqb, List, [], ◌∷◌, ◌++◌, length, Some, None, ap, inl, inr, ◌⊎◌, arith, length-append, slice_get, position, eq-eqb, and_from, both_ways, fails_everywhere, get_pushed, Kind, Pair, IsNormal, AreNormal, is_pair}
 use Rattle.aig_core.specs.Keeps.{Keeps}
 
 -- a fresh pair is no pair of the list

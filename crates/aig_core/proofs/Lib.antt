@@ -1,3 +1,4 @@
+mod Common
 pub mod FitLemmas
 pub mod GrowthLemmas
 pub mod Keeping

@@ -1,9 +1,5 @@
 -- The nodes of a graph: the sources come before the AND nodes, and each of these has a pair, which is normal.
-use Rattle.std.proofs.Common.{◌≡◌, ℕ, ◌+◌, ◌-◌, ◌<◌, ◌≤◌, length, get_or, sym, ◌∙◌, subst, arith}
-use Rattle.std.proofs.lemmas.Option.{slice_get-get_or, slice_get_within, same_Some}
-use Rattle.aig_core.specs.declared.lit.Kind.{Kind}
-use Rattle.aig_core.specs.declared.lit.Pair.{Pair}
-use Rattle.aig_core.specs.Aig.{Aig, IsNode, IsNormal, IsSource, AreNormal, first_and, node_count}
+use Rattle.aig_core.proofs.Common.{◌≡◌, ℕ, ◌+◌, ◌-◌, ◌<◌, ◌≤◌, length, get_or, sym, ◌∙◌, subst, arith, slice_get-get_or, slice_get_within, same_Some, Kind, Pair, Aig, IsNode, IsNormal, IsSource, AreNormal, first_and, node_count}
 
 -- no source is an AND node
 pub source_below : (g : Aig) (kind : Kind) (n : ℕ) → IsSource g kind n → n < first_and g

@@ -1,16 +1,6 @@
 -- What `and` makes: the pairs stay normal, the answer is a literal of the new list, and its value is the product.
-use Rattle.std.proofs.Common.{◌≡◌, ℕ, ◌+◌, ◌-◌, ◌*◌, ◌/◌, ◌%◌, ◌<◌, ◌≤◌, Bool, true, false, not, ◌&&◌, eqb, min, max, List, [], ◌∷◌, ◌++◌, length, get_or, Option, Some, None, refl, sym, ap, ◌∙◌, inl, inr, arith, length-append}
-use Rattle.std.specs.List.{slice_get, position}
-use Rattle.std.proofs.lemmas.Option.{slice_get-get_or}
-use Rattle.std.proofs.lemmas.List.{get_or_push}
-use Rattle.std.proofs.lemmas.List.Quantifiers.{position-Some}
-use Rattle.std.proofs.lemmas.Bool.{eqb-true, eqb-false, and_parts, cases_lt}
+use Rattle.aig_core.proofs.Common.{◌≡◌, ℕ, ◌+◌, ◌-◌, ◌*◌, ◌/◌, ◌%◌, ◌<◌, ◌≤◌, Bool, true, false, not, ◌&&◌, eqb, min, max, List, [], ◌∷◌, ◌++◌, length, get_or, Option, Some, None, refl, sym, ap, ◌∙◌, inl, inr, arith, length-append, slice_get, position, slice_get-get_or, get_or_push, position-Some, eqb-true, eqb-false, and_parts, cases_lt, choose, Pair, Aig, IsLit, IsNormal, AreNormal, first_and, complement, is_pair, Answer, and_in_order, found_or_new, and_of, with_pairs, xor, value_of, FitsGraph, IsProduct, KeepsValues}
 use Rattle.std.proofs.Math.Bool.{and_comm}
-use Rattle.list_laws.proofs.Choice.{choose}
-use Rattle.aig_core.specs.declared.lit.Pair.{Pair}
-use Rattle.aig_core.specs.Aig.{Aig, IsLit, IsNormal, AreNormal, first_and}
-use Rattle.aig_core.specs.And.{complement, is_pair, Answer, and_in_order, found_or_new, and_of, with_pairs}
-use Rattle.aig_core.specs.Value.{xor, value_of, FitsGraph, IsProduct, KeepsValues}
 use Rattle.aig_core.proofs.Keeping.{AreNormal-push}
 use Rattle.aig_core.proofs.FitLemmas.{is_values_of, fits_front}
 use Rattle.aig_core.proofs.ValueLemmas.{value_of_old, values_from, values_node, values_of, values_old, length-values_from}

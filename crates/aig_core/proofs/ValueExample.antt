@@ -1,11 +1,6 @@
 -- A worked example: the multiplexer, over the inputs a and b and the parameter p. Its AND nodes are 4 = a · p, 5 = b · not p and 6 = not 4 · not 5, and its root is the complement of node 6, the literal 13.
-use Rattle.std.proofs.Common.{◌≡◌, ℕ, zero, suc, ◌+◌, ◌-◌, ◌<◌, ◌≤◌, Bool, true, false, ◌&&◌, List, [], ◌∷◌, Some, refl, ap, subst, arith}
-use Rattle.std.specs.List.{slice_get}
-use Rattle.std.proofs.lemmas.Option.{none-some, same_Some}
+use Rattle.aig_core.proofs.Common.{◌≡◌, ℕ, zero, suc, ◌+◌, ◌-◌, ◌<◌, ◌≤◌, Bool, true, false, ◌&&◌, List, [], ◌∷◌, Some, refl, ap, subst, arith, slice_get, none-some, same_Some, Pair, Aig, first_and, node_value, value_of, FitsGraph}
 use Rattle.aig_core.specs.declared.lit.Kind.TheVariants.{Regular, Parameter}
-use Rattle.aig_core.specs.declared.lit.Pair.{Pair}
-use Rattle.aig_core.specs.Aig.{Aig, first_and}
-use Rattle.aig_core.specs.Value.{node_value, value_of, FitsGraph}
 
 -- the pair of two literals
 abbrev pub pair : ℕ → ℕ → Pair

@@ -1,8 +1,6 @@
 -- A worked example: the multiplexer with the one LUT of its root, the literal 13, over the inputs a and b. With p = 0 the LUT has b's values, the configuration 0 0 1 1, and with p = 1 it has a's, 0 1 0 1.
-use Rattle.bit_fun.proofs.Common.{◌≡◌, ℕ, zero, suc, ◌-◌, ◌<◌, Bool, true, false, not, ◌&&◌, [], ◌∷◌, get_or, refl, inl, inr, arith, In, digit, in_phase, multiplexer, pair, Lut}
-use Rattle.bit_fun.specs.Parameters.{IsParam}
+use Rattle.bit_fun.proofs.Common.{◌≡◌, ℕ, zero, suc, ◌-◌, ◌<◌, Bool, true, false, not, ◌&&◌, [], ◌∷◌, get_or, refl, inl, inr, arith, In, digit, in_phase, multiplexer, pair, Lut, IsParam, IsConfiguration}
 use Rattle.bit_fun.specs.BitFunction.{NodeBit, leaf, parameter, node, IsBit}
-use Rattle.bit_fun.specs.Configuration.{IsConfiguration}
 
 abbrev pub root_table : Lut
 root_table = record { lit = record { 0 = 13 }; leaves = 1 ∷ 2 ∷ []; base = 0 }

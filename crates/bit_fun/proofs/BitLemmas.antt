@@ -1,6 +1,5 @@
 -- The bit of a node that the leaves block: there is one, and no other; where each leaf's digit is its value, it is the node's value in the graph.
-use Rattle.bit_fun.proofs.Common.{◌≡◌, ℕ, zero, suc, ◌-◌, ◌/◌, ◌<◌, ◌≤◌, Bool, false, ◌&&◌, List, [], ◌∷◌, length, take, get_or, Some, refl, sym, ap, ◌∙◌, subst, inl, inr, arith, slice_get, none-some, same_Some, slice_get_within, slice_get-get_or, get_or_from_slice_get, In, digit, IsAscending, In-get, place_in, in_or, Parameter, Pair, Aig, first_and, IsSource, IsNode, in_phase, node_value, FitsGraph, Blocks, member, blocks_constant, blocks_parameter, fan_ins, CanBeLeaf}
-use Rattle.bit_fun.specs.Parameters.{param_count, IsParam}
+use Rattle.bit_fun.proofs.Common.{◌≡◌, ℕ, zero, suc, ◌-◌, ◌/◌, ◌<◌, ◌≤◌, Bool, false, ◌&&◌, List, [], ◌∷◌, length, take, get_or, Some, refl, sym, ap, ◌∙◌, subst, inl, inr, arith, slice_get, none-some, same_Some, slice_get_within, slice_get-get_or, get_or_from_slice_get, In, digit, IsAscending, In-get, place_in, in_or, Parameter, Pair, Aig, first_and, IsSource, IsNode, in_phase, node_value, FitsGraph, Blocks, member, blocks_constant, blocks_parameter, fan_ins, CanBeLeaf, param_count, IsParam}
 use Rattle.bit_fun.specs.BitFunction.{NodeBit, leaf, constant, parameter, node}
 use Rattle.bit_fun.proofs.ParamLemmas.{HaveParams, one_kind, param_below}
 

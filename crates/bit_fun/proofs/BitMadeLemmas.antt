@@ -1,7 +1,6 @@
 -- A pass over a LUT's order makes the LUT's bit for v; bits of a LUT and LUTs, one after the other.
-use Rattle.bit_fun.proofs.Common.{◌≡◌, ℕ, suc, ◌+◌, ◌-◌, ◌*◌, ◌/◌, ◌^◌, ◌<◌, ◌≤◌, List, [], ◌∷◌, ◌++◌, length, refl, sym, ap, ◌∙◌, subst, inl, inr, arith, append_assoc, append-nil, add-mul, mul-add, mul-one, one-mul, mul-le-mul_left, slice_get_within, In, Regular, Lit, Aig, first_and, node_count, AreNormal, with_pairs, Lut, IsTableWork, IsWork}
+use Rattle.bit_fun.proofs.Common.{◌≡◌, ℕ, suc, ◌+◌, ◌-◌, ◌*◌, ◌/◌, ◌^◌, ◌<◌, ◌≤◌, List, [], ◌∷◌, ◌++◌, length, refl, sym, ap, ◌∙◌, subst, inl, inr, arith, append_assoc, append-nil, add-mul, mul-add, mul-one, one-mul, mul-le-mul_left, slice_get_within, In, Regular, Lit, Aig, first_and, node_count, AreNormal, with_pairs, Lut, IsTableWork, IsWork, PassValue, lit_of, fan_in, pass_over, with_leaves, HaveSourceLits, HaveLeafLits, IsMadeOver, IsTableIn, IsConeOrder, IsBetween, IsBitMade, AreBitsMade, AreTablesMadeTo}
 use Rattle.bit_fun.specs.PackOf.{MakesNode, MakesTable, done, more, MakesTables, none, tables}
-use Rattle.bit_fun.specs.ConeFunctions.{PassValue, lit_of, fan_in, pass_over, with_leaves, HaveSourceLits, HaveLeafLits, IsMadeOver, IsTableIn, IsConeOrder, IsBetween, IsBitMade, AreBitsMade, AreTablesMadeTo}
 use Rattle.bit_fun.proofs.BitLemmas.{AreLeaves}
 use Rattle.bit_fun.proofs.ConeMakesLemmas.{IsPassed, IsVisited, visit_makes}
 use Rattle.bit_fun.proofs.ConeFunctionLemmas.{leaves_set, sources_stay}

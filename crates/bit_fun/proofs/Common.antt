@@ -1,4 +1,4 @@
--- Words and lemmas of the crates below that most proofs cite, passed on from one place.
+-- What the proofs of this crate cite of other crates, and its own definitions, passed on from one place.
 pub use Rattle.std.proofs.Common.{Bool, List, None, Option, Some, [], ap, append-nil, append_assoc, arith, cond, drop, eqb, false, get_or, get_or-set_other, get_or-set_same, inl, inr, leb, length, length-append, ltb, map, max, min, not, refl, replicate, reverse, slice_set, subst, suc, sym, take, true, zero, ℕ, ◌%◌, ◌&&◌, ◌*◌, ◌++◌, ◌+◌, ◌-◌, ◌/◌, ◌<◌, ◌^◌, ◌∙◌, ◌∷◌, ◌≡◌, ◌≤◌, ◌⊎◌}
 pub use Rattle.std.proofs.Math.ListN.{get_or-append, length-set}
 pub use Rattle.std.proofs.Math.Nat.{add-mul, mul-add, mul-le-mul_left, mul-one, one-mul}
@@ -43,3 +43,8 @@ pub use Rattle.lut_sim.specs.declared.shape.Shape.{Shape}
 pub use Rattle.param_list.specs.declared.params.Param.{Param}
 pub use Rattle.ppc_pack.specs.Pack.{IsConf, IsPack, PackValue}
 pub use Rattle.ppc_pack.specs.declared.pack.PackParam.{PackParam}
+pub use Rattle.bit_fun.specs.BitFunction.{NodeBit, IsBit, HasOneBit}
+pub use Rattle.bit_fun.specs.ConeFunctions.{PassValue, lit_of, fan_in, pass_over, with_leaves, HaveSourceLits, HaveLeafLits, IsMadeOver, IsTableIn, IsConeOrder, IsBetween, IsBitMade, AreBitsMade, AreTablesMadeTo, made_node, AreLits, cone_next, Visits, passed, walked, with_made, cone_edges, fan_in_edges, HaveSourceLitsTo}
+pub use Rattle.bit_fun.specs.Configuration.{IsConfiguration, IsMapped, HasOneConfiguration}
+pub use Rattle.bit_fun.specs.PackOf.{MakesTables, BitsMade, pack_param, IsPackOf, HasOnePack}
+pub use Rattle.bit_fun.specs.Parameters.{IsParam, param_count}

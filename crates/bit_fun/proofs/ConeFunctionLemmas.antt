@@ -1,6 +1,5 @@
 -- The steps of a pass: one node, the nodes of an order, and the leaves before them.
-use Rattle.bit_fun.proofs.Common.{◌≡◌, ℕ, zero, suc, ◌+◌, ◌*◌, ◌/◌, ◌<◌, ◌≤◌, Bool, true, false, eqb, min, max, List, [], ◌∷◌, length, take, get_or, slice_set, reverse, Option, Some, None, refl, sym, ap, ◌∙◌, subst, inl, inr, ◌⊎◌, arith, length-append, slice_get, position, length-set, In, bit_value, digit, IsAscending, choose_one, same_or, length-take, length-reverse, reverse-append, take_more, none-some, same_Some, Lit, Pair, Aig, first_and, node_count, pair_of, Answer, and_in_order, and_of, found_or_new, is_pair, with_pairs, and_grows, length-Extends}
-use Rattle.bit_fun.specs.ConeFunctions.{PassValue, lit_of, fan_in, made_node, pass_over, with_leaves, HaveSourceLits, HaveLeafLits, AreLits, IsMadeOver}
+use Rattle.bit_fun.proofs.Common.{◌≡◌, ℕ, zero, suc, ◌+◌, ◌*◌, ◌/◌, ◌<◌, ◌≤◌, Bool, true, false, eqb, min, max, List, [], ◌∷◌, length, take, get_or, slice_set, reverse, Option, Some, None, refl, sym, ap, ◌∙◌, subst, inl, inr, ◌⊎◌, arith, length-append, slice_get, position, length-set, In, bit_value, digit, IsAscending, choose_one, same_or, length-take, length-reverse, reverse-append, take_more, none-some, same_Some, Lit, Pair, Aig, first_and, node_count, pair_of, Answer, and_in_order, and_of, found_or_new, is_pair, with_pairs, and_grows, length-Extends, PassValue, lit_of, fan_in, made_node, pass_over, with_leaves, HaveSourceLits, HaveLeafLits, AreLits, IsMadeOver}
 use Rattle.bit_fun.proofs.BitLemmas.{AreLeaves, leaf_not_constant, leaf_not_parameter}
 use Rattle.bit_fun.proofs.ConeMakesLemmas.{lit_other, lit_here}
 

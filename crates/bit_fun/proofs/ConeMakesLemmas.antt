@@ -1,8 +1,6 @@
 -- Going over the postorder of a LUT's cone once, with one literal a node, makes what the recursion from the LUT's node makes.
-use Rattle.bit_fun.proofs.Common.{◌≡◌, ℕ, zero, suc, ◌-◌, ◌/◌, ◌<◌, ◌≤◌, true, min, max, List, ◌∷◌, length, slice_set, get_or-set_same, get_or-set_other, Option, refl, sym, ap, ◌∙◌, subst, inl, inr, arith, length-set, true≢false, slice_get_within, In, In-get, place_in, in_or, same_or, Parameter, Lit, Pair, Aig, first_and, node_count, IsNode, IsNormal, AreNormal, IsSource, Answer, product_of, node_normal, Extends, Extends-refl, Extends-trans, and_grows, is_stop, IsInner, stop_inner, inner_stop, node_inside, Blocks, member, blocks_constant, blocks_parameter, fan_ins, Posts, skips, posts}
-use Rattle.bit_fun.specs.Parameters.{IsParam}
+use Rattle.bit_fun.proofs.Common.{◌≡◌, ℕ, zero, suc, ◌-◌, ◌/◌, ◌<◌, ◌≤◌, true, min, max, List, ◌∷◌, length, slice_set, get_or-set_same, get_or-set_other, Option, refl, sym, ap, ◌∙◌, subst, inl, inr, arith, length-set, true≢false, slice_get_within, In, In-get, place_in, in_or, same_or, Parameter, Lit, Pair, Aig, first_and, node_count, IsNode, IsNormal, AreNormal, IsSource, Answer, product_of, node_normal, Extends, Extends-refl, Extends-trans, and_grows, is_stop, IsInner, stop_inner, inner_stop, node_inside, Blocks, member, blocks_constant, blocks_parameter, fan_ins, Posts, skips, posts, IsParam, cone_next, Visits, passed, walked, PassValue, lit_of, fan_in, with_made, made_node, pass_over, HaveSourceLits, HaveLeafLits}
 use Rattle.bit_fun.specs.PackOf.{phase_literal, MakesNode, leaf, constant, parameter, node}
-use Rattle.bit_fun.specs.ConeFunctions.{cone_next, Visits, passed, walked, PassValue, lit_of, fan_in, with_made, made_node, pass_over, HaveSourceLits, HaveLeafLits}
 use Rattle.bit_fun.proofs.BitLemmas.{AreLeaves}
 use Rattle.bit_fun.proofs.ConeWalkLemmas.{VisitsBoth, visits_both}
 use Rattle.bit_fun.proofs.MakesLemmas.{makes_once, node_grows, node_again}

@@ -1,7 +1,6 @@
 -- The order that a walk over a LUT's cone leaves.
-use Rattle.bit_fun.proofs.Common.{◌≡◌, ℕ, true, List, [], ◌∷◌, Option, Some, None, refl, sym, subst, inl, inr, ◌⊎◌, arith, none-some, In, Aig, first_and, AreNormal, is_stop, IsInner, inner_stop, ways_from, Reaches, IsReached, WalkValue, Visited, Posts, falls_through}
+use Rattle.bit_fun.proofs.Common.{◌≡◌, ℕ, true, List, [], ◌∷◌, Option, Some, None, refl, sym, subst, inl, inr, ◌⊎◌, arith, none-some, In, Aig, first_and, AreNormal, is_stop, IsInner, inner_stop, ways_from, Reaches, IsReached, WalkValue, Visited, Posts, falls_through, cone_edges, cone_next, passed, walked, IsConeOrder}
 use Rattle.depth_first.specs.declared.edge.End.{End}
-use Rattle.bit_fun.specs.ConeFunctions.{cone_edges, cone_next, passed, walked, IsConeOrder}
 use Rattle.bit_fun.proofs.ConeWalkLemmas.{cone_falls, reach_inner, order_short}
 
 -- of a node that ends the way down, nothing

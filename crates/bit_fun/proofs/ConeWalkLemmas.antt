@@ -1,10 +1,9 @@
 -- A walk over the cone of a LUT: its edges fall, its postorder visits the lower fan-in first, and what it reaches is the cone.
-use Rattle.bit_fun.proofs.Common.{◌≡◌, ℕ, ◌-◌, ◌/◌, ◌<◌, ◌≤◌, Bool, true, false, cond, ltb, List, [], ◌∷◌, length, Option, Some, refl, sym, ap, ◌∙◌, subst, inl, inr, arith, cases_lt, cond-true, cond-false, le-ltb, lt-ltb, slice_get_past, In, Pair, Aig, first_and, node_count, pair_of, IsNode, IsNormal, AreNormal, node_normal, node_at, is_stop, IsInner, Path, path_here, path_left, path_right, IsCone, stop_inner, Way, leads, stops, nodes_of, Posts, PostsAll, none, more, ways_of, ways_from, successors, AreNodes, Reaches, here, through, LeadsBelow}
+use Rattle.bit_fun.proofs.Common.{◌≡◌, ℕ, ◌-◌, ◌/◌, ◌<◌, ◌≤◌, Bool, true, false, cond, ltb, List, [], ◌∷◌, length, Option, Some, refl, sym, ap, ◌∙◌, subst, inl, inr, arith, cases_lt, cond-true, cond-false, le-ltb, lt-ltb, slice_get_past, In, Pair, Aig, first_and, node_count, pair_of, IsNode, IsNormal, AreNormal, node_normal, node_at, is_stop, IsInner, Path, path_here, path_left, path_right, IsCone, stop_inner, Way, leads, stops, nodes_of, Posts, PostsAll, none, more, ways_of, ways_from, successors, AreNodes, Reaches, here, through, LeadsBelow, fan_in_edges, cone_edges, cone_next, Visits, passed, walked}
 use Rattle.depth_first.specs.declared.edge.Edge.{Edge}
 use Rattle.depth_first.specs.declared.edge.Edge.TheVariants.{Node, Pass}
 use Rattle.depth_first.specs.Order.{IsAfter}
 use Rattle.list_laws.proofs.Apart.{AreApart, apart_short}
-use Rattle.bit_fun.specs.ConeFunctions.{fan_in_edges, cone_edges, cone_next, Visits, passed, walked}
 
 -- the edges of an AND node
 edges_of_node : (S : Type 0) (g : Aig) (leaves : List ℕ) (n : ℕ) (p : Pair) → IsNode g p n → cone_edges {S = S} g leaves n ≡ fan_in_edges {S = S} g leaves (Some p)

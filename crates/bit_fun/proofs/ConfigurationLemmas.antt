@@ -1,8 +1,5 @@
 -- Where LUTs map a graph, each address has one bit, and there is one configuration.
-use Rattle.bit_fun.proofs.Common.{◌≡◌, ℕ, zero, suc, ◌-◌, ◌/◌, ◌<◌, Bool, false, List, [], ◌∷◌, length, get_or, refl, sym, ap, ◌∙◌, subst, inl, inr, arith, ext_get_or, In, Regular, Aig, IsSource, in_phase, Blocks, member, constant, parameter, Lut, IsMapping, IsTableOf, source, free, node, bits_of}
-use Rattle.bit_fun.specs.Parameters.{param_count}
-use Rattle.bit_fun.specs.BitFunction.{NodeBit, IsBit, HasOneBit}
-use Rattle.bit_fun.specs.Configuration.{IsMapped, HasOneConfiguration}
+use Rattle.bit_fun.proofs.Common.{◌≡◌, ℕ, zero, suc, ◌-◌, ◌/◌, ◌<◌, Bool, false, List, [], ◌∷◌, length, get_or, refl, sym, ap, ◌∙◌, subst, inl, inr, arith, ext_get_or, In, Regular, Aig, IsSource, in_phase, Blocks, member, constant, parameter, Lut, IsMapping, IsTableOf, source, free, node, bits_of, param_count, NodeBit, IsBit, HasOneBit, IsMapped, HasOneConfiguration}
 use Rattle.bit_fun.proofs.AddressLemmas.{HasAddress, table_at, one_table}
 use Rattle.bit_fun.proofs.BitLemmas.{AreLeaves, one_bit, HasBit, has_bit}
 

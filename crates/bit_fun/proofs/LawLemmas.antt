@@ -1,11 +1,8 @@
 -- The values of a graph's literals fit the LUTs of a mapping under the configuration, and a mapping can be played.
-use Rattle.bit_fun.proofs.Common.{◌≡◌, ℕ, ◌+◌, ◌-◌, ◌*◌, ◌/◌, ◌%◌, ◌^◌, ◌<◌, ◌≤◌, Bool, true, false, eqb, leb, List, ◌++◌, length, get_or, refl, ap, ◌∙◌, subst, arith, get_or-append, length-map, get_or-map, get_or-append-add, leb-true, leb-false, In, number, choose, Aig, xor, node_value, value_of, FitsGraph, Lut, IsTableOf, bits_of, Shape, last_source, source_value, IsInputOrLatch, input, latch, either_side, base_within}
+use Rattle.bit_fun.proofs.Common.{◌≡◌, ℕ, ◌+◌, ◌-◌, ◌*◌, ◌/◌, ◌%◌, ◌^◌, ◌<◌, ◌≤◌, Bool, true, false, eqb, leb, List, ◌++◌, length, get_or, refl, ap, ◌∙◌, subst, arith, get_or-append, length-map, get_or-map, get_or-append-add, leb-true, leb-false, In, number, choose, Aig, xor, node_value, value_of, FitsGraph, Lut, IsTableOf, bits_of, Shape, last_source, source_value, IsInputOrLatch, input, latch, either_side, base_within, param_count, NodeBit, IsBit, IsMapped, IsConfiguration}
 use Rattle.list_laws.proofs.Digits.{number-small, digit-number}
 use Rattle.lut_sim.specs.Cycle.{leaf_values, address}
 use Rattle.lut_sim.proofs.RoomLemmas.{regular_within}
-use Rattle.bit_fun.specs.Parameters.{param_count}
-use Rattle.bit_fun.specs.BitFunction.{NodeBit, IsBit}
-use Rattle.bit_fun.specs.Configuration.{IsMapped, IsConfiguration}
 use Rattle.bit_fun.specs.Lawful.{IsLawful}
 use Rattle.bit_fun.proofs.BitLemmas.{AreDigits, fits_bit}
 use Rattle.bit_fun.proofs.ConfigurationLemmas.{table_blocks, bits_agree}

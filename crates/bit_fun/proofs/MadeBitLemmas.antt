@@ -1,7 +1,5 @@
 -- The literals that are made for the bits of LUTs have the bits' values.
-use Rattle.bit_fun.proofs.Common.{◌≡◌, ℕ, zero, suc, ◌+◌, ◌-◌, ◌*◌, ◌/◌, ◌^◌, ◌<◌, ◌≤◌, Bool, false, List, ◌∷◌, ◌++◌, length, get_or, refl, sym, ap, ◌∙◌, subst, inl, inr, arith, length-append, get_or-append, cases_lt, get_or-append-add, sum_by-cons, In, In-append, Lit, Pair, Aig, AreNormal, in_phase, value_of, Extends, Extends-refl, Extends-trans, length-Extends, value_of-more, Lut, HaveBases, bits_of}
-use Rattle.bit_fun.specs.Parameters.{param_count}
-use Rattle.bit_fun.specs.BitFunction.{NodeBit}
+use Rattle.bit_fun.proofs.Common.{◌≡◌, ℕ, zero, suc, ◌+◌, ◌-◌, ◌*◌, ◌/◌, ◌^◌, ◌<◌, ◌≤◌, Bool, false, List, ◌∷◌, ◌++◌, length, get_or, refl, sym, ap, ◌∙◌, subst, inl, inr, arith, length-append, get_or-append, cases_lt, get_or-append-add, sum_by-cons, In, In-append, Lit, Pair, Aig, AreNormal, in_phase, value_of, Extends, Extends-refl, Extends-trans, length-Extends, value_of-more, Lut, HaveBases, bits_of, param_count, NodeBit}
 use Rattle.bit_fun.specs.PackOf.{phase_literal, BitsMade, MakesTable, done, more, MakesTables, none, tables}
 use Rattle.bit_fun.proofs.MadeLemmas.{values_over, phase_value, phase_below, IsMade, is_made}
 

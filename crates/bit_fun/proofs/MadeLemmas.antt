@@ -1,7 +1,6 @@
 -- Under the parameters' values the literal that is made for a node has the value of the node's bit.
-use Rattle.bit_fun.proofs.Common.{◌≡◌, ℕ, ◌+◌, ◌-◌, ◌*◌, ◌/◌, ◌%◌, ◌<◌, ◌≤◌, Bool, true, false, ◌&&◌, cond, eqb, List, ◌∷◌, length, get_or, refl, sym, ap, ◌∙◌, subst, arith, length-append, slice_get-get_or, bit_value, digit, Pair, Aig, AreNormal, Answer, complement, xor, in_phase, value_of, behind_constant, Extends, Extends-refl, Extends-trans, length-Extends, AreBase, AreBase-sources, Makes, Makes-and, complement-below, value_of-complement, value_of-more}
+use Rattle.bit_fun.proofs.Common.{◌≡◌, ℕ, ◌+◌, ◌-◌, ◌*◌, ◌/◌, ◌%◌, ◌<◌, ◌≤◌, Bool, true, false, ◌&&◌, cond, eqb, List, ◌∷◌, length, get_or, refl, sym, ap, ◌∙◌, subst, arith, length-append, slice_get-get_or, bit_value, digit, Pair, Aig, AreNormal, Answer, complement, xor, in_phase, value_of, behind_constant, Extends, Extends-refl, Extends-trans, length-Extends, AreBase, AreBase-sources, Makes, Makes-and, complement-below, value_of-complement, value_of-more, param_count}
 use Rattle.aig_core.proofs.ValueLemmas.{values_from, values_old}
-use Rattle.bit_fun.specs.Parameters.{param_count}
 use Rattle.bit_fun.specs.BitFunction.{NodeBit, leaf as leaf_bit, constant as constant_bit, parameter as parameter_bit, node as node_bit}
 use Rattle.bit_fun.specs.PackOf.{phase_literal, MakesNode, leaf, constant, parameter, node}
 use Rattle.bit_fun.proofs.LawLemmas.{positive_value, xor-false}

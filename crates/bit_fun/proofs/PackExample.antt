@@ -1,6 +1,5 @@
 -- Worked examples: the multiplexer's LUT over its two inputs, whose bits are the functions 0, p, not p and 1 of the parameter, and a LUT without leaves, the product of two parameters.
-use Rattle.bit_fun.proofs.Common.{ℕ, ◌<◌, List, [], ◌∷◌, refl, inl, inr, arith, In, bit_value, digit, Aig, Answer, product_of, Parameter, Pair, multiplexer, pair, Lut}
-use Rattle.bit_fun.specs.Parameters.{IsParam}
+use Rattle.bit_fun.proofs.Common.{ℕ, ◌<◌, List, [], ◌∷◌, refl, inl, inr, arith, In, bit_value, digit, Aig, Answer, product_of, Parameter, Pair, multiplexer, pair, Lut, IsParam}
 use Rattle.bit_fun.specs.PackOf.{phase_literal, MakesNode, leaf, parameter, node, BitsMade, MakesTable, done, more, MakesTables, none, tables}
 use Rattle.bit_fun.proofs.BitExample.{root_table}
 

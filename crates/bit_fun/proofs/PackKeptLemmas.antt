@@ -1,12 +1,8 @@
 -- The pack of a template keeps what every pack keeps.
-use Rattle.bit_fun.proofs.Common.{◌≡◌, ℕ, ◌+◌, ◌-◌, ◌*◌, ◌/◌, ◌^◌, ◌<◌, ◌≤◌, false, List, [], ◌∷◌, length, map, replicate, refl, sym, ap, ◌∙◌, subst, inl, inr, arith, mul-le-mul_left, mul-one, length-map, length-replicate, sum_by-cons, slice_get_within, In, Regular, Parameter, Lit, Aig, first_and, node_count, Lut, IsTableOf, source, free, node, bits_of, IsTableWork, IsWork, IsLight, bits_worked, Param, PackParam, IsPack}
+use Rattle.bit_fun.proofs.Common.{◌≡◌, ℕ, ◌+◌, ◌-◌, ◌*◌, ◌/◌, ◌^◌, ◌<◌, ◌≤◌, false, List, [], ◌∷◌, length, map, replicate, refl, sym, ap, ◌∙◌, subst, inl, inr, arith, mul-le-mul_left, mul-one, length-map, length-replicate, sum_by-cons, slice_get_within, In, Regular, Parameter, Lit, Aig, first_and, node_count, Lut, IsTableOf, source, free, node, bits_of, IsTableWork, IsWork, IsLight, bits_worked, Param, PackParam, IsPack, param_count, IsMapped, pack_param, MakesTables, IsPackOf, lit_of, HaveSourceLits, IsTableIn, IsBetween, AreTablesMadeTo}
 use Rattle.tl_text.specs.Clean.{IsClean}
 use Rattle.tl_text.specs.Once.{AreOnce}
 use Rattle.param_list.specs.Parameters.{AreNamed, param_names}
-use Rattle.bit_fun.specs.Parameters.{param_count}
-use Rattle.bit_fun.specs.Configuration.{IsMapped}
-use Rattle.bit_fun.specs.PackOf.{pack_param, MakesTables, IsPackOf}
-use Rattle.bit_fun.specs.ConeFunctions.{lit_of, HaveSourceLits, IsTableIn, IsBetween, AreTablesMadeTo}
 use Rattle.bit_fun.proofs.BitLemmas.{AreLeaves}
 use Rattle.bit_fun.proofs.BitMadeLemmas.{tables_done}
 use Rattle.bit_fun.proofs.ConfigurationLemmas.{table_leaves, table_blocks}

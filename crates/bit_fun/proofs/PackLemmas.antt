@@ -1,10 +1,6 @@
 -- The configurations of a template's pack are those of the template, there is one pack, and the pack keeps what every pack keeps.
-use Rattle.bit_fun.proofs.Common.{◌≡◌, ℕ, ◌+◌, ◌<◌, Bool, false, List, [], length, map, get_or, sym, ap, ◌∙◌, subst, arith, length-map, length-replicate, get_or-map, none-some, Parameter, Lit, Pair, Aig, first_and, AreNormal, value_of, is_values_of, Extends-refl, Lut, bits_of, Param, PackValue, IsConf}
+use Rattle.bit_fun.proofs.Common.{◌≡◌, ℕ, ◌+◌, ◌<◌, Bool, false, List, [], length, map, get_or, sym, ap, ◌∙◌, subst, arith, length-map, length-replicate, get_or-map, none-some, Parameter, Lit, Pair, Aig, first_and, AreNormal, value_of, is_values_of, Extends-refl, Lut, bits_of, Param, PackValue, IsConf, param_count, IsBit, IsMapped, IsConfiguration, pack_param, BitsMade, MakesTables, IsPackOf, HasOnePack}
 use Rattle.aig_core.specs.Roots.{lits_of}
-use Rattle.bit_fun.specs.Parameters.{param_count}
-use Rattle.bit_fun.specs.BitFunction.{IsBit}
-use Rattle.bit_fun.specs.Configuration.{IsMapped, IsConfiguration}
-use Rattle.bit_fun.specs.PackOf.{pack_param, BitsMade, MakesTables, IsPackOf, HasOnePack}
 use Rattle.bit_fun.specs.PackLaw.{HasConfigurations}
 use Rattle.bit_fun.proofs.ConfigurationLemmas.{table_leaves}
 use Rattle.bit_fun.proofs.LawLemmas.{configuration_lawful}

@@ -1,6 +1,5 @@
 -- The place of each parameter: among values for all sources, and in a shape.
-use Rattle.bit_fun.proofs.Common.{◌≡◌, ℕ, zero, suc, ◌+◌, ◌-◌, ◌<◌, ◌≤◌, Bool, true, false, ◌&&◌, leb, ltb, List, [], ◌∷◌, ◌++◌, length, take, get_or, Some, refl, sym, ap, ◌∙◌, subst, inl, inr, arith, slice_get, cases_lt, le-leb, lt-ltb, and_from, or_right, or_left, get_or-append-add, none-some, same_Some, slice_get_within, get_or-append, Kind, Regular, Parameter, Aig, IsSource, at_within, Shape, is_regular, last_source, IsInputOrLatch, input, latch, either_side}
-use Rattle.bit_fun.specs.Parameters.{param_count, IsParam}
+use Rattle.bit_fun.proofs.Common.{◌≡◌, ℕ, zero, suc, ◌+◌, ◌-◌, ◌<◌, ◌≤◌, Bool, true, false, ◌&&◌, leb, ltb, List, [], ◌∷◌, ◌++◌, length, take, get_or, Some, refl, sym, ap, ◌∙◌, subst, inl, inr, arith, slice_get, cases_lt, le-leb, lt-ltb, and_from, or_right, or_left, get_or-append-add, none-some, same_Some, slice_get_within, get_or-append, Kind, Regular, Parameter, Aig, IsSource, at_within, Shape, is_regular, last_source, IsInputOrLatch, input, latch, either_side, param_count, IsParam}
 use Rattle.lut_sim.specs.GraphShape.{HasShape, AreSourceValues}
 
 -- each parameter has its value among those of all sources

@@ -1,7 +1,5 @@
 -- The literals of the sources, one source after the other.
-use Rattle.bit_fun.proofs.Common.{◌≡◌, ℕ, zero, suc, ◌+◌, ◌-◌, ◌*◌, ◌<◌, ◌≤◌, List, [], ◌∷◌, length, take, slice_set, replicate, Some, refl, sym, ap, ◌∙◌, subst, inl, inr, arith, slice_get, length-set, cases_lt, length-replicate, none-some, slice_get_within, same_or, Kind, Regular, Parameter, Lit, Aig, node_count}
-use Rattle.bit_fun.specs.Parameters.{param_count}
-use Rattle.bit_fun.specs.ConeFunctions.{lit_of, HaveSourceLits, HaveSourceLitsTo}
+use Rattle.bit_fun.proofs.Common.{◌≡◌, ℕ, zero, suc, ◌+◌, ◌-◌, ◌*◌, ◌<◌, ◌≤◌, List, [], ◌∷◌, length, take, slice_set, replicate, Some, refl, sym, ap, ◌∙◌, subst, inl, inr, arith, slice_get, length-set, cases_lt, length-replicate, none-some, slice_get_within, same_or, Kind, Regular, Parameter, Lit, Aig, node_count, param_count, lit_of, HaveSourceLits, HaveSourceLitsTo}
 use Rattle.bit_fun.proofs.ConeMakesLemmas.{lit_other, lit_here}
 use Rattle.bit_fun.proofs.ParamLemmas.{regular_no_parameter, place_below}
 

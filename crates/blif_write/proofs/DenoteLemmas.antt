@@ -1,7 +1,6 @@
 -- The text of a netlist without hierarchy denotes its one model.
-use Rattle.blif_write.proofs.Common.{◌≡◌, ℕ, suc, ◌+◌, ◌-◌, Bool, true, false, cond, List, [], ◌∷◌, ◌++◌, length, map, codes, bytes_eq, Option, Some, None, refl, sym, ap, subst, ◌∙◌, inl, inr, arith, append_assoc, append-nil, list_any, flat_map, map-append, length-map, bytes_eq-Decides, In, In-append, from_map, IsClean, AreOnce, Cell, Zero, One, Any, LatchValue, Command, RowValue, CoverValue, Ports, input_ports, output_ports, clock_ports, ports_of, cell_character, output_token, IsRow, alone, behind, AreRows, names_in, IsCoverLine, AreCommands, IsModel, AreLibrary, Denotes, IsCleanBody, is_special, one_clean, word_clean}
+use Rattle.blif_write.proofs.Common.{◌≡◌, ℕ, suc, ◌+◌, ◌-◌, Bool, true, false, cond, List, [], ◌∷◌, ◌++◌, length, map, codes, bytes_eq, Option, Some, None, refl, sym, ap, subst, ◌∙◌, inl, inr, arith, append_assoc, append-nil, list_any, flat_map, map-append, length-map, bytes_eq-Decides, In, In-append, from_map, IsClean, AreOnce, Cell, Zero, One, Any, LatchValue, Command, RowValue, CoverValue, Ports, input_ports, output_ports, clock_ports, ports_of, cell_character, output_token, IsRow, alone, behind, AreRows, names_in, IsCoverLine, AreCommands, IsModel, AreLibrary, Denotes, IsCleanBody, is_special, one_clean, word_clean, Cover, Latch}
 use Rattle.tl_text.specs.LineValue.{LineValue, words_line}
-use Rattle.netlist.specs.declared.command.Body.TheVariants.{Cover, Latch}
 use Rattle.blif_read.specs.Statement.{StatementValue, statement_at, statement_of, statements}
 use Rattle.blif_read.specs.Rows.{none, more}
 use Rattle.blif_read.specs.Latches.{Starts, one, zero_, Controls, nil, net, IsLatch, with_init, whole}

@@ -1,7 +1,5 @@
 -- The names of a written netlist's parts: of which kind they are, and that each occurs once.
-use Rattle.blif_write.proofs.Common.{◌≡◌, ℕ, suc, ◌+◌, ◌^◌, ◌<◌, ◌≤◌, Bool, true, false, cond, List, [], ◌∷◌, ◌++◌, length, map, slice_get, bytes_eq, Option, Some, refl, sym, inl, inr, arith, decimal, bytes_eq-Decides, In, In-append, from_map, IsClean, AreOnce, LatchValue, CoverValue, OutPort, FlatLatch, Lit, Lut, AscendByLit, is_special, ordinary_clean, marked_ordinary, decimal_ordinary}
-use Rattle.blif_write.specs.OwnNames.{Naming, own_name, table_name, latch_name, literal_name}
-use Rattle.blif_write.specs.Netlists.{wire_of, wire, wires, written_latches}
+use Rattle.blif_write.proofs.Common.{◌≡◌, ℕ, suc, ◌+◌, ◌^◌, ◌<◌, ◌≤◌, Bool, true, false, cond, List, [], ◌∷◌, ◌++◌, length, map, slice_get, bytes_eq, Option, Some, refl, sym, inl, inr, arith, decimal, bytes_eq-Decides, In, In-append, from_map, IsClean, AreOnce, LatchValue, CoverValue, OutPort, FlatLatch, Lit, Lut, AscendByLit, is_special, ordinary_clean, marked_ordinary, decimal_ordinary, Naming, own_name, table_name, latch_name, literal_name, wire_of, wire, wires, written_latches}
 use Rattle.blif_write.proofs.OwnNameLemmas.{own_number}
 
 -- own names are clean

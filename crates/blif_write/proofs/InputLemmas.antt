@@ -1,10 +1,6 @@
 -- The inputs of a written netlist, read again: the regular ones, a control `NIL`, and the configuration bits.
-use Rattle.blif_write.proofs.Common.{◌≡◌, ℕ, suc, ◌+◌, ◌<◌, ◌^◌, Bool, true, false, not, if◌then◌else◌, List, [], ◌∷◌, ◌++◌, length, map, filter, codes, bytes_eq, Option, Some, None, slice_get, refl, sym, ap, ap₂, ◌∙◌, inl, inr, arith, append_assoc, flat_map, range_with_len, map-append, sum_by-cons, none-some, same_Some, In, place_in, In-left, In-right, ranges_join, LatchValue, FlatLatch, CoverValue, ModelValue, FlatValue, TellsClocks, IsFlat, main_input, controls, Param, Lit, Lut, HaveBases, bits_of, TemplateValue}
+use Rattle.blif_write.proofs.Common.{◌≡◌, ℕ, suc, ◌+◌, ◌<◌, ◌^◌, Bool, true, false, not, if◌then◌else◌, List, [], ◌∷◌, ◌++◌, length, map, filter, codes, bytes_eq, Option, Some, None, slice_get, refl, sym, ap, ap₂, ◌∙◌, inl, inr, arith, append_assoc, flat_map, range_with_len, map-append, sum_by-cons, none-some, same_Some, In, place_in, In-left, In-right, ranges_join, LatchValue, FlatLatch, CoverValue, ModelValue, FlatValue, TellsClocks, IsFlat, main_input, controls, Param, Lit, Lut, HaveBases, bits_of, TemplateValue, PlainNetlist, all_inputs, read_control, read_latch, library_of, Naming, naming_of, bit_name, bit_names, clock_of, written_latch, written_latches, control_names, with_tables, HasPorts, free_control}
 use Rattle.std.proofs.lemmas.List.Elements.{filter-append}
-use Rattle.blif_write.specs.PlainNetlist.{PlainNetlist, all_inputs, read_control, read_latch, library_of}
-use Rattle.blif_write.specs.OwnNames.{Naming, naming_of, bit_name}
-use Rattle.blif_write.specs.Netlists.{bit_names, clock_of, written_latch, written_latches, control_names, with_tables}
-use Rattle.blif_write.specs.Meaning.{HasPorts, free_control}
 use Rattle.blif_write.proofs.OwnNameLemmas.{no_port_name}
 use Rattle.blif_write.proofs.PlainLemmas.{only_top, latch_at_top}
 use Rattle.blif_write.proofs.PlainCycleLemmas.{IsControlName, main_there, clock_there}

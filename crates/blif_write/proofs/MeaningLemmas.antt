@@ -1,10 +1,5 @@
 -- What the two written netlists mean.
-use Rattle.blif_write.proofs.Common.{◌≡◌, ℕ, zero, suc, ◌+◌, ◌-◌, ◌^◌, ◌<◌, ◌≤◌, Bool, false, List, [], ◌∷◌, ◌++◌, length, map, filter, replicate, slice_index_or, Option, refl, sym, ap, ◌∙◌, inl, inr, arith, length-append, flat_map, range_with_len, length-map, length-replicate, length-map-range_with_len, sum_by-cons, In, digit, In-append, In-map, from_map, AreOnce, One, Any, LatchValue, RowValue, CoverValue, HasOneCycle, address, Denotes, IsWellFormedBody, FlatLatch, FlatValue, Param, Lit, Lut, HaveBases, bits_of, TemplateValue, of_range, in_range, joined_apart}
-use Rattle.netlist.specs.declared.command.Body.TheVariants.{Cover}
-use Rattle.blif_write.specs.PlainNetlist.{PlainNetlist, netlist_text, library_of}
-use Rattle.blif_write.specs.OwnNames.{Naming, naming_of, bit_name, table_name, literal_name}
-use Rattle.blif_write.specs.Netlists.{digit_cell, digit_cells, leaf_names, bit_names, chosen_cells, fixed_table, tunable_table, written_latches, with_tables, specialised_netlist, template_netlist}
-use Rattle.blif_write.specs.Meaning.{HasPorts, AreTablesOf, Means, free_control, all_bit_names, input_bits}
+use Rattle.blif_write.proofs.Common.{◌≡◌, ℕ, zero, suc, ◌+◌, ◌-◌, ◌^◌, ◌<◌, ◌≤◌, Bool, false, List, [], ◌∷◌, ◌++◌, length, map, filter, replicate, slice_index_or, Option, refl, sym, ap, ◌∙◌, inl, inr, arith, length-append, flat_map, range_with_len, length-map, length-replicate, length-map-range_with_len, sum_by-cons, In, digit, In-append, In-map, from_map, AreOnce, One, Any, LatchValue, RowValue, CoverValue, HasOneCycle, address, Denotes, IsWellFormedBody, FlatLatch, FlatValue, Param, Lit, Lut, HaveBases, bits_of, TemplateValue, of_range, in_range, joined_apart, Cover, PlainNetlist, netlist_text, library_of, Naming, naming_of, bit_name, table_name, literal_name, digit_cell, digit_cells, leaf_names, bit_names, chosen_cells, fixed_table, tunable_table, written_latches, with_tables, specialised_netlist, template_netlist, HasPorts, AreTablesOf, Means, free_control, all_bit_names, input_bits}
 use Rattle.blif_write.proofs.DenoteLemmas.{denotes_plain}
 use Rattle.blif_write.proofs.InputLemmas.{bits_in_order, inputs_again}
 use Rattle.netlist.proofs.LawLemmas.{sound_law}

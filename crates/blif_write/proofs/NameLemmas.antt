@@ -1,9 +1,6 @@
 -- The names: own names are no output's, the places of the regular inputs, and the bytes of names after blanks.
-use Rattle.blif_write.proofs.Common.{◌≡◌, ℕ, zero, suc, ◌+◌, ◌-◌, ◌/◌, ◌<◌, ◌≤◌, leb, Bool, true, false, cond, ◌&&◌, List, [], ◌∷◌, ◌++◌, length, map, replicate, get_or, Some, bytes_eq, decimal, refl, sym, ap, subst, ◌∙◌, inl, inr, arith, flat_map, slice_get, length-map, get_or-map, get_or_read, flat_map-map, cases_Bool, In, underscores, Shape, is_plain}
+use Rattle.blif_write.proofs.Common.{◌≡◌, ℕ, zero, suc, ◌+◌, ◌-◌, ◌/◌, ◌<◌, ◌≤◌, leb, Bool, true, false, cond, ◌&&◌, List, [], ◌∷◌, ◌++◌, length, map, replicate, get_or, Some, bytes_eq, decimal, refl, sym, ap, subst, ◌∙◌, inl, inr, arith, flat_map, slice_get, length-map, get_or-map, get_or_read, flat_map-map, cases_Bool, In, underscores, Shape, is_plain, many_underscores, Naming, own_name, latch_name, table_name, literal_name, words_text}
 use lib.Pointwise.{bytes_decides}
-use Rattle.netlist.proofs.UnderscoreLemmas.{many_underscores}
-use Rattle.blif_write.specs.OwnNames.{Naming, own_name, latch_name, table_name, literal_name}
-use Rattle.blif_write.specs.PlainNetlist.{words_text}
 
 -- words, each behind a blank
 pub words_of : {X : Type 0} (f : X → List ℕ) (xs : List X) → flat_map (λ (x : X). 32 ∷ f x) xs ≡ words_text (map f xs)

@@ -1,8 +1,5 @@
 -- The bytes of a netlist, as they are added.
-use Rattle.blif_write.proofs.Common.{◌≡◌, ℕ, List, [], ◌∷◌, ◌++◌, map, codes, Bool, refl, sym, ap, ◌∙◌, append_assoc, flat_map, flat_map-append, CoverValue, OutPort, FlatValue, Param, TemplateValue}
-use Rattle.blif_write.specs.OwnNames.{Naming, naming_of}
-use Rattle.blif_write.specs.Netlists.{control_names, bit_names, fixed_table, tunable_table, wires, written_latches, specialised_netlist, template_netlist}
-use Rattle.blif_write.specs.PlainNetlist.{PlainNetlist, line_text, latch_line, cover_lines, netlist_text}
+use Rattle.blif_write.proofs.Common.{◌≡◌, ℕ, List, [], ◌∷◌, ◌++◌, map, codes, Bool, refl, sym, ap, ◌∙◌, append_assoc, flat_map, flat_map-append, CoverValue, OutPort, FlatValue, Param, TemplateValue, Naming, naming_of, control_names, bit_names, fixed_table, tunable_table, wires, written_latches, specialised_netlist, template_netlist, PlainNetlist, line_text, latch_line, cover_lines, netlist_text}
 
 -- the lines of some inputs, latches and covers
 abbrev pub inputs_text : List (List (List ℕ)) → List ℕ

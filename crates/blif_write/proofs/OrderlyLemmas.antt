@@ -1,10 +1,5 @@
 -- A written netlist is orderly: each name that it reads has one driver, and its LUTs are in order.
-use Rattle.blif_write.proofs.Common.{◌≡◌, ◌⊎◌, ℕ, suc, ◌+◌, ◌-◌, ◌*◌, ◌/◌, ◌%◌, ◌^◌, ◌<◌, ◌≤◌, Bool, true, false, cond, eqb, nat_le, IsTrue, List, [], ◌∷◌, ◌++◌, length, map, get_or, slice_get, bytes_eq, Some, refl, sym, ap, subst, ◌∙◌, inl, inr, arith, flat_map, map-append, leb-true, le-leb, and_parts, same_Some, bytes_eq-Decides, In, In-append, In-left, In-right, In-get, In-get_or, In-map, from_map, IsClean, AreOnce, LatchValue, CoverValue, IsWellFormedBody, OutPort, FlatValue, underscores, Param, Lit, Lut, HasLut, TemplateValue, is_regular, is_plain, false_from_ne_true, joined_apart}
-use Rattle.netlist.specs.declared.command.Body.TheVariants.{Cover, Latch}
-use Rattle.blif_write.specs.PlainNetlist.{PlainNetlist, IsPlain, all_inputs, read_latch}
-use Rattle.blif_write.specs.OwnNames.{Naming, naming_of, own_name, table_name, latch_name, bit_name, source_name, literal_name}
-use Rattle.blif_write.specs.Netlists.{leaf_names, wire_of, wires, written_latches, control_names, with_tables}
-use Rattle.blif_write.specs.Meaning.{HasPorts, AreTablesOf}
+use Rattle.blif_write.proofs.Common.{◌≡◌, ◌⊎◌, ℕ, suc, ◌+◌, ◌-◌, ◌*◌, ◌/◌, ◌%◌, ◌^◌, ◌<◌, ◌≤◌, Bool, true, false, cond, eqb, nat_le, IsTrue, List, [], ◌∷◌, ◌++◌, length, map, get_or, slice_get, bytes_eq, Some, refl, sym, ap, subst, ◌∙◌, inl, inr, arith, flat_map, map-append, leb-true, le-leb, and_parts, same_Some, bytes_eq-Decides, In, In-append, In-left, In-right, In-get, In-get_or, In-map, from_map, IsClean, AreOnce, LatchValue, CoverValue, IsWellFormedBody, OutPort, FlatValue, underscores, Param, Lit, Lut, HasLut, TemplateValue, is_regular, is_plain, false_from_ne_true, joined_apart, Cover, Latch, PlainNetlist, IsPlain, all_inputs, read_latch, Naming, naming_of, own_name, table_name, latch_name, bit_name, source_name, literal_name, leaf_names, wire_of, wires, written_latches, control_names, with_tables, HasPorts, AreTablesOf}
 use Rattle.blif_write.proofs.PlainCycleLemmas.{IsControlName}
 use Rattle.blif_write.proofs.PlainSoundLemmas.{body_output, command_outputs, IsOrderly}
 use Rattle.blif_write.proofs.OwnNameLemmas.{own_under, no_port_name, own_letter, own_number, plain_even, table_literal}

@@ -1,7 +1,6 @@
 -- Own names: they are clean, they are no port's names, and different numbers have different names.
-use Rattle.blif_write.proofs.Common.{◌≡◌, ℕ, zero, suc, ◌+◌, ◌*◌, ◌/◌, ◌%◌, ◌^◌, ◌<◌, ◌≤◌, Bool, false, cond, eqb, ◌&&◌, IsTrue, List, ◌∷◌, ◌++◌, drop, replicate, get_or, sym, ap, ◌∙◌, arith, decimal, append_cancel_left, underscores, Shape, is_regular, is_plain}
+use Rattle.blif_write.proofs.Common.{◌≡◌, ℕ, zero, suc, ◌+◌, ◌*◌, ◌/◌, ◌%◌, ◌^◌, ◌<◌, ◌≤◌, Bool, false, cond, eqb, ◌&&◌, IsTrue, List, ◌∷◌, ◌++◌, drop, replicate, get_or, sym, ap, ◌∙◌, arith, decimal, append_cancel_left, underscores, Shape, is_regular, is_plain, Naming, own_name, source_name, table_name, literal_name}
 use Rattle.std.proofs.lemmas.Fmt.{decimal_injective}
-use Rattle.blif_write.specs.OwnNames.{Naming, own_name, source_name, table_name, literal_name}
 
 -- how many underscores they begin with
 under_letter : (count letter : ℕ) (rest : List ℕ) → eqb letter 95 ≡ false → underscores (replicate count 95 ++ letter ∷ rest) ≡ count

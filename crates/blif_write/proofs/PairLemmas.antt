@@ -1,8 +1,5 @@
 -- The wires and the latches of two lists, front by front.
-use Rattle.blif_write.proofs.Common.{◌≡◌, ℕ, suc, ◌+◌, ◌<◌, ◌≤◌, List, [], ◌∷◌, ◌++◌, length, map, take, get_or, Option, refl, sym, ap, ◌∙◌, arith, append_assoc, append-nil, length-take, flat_map, take_more, take_all, map-append, flat_map-append, OutPort, FlatLatch, CoverValue, LatchValue, Lit}
-use Rattle.blif_write.specs.OwnNames.{Naming, literal_name}
-use Rattle.blif_write.specs.PlainNetlist.{line_text, cover_lines, latch_line}
-use Rattle.blif_write.specs.Netlists.{wire, wires, written_latch, written_latches}
+use Rattle.blif_write.proofs.Common.{◌≡◌, ℕ, suc, ◌+◌, ◌<◌, ◌≤◌, List, [], ◌∷◌, ◌++◌, length, map, take, get_or, Option, refl, sym, ap, ◌∙◌, arith, append_assoc, append-nil, length-take, flat_map, take_more, take_all, map-append, flat_map-append, OutPort, FlatLatch, CoverValue, LatchValue, Lit, Naming, literal_name, line_text, cover_lines, latch_line, wire, wires, written_latch, written_latches}
 
 -- wires
 wires_split : (g : Naming) (os more : List OutPort) (lits others : List Lit) → length lits ≡ length os → wires g (os ++ more) (lits ++ others) ≡ wires g os lits ++ wires g more others

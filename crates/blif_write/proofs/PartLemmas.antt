@@ -1,9 +1,5 @@
 -- The parts of a written netlist: what its commands are named, and the ranks of the names.
-use Rattle.blif_write.proofs.Common.{◌≡◌, ◌⊎◌, ℕ, suc, ◌^◌, ◌<◌, Bool, true, false, not, cond, nat_le, List, [], ◌∷◌, length, map, bytes_eq, Option, Some, None, refl, sym, ap, subst, ◌∙◌, inl, inr, flat_map, none-some, same_Some, bytes_eq-Decides, In, In-left, In-right, from_map, AreOnce, LatchValue, RowValue, CoverValue, IsWellFormedBody, FlatValue, underscores, Param, regular_names, param_names, has_name, Lut, map-append, IsClean, Lit, lits_of, OutPort, filtered_apart}
-use Rattle.netlist.specs.declared.command.Body.TheVariants.{Cover, Latch}
-use Rattle.blif_write.specs.PlainNetlist.{read_latch}
-use Rattle.blif_write.specs.OwnNames.{Naming, table_name, literal_name, bit_name}
-use Rattle.blif_write.specs.Netlists.{wire_of, control_names, wire, wires, leaf_names}
+use Rattle.blif_write.proofs.Common.{◌≡◌, ◌⊎◌, ℕ, suc, ◌^◌, ◌<◌, Bool, true, false, not, cond, nat_le, List, [], ◌∷◌, length, map, bytes_eq, Option, Some, None, refl, sym, ap, subst, ◌∙◌, inl, inr, flat_map, none-some, same_Some, bytes_eq-Decides, In, In-left, In-right, from_map, AreOnce, LatchValue, RowValue, CoverValue, IsWellFormedBody, FlatValue, underscores, Param, regular_names, param_names, has_name, Lut, map-append, IsClean, Lit, lits_of, OutPort, filtered_apart, Cover, Latch, read_latch, Naming, table_name, literal_name, bit_name, wire_of, control_names, wire, wires, leaf_names}
 use Rattle.blif_write.proofs.PlainSoundLemmas.{body_output}
 use Rattle.blif_write.proofs.OwnNameLemmas.{own_number}
 use Rattle.blif_write.proofs.DrivenLemmas.{table_names}

@@ -1,10 +1,8 @@
 -- A clock cycle of a netlist without hierarchy, over the names of its one instance.
-use Rattle.blif_write.proofs.Common.{◌≡◌, ℕ, zero, suc, ◌+◌, ◌<◌, Bool, true, false, cond, ◌||◌, IsTrue, List, [], ◌∷◌, ◌++◌, length, map, slice_get, slice_index_or, Option, Some, refl, sym, ap, subst, ◌∙◌, arith, append-nil, option_and_then, eq-eqb, ne_eqb, slice_get_within, In, In-get, in_has, Command, LatchValue, CoverValue, cover_value, SubcktValue, ModelValue, LibraryValue, Path, body_at, subckts_of, has_name, is_input, CoverAt, LatchAt, IsMainInput, input_net, Drives, main_input, latch_output, cover_output, from_inside, from_outside, IsClock, listed, controls, Place, latch_at, latch_in, is_latch, own_places, FlatOrder, FlatUnder, flat, HasOneCycle}
-use Rattle.netlist.specs.Places.{none, more}
+use Rattle.blif_write.proofs.Common.{◌≡◌, ℕ, zero, suc, ◌+◌, ◌<◌, Bool, true, false, cond, ◌||◌, IsTrue, List, [], ◌∷◌, ◌++◌, length, map, slice_get, slice_index_or, Option, Some, refl, sym, ap, subst, ◌∙◌, arith, append-nil, option_and_then, eq-eqb, ne_eqb, slice_get_within, In, In-get, in_has, Command, LatchValue, CoverValue, cover_value, SubcktValue, ModelValue, LibraryValue, Path, body_at, subckts_of, has_name, is_input, CoverAt, LatchAt, IsMainInput, input_net, Drives, main_input, latch_output, cover_output, from_inside, from_outside, IsClock, listed, controls, Place, latch_at, latch_in, is_latch, own_places, FlatOrder, FlatUnder, flat, HasOneCycle, none, more, PlainNetlist, all_inputs, read_control, read_latch, latch_commands, cover_commands, model_of, library_of}
 use Rattle.netlist.specs.Cycle.{Fits}
 use Rattle.netlist.specs.Runs.{AreLatches, init_state, inits_of, state_of, next_state, next_states, IsCycle, HasACycle, HasARun}
 use Rattle.netlist.proofs.RunLemmas.{cycle_there, run_there}
-use Rattle.blif_write.specs.PlainNetlist.{PlainNetlist, all_inputs, read_control, read_latch, latch_commands, cover_commands, model_of, library_of}
 use Rattle.blif_write.proofs.PlainLemmas.{no_subckts, only_top, latch_there, cover_at_top, latch_at_top, no_connection}
 
 -- a name is the control of a latch

@@ -1,8 +1,6 @@
 -- A netlist without hierarchy as a library: its one instance, with its latches and covers.
-use Rattle.blif_write.proofs.Common.{◌≡◌, ◌⊎◌, ℕ, zero, suc, ◌+◌, List, [], ◌∷◌, ◌++◌, length, map, slice_get, Option, Some, None, refl, sym, ap, ◌∙◌, inl, inr, option_map, option_and_then, none-some, same_Some, slice_get-map, In, In-get, In-map, place_in, get_left, get_right, Body, Command, LatchValue, CoverValue, SubcktValue, ModelValue, Path, body_at, subckts_of, model_named, placed, model_at, CoverAt, LatchAt, ConnectionAt}
-use Rattle.netlist.specs.declared.command.Body.TheVariants.{Cover, Latch}
+use Rattle.blif_write.proofs.Common.{◌≡◌, ◌⊎◌, ℕ, zero, suc, ◌+◌, List, [], ◌∷◌, ◌++◌, length, map, slice_get, Option, Some, None, refl, sym, ap, ◌∙◌, inl, inr, option_map, option_and_then, none-some, same_Some, slice_get-map, In, In-get, In-map, place_in, get_left, get_right, Body, Command, LatchValue, CoverValue, SubcktValue, ModelValue, Path, body_at, subckts_of, model_named, placed, model_at, CoverAt, LatchAt, ConnectionAt, Cover, Latch, PlainNetlist, read_latch, latch_commands, cover_commands, model_of, library_of}
 use Rattle.netlist.specs.declared.subckt.Pair.{Pair}
-use Rattle.blif_write.specs.PlainNetlist.{PlainNetlist, read_latch, latch_commands, cover_commands, model_of, library_of}
 
 -- no instance is placed
 covers_alone : (line : ℕ) (cs : List CoverValue) → subckts_of (cover_commands line cs) ≡ []

@@ -1,9 +1,7 @@
 -- A netlist without hierarchy is sound where each name that is read has one driver, and its covers can be put in order.
-use Rattle.blif_write.proofs.Common.{◌≡◌, ℕ, zero, suc, ◌<◌, Bool, true, false, not, ◌||◌, ◌&&◌, IsTrue, List, [], ◌∷◌, ◌++◌, length, map, slice_get, Some, refl, sym, ap, subst, ◌∙◌, inl, inr, arith, option_map, none-some, same_Some, slice_get-map, In, In-get, In-append, In-left, place_in, from_map, AreOnce, has_in, Body, Subckt, Command, LatchValue, CoverValue, SubcktValue, ModelValue, IsWellFormedBody, IsWellFormedModel, IsWellFormed, Path, subckts_of, has_name, is_input, is_output, CoverAt, cover_net, Drives, main_input, latch_output, cover_output, from_inside, from_outside, Place, IsData, cover_data, latch_data, IsSound, and_parts, apart_once, right_apart, not_in_both}
-use Rattle.netlist.specs.declared.command.Body.TheVariants.{Cover, Latch}
+use Rattle.blif_write.proofs.Common.{◌≡◌, ℕ, zero, suc, ◌<◌, Bool, true, false, not, ◌||◌, ◌&&◌, IsTrue, List, [], ◌∷◌, ◌++◌, length, map, slice_get, Some, refl, sym, ap, subst, ◌∙◌, inl, inr, arith, option_map, none-some, same_Some, slice_get-map, In, In-get, In-append, In-left, place_in, from_map, AreOnce, has_in, Body, Subckt, Command, LatchValue, CoverValue, SubcktValue, ModelValue, IsWellFormedBody, IsWellFormedModel, IsWellFormed, Path, subckts_of, has_name, is_input, is_output, CoverAt, cover_net, Drives, main_input, latch_output, cover_output, from_inside, from_outside, Place, IsData, cover_data, latch_data, IsSound, and_parts, apart_once, right_apart, not_in_both, Cover, Latch, PlainNetlist, IsPlain, all_inputs, read_latch, model_of, library_of}
 use Rattle.netlist.specs.Loops.{ReadsCover, Depends, direct, through}
 use Rattle.netlist.specs.Drivers.{Driver, by_input, by_latch, by_cover, IsDriver, input, latch, cover, output, IsRead, cover_input, latch_input, latch_control, input_actual, model_output, Ends, ends, IsDriven}
-use Rattle.blif_write.specs.PlainNetlist.{PlainNetlist, IsPlain, all_inputs, read_latch, model_of, library_of}
 use Rattle.blif_write.proofs.DenoteLemmas.{ports_once}
 use Rattle.blif_write.proofs.PlainLemmas.{bodies_of, body_is, no_subckts, none_placed, only_top, cover_body, latch_body, cover_there, latch_there, no_connection}
 use Rattle.blif_write.proofs.PlainCycleLemmas.{IsControlName, input_is, main_there, driven_by_input, control_there, clock_there}

@@ -1,10 +1,7 @@
 -- The flat circuit of a sound library has ports as they are written.
-use Rattle.blif_write.proofs.Common.{◌≡◌, ◌⊎◌, ℕ, ◌<◌, ◌≤◌, true, false, not, List, ◌++◌, length, slice_get, Option, Some, is_some, refl, sym, ap, subst, ◌∙◌, inl, inr, arith, none-some, same_Some, slice_get_within, In, at_within, place_in, In-get, In-left, In-right, In-map, In-filter, IsClean, AreOnce, ModelValue, LibraryValue, input_ports, output_ports, clock_ports, HasCleanNames, LatchValue, FlatLatch, OutPort, FlatValue, underscores, IsControl, some_latch, no_latch, IsFlatLatch, IsFlat, is_latch, Path, has_name, IsMainInput, Net, input_net, Drives, main_input, latch_output, cover_output, from_inside, from_outside, IsClock, controls, IsSound, has_in, or_cases, not-true, filtered_apart}
-use Rattle.netlist.specs.declared.command.Body.TheVariants.{Latch}
+use Rattle.blif_write.proofs.Common.{◌≡◌, ◌⊎◌, ℕ, ◌<◌, ◌≤◌, true, false, not, List, ◌++◌, length, slice_get, Option, Some, is_some, refl, sym, ap, subst, ◌∙◌, inl, inr, arith, none-some, same_Some, slice_get_within, In, at_within, place_in, In-get, In-left, In-right, In-map, In-filter, IsClean, AreOnce, ModelValue, LibraryValue, input_ports, output_ports, clock_ports, HasCleanNames, LatchValue, FlatLatch, OutPort, FlatValue, underscores, IsControl, some_latch, no_latch, IsFlatLatch, IsFlat, is_latch, Path, has_name, IsMainInput, Net, input_net, Drives, main_input, latch_output, cover_output, from_inside, from_outside, IsClock, controls, IsSound, has_in, or_cases, not-true, filtered_apart, Latch, few_underscores, IsPortName, HasPorts}
 use Rattle.netlist.proofs.OrderLemmas.{flat_all}
 use Rattle.netlist.proofs.PlaceLemmas.{place_of, one_latch}
-use Rattle.netlist.proofs.UnderscoreLemmas.{few_underscores}
-use Rattle.blif_write.specs.Meaning.{IsPortName, HasPorts}
 
 -- a net that an input drives is named by a main input
 main_net : (library : LibraryValue) (path : Path) (own name : List ℕ) (net : Net) → net ≡ input_net name → Drives library path own net → IsMainInput library name

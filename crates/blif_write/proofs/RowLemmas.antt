@@ -1,7 +1,5 @@
 -- The bytes of a LUT's rows, as its loops add them.
-use Rattle.blif_write.proofs.Common.{◌≡◌, ℕ, zero, suc, ◌+◌, ◌-◌, ◌<◌, ◌^◌, Bool, true, false, cond, List, [], ◌∷◌, ◌++◌, length, map, replicate, get_or, refl, sym, ap, ◌∙◌, arith, append_assoc, length-append, flat_map, filter, range_with_len, map-append, flat_map_single, flat_map-map, length-map-range_with_len, digit, Cell, One, Any, RowValue, cell_character, map-map}
-use Rattle.blif_write.specs.PlainNetlist.{row_line, line_text}
-use Rattle.blif_write.specs.Netlists.{digit_cell, digit_cells, chosen_cells, fixed_rows, tunable_rows}
+use Rattle.blif_write.proofs.Common.{◌≡◌, ℕ, zero, suc, ◌+◌, ◌-◌, ◌<◌, ◌^◌, Bool, true, false, cond, List, [], ◌∷◌, ◌++◌, length, map, replicate, get_or, refl, sym, ap, ◌∙◌, arith, append_assoc, length-append, flat_map, filter, range_with_len, map-append, flat_map_single, flat_map-map, length-map-range_with_len, digit, Cell, One, Any, RowValue, cell_character, map-map, row_line, line_text, digit_cell, digit_cells, chosen_cells, fixed_rows, tunable_rows}
 
 -- the digits of a row's leaf values
 abbrev pub digit_text : ℕ → ℕ → List ℕ

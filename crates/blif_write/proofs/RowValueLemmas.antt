@@ -1,8 +1,7 @@
 -- The rows of a LUT have the value of the bit that its leaves' values ask for.
-use Rattle.blif_write.proofs.Common.{◌≡◌, ◌⊎◌, ℕ, zero, suc, ◌+◌, ◌-◌, ◌*◌, ◌/◌, ◌%◌, ◌^◌, ◌<◌, ◌≤◌, Bool, true, false, eqb, ◌&&◌, ◌||◌, List, [], ◌∷◌, ◌++◌, length, map, filter, replicate, get_or, slice_index_or, refl, sym, ap, ◌∙◌, inl, inr, arith, range_with_len, and_parts, and_from, eqb-true, length-map-range_with_len, In, bit_value, number, digit, number-small, lowest, half, In-map, In-filter, from_map, in_filter, in_range, of_range, Cell, One, Any, RowValue, allows, matches, some_row, false_from_ne_true, eqb-false}
+use Rattle.blif_write.proofs.Common.{◌≡◌, ◌⊎◌, ℕ, zero, suc, ◌+◌, ◌-◌, ◌*◌, ◌/◌, ◌%◌, ◌^◌, ◌<◌, ◌≤◌, Bool, true, false, eqb, ◌&&◌, ◌||◌, List, [], ◌∷◌, ◌++◌, length, map, filter, replicate, get_or, slice_index_or, refl, sym, ap, ◌∙◌, inl, inr, arith, range_with_len, and_parts, and_from, eqb-true, length-map-range_with_len, In, bit_value, number, digit, number-small, lowest, half, In-map, In-filter, from_map, in_filter, in_range, of_range, Cell, One, Any, RowValue, allows, matches, some_row, false_from_ne_true, eqb-false, digit_cell, digit_cells, fixed_rows, chosen_cells, tunable_rows}
 use Rattle.std.proofs.Math.Nat.{pow-succ', div-div-eq-div-mul}
 use Rattle.std.proofs.Math.Bool.{or-true, and-true}
-use Rattle.blif_write.specs.Netlists.{digit_cell, digit_cells, fixed_rows, chosen_cells, tunable_rows}
 
 -- the cells of a number's digits, one by one
 abbrev cells_of : ℕ → ℕ → List Cell

@@ -1,10 +1,6 @@
 -- The cycles of a written netlist are those of its LUTs.
-use Rattle.blif_write.proofs.Common.{◌≡◌, ◌⊎◌, ℕ, zero, suc, ◌+◌, ◌-◌, ◌*◌, ◌^◌, ◌<◌, ◌≤◌, Bool, true, false, cond, ◌&&◌, ◌||◌, nat_le, nat_lt, not, List, [], ◌∷◌, ◌++◌, length, map, get_or, slice_get, slice_index_or, bytes_eq, codes, Option, Some, None, refl, sym, ap, subst, ◌∙◌, inl, inr, arith, flat_map, range_with_len, map-append, length-map, get_or-map, leb-true, le-leb, ltb-true, and_parts, get_or-map-range_with_len, length-map-range_with_len, bytes_eq-Decides, none-some, In, number, number-small, In-get_or, In-left, In-right, In-filter, LatchValue, CoverValue, cover_value, some_row, OutPort, FlatLatch, FlatValue, Param, regular_names, param_names, has_name, Lit, lits_of, Lut, TemplateValue, bits_of, Shape, last_source, is_regular, source_value, leaf_values, address, IsTableCycle, false_from_ne_true, map-map}
+use Rattle.blif_write.proofs.Common.{◌≡◌, ◌⊎◌, ℕ, zero, suc, ◌+◌, ◌-◌, ◌*◌, ◌^◌, ◌<◌, ◌≤◌, Bool, true, false, cond, ◌&&◌, ◌||◌, nat_le, nat_lt, not, List, [], ◌∷◌, ◌++◌, length, map, get_or, slice_get, slice_index_or, bytes_eq, codes, Option, Some, None, refl, sym, ap, subst, ◌∙◌, inl, inr, arith, flat_map, range_with_len, map-append, length-map, get_or-map, leb-true, le-leb, ltb-true, and_parts, get_or-map-range_with_len, length-map-range_with_len, bytes_eq-Decides, none-some, In, number, number-small, In-get_or, In-left, In-right, In-filter, LatchValue, CoverValue, cover_value, some_row, OutPort, FlatLatch, FlatValue, Param, regular_names, param_names, has_name, Lit, lits_of, Lut, TemplateValue, bits_of, Shape, last_source, is_regular, source_value, leaf_values, address, IsTableCycle, false_from_ne_true, map-map, read_control, Naming, naming_of, table_name, latch_name, bit_name, source_name, literal_name, leaf_names, bit_names, fixed_rows, tunable_rows, fixed_table, tunable_table, wire_of, wire, wires, clock_of, written_latch, written_latches, control_names, with_tables, HasPorts, AreTablesOf, input_bits}
 use Rattle.cover_pick.proofs.BitsLemmas.{base_within}
-use Rattle.blif_write.specs.PlainNetlist.{read_control}
-use Rattle.blif_write.specs.OwnNames.{Naming, naming_of, table_name, latch_name, bit_name, source_name, literal_name}
-use Rattle.blif_write.specs.Netlists.{leaf_names, bit_names, fixed_rows, tunable_rows, fixed_table, tunable_table, wire_of, wire, wires, clock_of, written_latch, written_latches, control_names, with_tables}
-use Rattle.blif_write.specs.Meaning.{HasPorts, AreTablesOf, input_bits}
 use Rattle.blif_write.proofs.PlainCycleLemmas.{IsControlName, PlainFits}
 use Rattle.blif_write.proofs.RowValueLemmas.{fixed_value, tunable_value}
 use Rattle.blif_write.proofs.OwnNameLemmas.{no_port_name, source_literal, table_literal}

@@ -1,6 +1,5 @@
 -- The bytes of LUTs, latches and wires, as they are added.
-use Rattle.blif_write.proofs.Common.{◌≡◌, ℕ, List, [], ◌∷◌, ◌++◌, map, codes, Some, refl, sym, ap, ◌∙◌, append_assoc, append-nil, flat_map, flat_map-append, flat_map-map, CoverValue, output_token, LatchValue}
-use Rattle.blif_write.specs.PlainNetlist.{line_text, words_text, cover_lines, row_line, latch_line, control_words}
+use Rattle.blif_write.proofs.Common.{◌≡◌, ℕ, List, [], ◌∷◌, ◌++◌, map, codes, Some, refl, sym, ap, ◌∙◌, append_assoc, append-nil, flat_map, flat_map-append, flat_map-map, CoverValue, output_token, LatchValue, line_text, words_text, cover_lines, row_line, latch_line, control_words}
 
 -- a line of inputs for each table
 pub input_lines : {X : Type 0} (f : X → List (List ℕ)) (xs : List X)

@@ -1,19 +1,5 @@
 -- The numbers of its lines have no part in a certificate's validity, nor in the text that it is written as.
-use Rattle.std.proofs.Common.{◌≡◌, ℕ, ◌==◌, if◌then◌else◌, List, [], ◌∷◌, ◌++◌, map, Some, slice_get, zero, suc, refl, sym, ap, ◌∙◌, subst}
-use Rattle.std.specs.List.{flat_map}
-use Rattle.std.specs.Option.{option_map}
-use Rattle.std.proofs.Math.Path.{fun_ext}
-use Rattle.std.proofs.lemmas.List.{length-map, map-append}
-use Rattle.std.proofs.lemmas.Option.{none-some, same_Some, slice_get-map}
-use Rattle.aig_core.specs.Aig.{Aig, IsAnd}
-use Rattle.list_laws.specs.Members.{In}
-use Rattle.list_laws.specs.Order.{IsAscending}
-use Rattle.list_laws.proofs.Members.{In-map, from_map}
-use Rattle.cert_check.specs.CertificateValue.{PathValue, StepValue, CertificateValue}
-use Rattle.cert_check.specs.Paths.{IsPath}
-use Rattle.cert_check.specs.Valid.{claim_of, IsJustified, IsReached, IsValid}
-use Rattle.cert_check.specs.CertText.{says_depth, says_claim, SaidLine, path_said, steps_said}
-use Rattle.cert_check.specs.WrittenText.{saying_words, line_text, cert_text, bare_path, bare_step, bare}
+use Rattle.cert_check.proofs.Common.{◌≡◌, ℕ, ◌==◌, if◌then◌else◌, List, [], ◌∷◌, ◌++◌, map, Some, slice_get, zero, suc, refl, sym, ap, ◌∙◌, subst, flat_map, option_map, fun_ext, length-map, map-append, none-some, same_Some, slice_get-map, Aig, IsAnd, In, IsAscending, In-map, from_map, PathValue, StepValue, CertificateValue, IsPath, claim_of, IsJustified, IsReached, IsValid, says_depth, says_claim, SaidLine, path_said, steps_said, saying_words, line_text, cert_text, bare_path, bare_step, bare}
 
 claim_bare : (ss : List StepValue) (n : ℕ) → claim_of (map bare_step ss) n ≡ claim_of ss n
 claim_bare [] n = refl

@@ -2,21 +2,7 @@
 --
 -- The sources are the inputs 1, 2 and 3. Nodes 4 and 5 are the products of the exclusive or of inputs 1 and 2, node 6 is its
 -- complement, and node 7 is the product of input 3 and the exclusive or.
-use Rattle.std.proofs.Common.{◌≡◌, ◌≢◌, ℕ, zero, suc, ◌+◌, ◌<◌, ◌≤◌, Bool, true, ◌||◌, not, eqb, leb, List, [], ◌∷◌, Some, refl, sym, ap, subst, inl, inr, arith}
-use Rattle.std.specs.Prelude.{slice_get}
-use Rattle.std.specs.List.{list_all, list_any}
-use Rattle.std.proofs.lemmas.Bool.{and_parts, or_cases, or_left, or_right, not-true, eqb-true, leb-true, eq-eqb, both_ways}
-use Rattle.std.proofs.lemmas.Option.{none-some, same_Some, slice_get_within}
-use Rattle.aig_core.specs.Aig.{Aig, IsAnd, IsSource}
-use Rattle.aig_core.specs.declared.lit.Kind.TheVariants.{Regular}
-use Rattle.aig_core.specs.declared.lit.Pair.{Pair}
-use Rattle.list_laws.specs.Members.{In}
-use Rattle.cert_check.specs.CertificateValue.{PathValue, StepValue, CertificateValue}
-use Rattle.cert_check.specs.Paths.{IsFanIn, first, second, IsPath}
-use Rattle.cert_check.specs.Valid.{claim_of, IsJustified, node, complemented, IsReached, IsValid}
-use Rattle.cert_check.specs.Faults.{MayStand, IsFault}
-use Rattle.cert_check.specs.LowerBound.{IsLowerBound}
-use Rattle.cert_check.specs.declared.cert_err.CertErr.TheVariants.{PathCount, Shared, NotReached}
+use Rattle.cert_check.proofs.Common.{◌≡◌, ◌≢◌, ℕ, zero, suc, ◌+◌, ◌<◌, ◌≤◌, Bool, true, ◌||◌, not, eqb, leb, List, [], ◌∷◌, Some, refl, sym, ap, subst, inl, inr, arith, slice_get, list_all, list_any, and_parts, or_cases, or_left, or_right, not-true, eqb-true, leb-true, eq-eqb, both_ways, none-some, same_Some, slice_get_within, Aig, IsAnd, IsSource, Regular, Pair, In, PathValue, StepValue, CertificateValue, IsFanIn, first, second, IsPath, claim_of, IsJustified, node, complemented, IsReached, IsValid, MayStand, IsFault, IsLowerBound, PathCount, Shared, NotReached}
 use Rattle.cert_check.proofs.LeastLemmas.{valid_bound}
 
 abbrev pair : ℕ → ℕ → Pair

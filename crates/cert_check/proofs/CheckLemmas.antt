@@ -1,22 +1,5 @@
 -- The steps of a certificate, one by one.
-use Rattle.std.proofs.Common.{◌≡◌, ℕ, suc, ◌+◌, ◌<◌, ◌≤◌, cond, eqb, List, [], ◌∷◌, ◌++◌, take, drop, drop-cons, set, length, get_or, get_or-set_same, get_or-set_other, length-set, append_assoc, append-nil, refl, sym, ap, ◌∙◌, subst, inl, inr, Result, Ok, Err, arith}
-use Rattle.std.specs.Prelude.{IsErrAnd, IfOk, OnOk}
-use Rattle.std.proofs.Math.Path.{fun_ext}
-use Rattle.std.proofs.lemmas.Bool.{eqb-true, eqb-false, cases_eq, cases_lt}
-use Rattle.std.proofs.lemmas.List.{take_more, take_all}
-use Rattle.aig_core.specs.Aig.{Aig, first_and, node_count, IsAnd, AreNormal}
-use Rattle.aig_core.specs.Roots.{lits_of}
-use Rattle.aig_core.specs.declared.lit.Lit.{Lit}
-use Rattle.list_laws.specs.Members.{In}
-use Rattle.list_laws.proofs.Choice.{choose}
-use Rattle.list_laws.proofs.Items.{drop_at}
-use Rattle.list_laws.proofs.Members.{In-push, In-pushed}
-use Rattle.cert_check.specs.CertificateValue.{StepValue, CertificateValue}
-use Rattle.cert_check.specs.Valid.{claim_of, IsJustified, SomeNeeds, IsReached}
-use Rattle.cert_check.specs.Faults.{First, IsAbove, StepFault, StepsFault, DepthFault, IsFault, HasOneVerdict}
-use Rattle.cert_check.specs.InTurn.{IsNext, AreInTurn}
-use Rattle.cert_check.specs.declared.cert_err.CertErr.{CertErr}
-use Rattle.cert_check.specs.declared.cert_err.CertErr.TheVariants.{BadClaim, NotReached}
+use Rattle.cert_check.proofs.Common.{◌≡◌, ℕ, suc, ◌+◌, ◌<◌, ◌≤◌, cond, eqb, List, [], ◌∷◌, ◌++◌, take, drop, drop-cons, set, length, get_or, get_or-set_same, get_or-set_other, length-set, append_assoc, append-nil, refl, sym, ap, ◌∙◌, subst, inl, inr, Result, Ok, Err, arith, IsErrAnd, IfOk, OnOk, fun_ext, eqb-true, eqb-false, cases_eq, cases_lt, take_more, take_all, Aig, first_and, node_count, IsAnd, AreNormal, lits_of, Lit, In, choose, drop_at, In-push, In-pushed, StepValue, CertificateValue, claim_of, IsJustified, SomeNeeds, IsReached, First, IsAbove, StepFault, StepsFault, DepthFault, IsFault, HasOneVerdict, IsNext, AreInTurn, CertErr, BadClaim, NotReached}
 use Rattle.cert_check.proofs.FaultLemmas.{step_more, steps_more, steps_met, one_fault}
 use Rattle.cert_check.proofs.InTurnLemmas.{valid_turn}
 

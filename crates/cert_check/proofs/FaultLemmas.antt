@@ -1,14 +1,5 @@
 -- The demands of a certificate: where all are met only the rest can be at fault, and two faults are the same.
-use Rattle.std.proofs.Common.{◌≡◌, ℕ, zero, suc, ◌<◌, List, [], ◌∷◌, ◌++◌, take, length, Some, refl, sym, ap, ◌∙◌, subst, inl, inr, arith, append_assoc, append-nil}
-use Rattle.std.specs.Prelude.{slice_get}
-use Rattle.aig_core.specs.Aig.{Aig}
-use Rattle.list_laws.specs.Members.{In}
-use Rattle.cert_check.specs.CertificateValue.{PathValue, StepValue, CertificateValue}
-use Rattle.cert_check.specs.Paths.{IsPath}
-use Rattle.cert_check.specs.Valid.{claim_of, path_count, IsJustified, IsReached}
-use Rattle.cert_check.specs.Faults.{First, IsAbove, MayStand, NodesFault, PathsFault, StepFault, StepsFault, DepthFault, IsFault}
-use Rattle.cert_check.specs.InTurn.{AreInTurn}
-use Rattle.cert_check.specs.declared.cert_err.CertErr.{CertErr}
+use Rattle.cert_check.proofs.Common.{◌≡◌, ℕ, zero, suc, ◌<◌, List, [], ◌∷◌, ◌++◌, take, length, Some, refl, sym, ap, ◌∙◌, subst, inl, inr, arith, append_assoc, append-nil, slice_get, Aig, In, PathValue, StepValue, CertificateValue, IsPath, claim_of, path_count, IsJustified, IsReached, First, IsAbove, MayStand, NodesFault, PathsFault, StepFault, StepsFault, DepthFault, IsFault, AreInTurn, CertErr}
 
 -- a fault of the rest is one of the whole where the demand is met, and the other way round
 abbrev pub Same : Type 0 → Type 0 → Type 0

@@ -1,17 +1,7 @@
 -- What is read can be written: the claims of a certificate that a text is are 1 at least, its paths have two nodes at least, and its
 -- numbers fit a word of 32 bits.
-use Rattle.std.proofs.Common.{◌≡◌, ℕ, ◌^◌, ◌<◌, ◌≤◌, Bool, true, false, cond, eqb, leb, List, [], ◌∷◌, length, map, Option, Some, None, bytes_eq, codes, refl, sym, subst, inl, inr, arith}
-use Rattle.std.specs.Option.{option_and_then}
-use Rattle.std.proofs.lemmas.Bool.{leb-true, eqb-false}
-use Rattle.std.proofs.lemmas.Option.{none-some, same_Some}
-use Rattle.list_laws.specs.Members.{In}
-use Rattle.list_laws.proofs.Choice.{some_then, some_else}
-use Rattle.list_laws.proofs.Members.{In-left, In-right, In-map}
+use Rattle.cert_check.proofs.Common.{◌≡◌, ℕ, ◌^◌, ◌<◌, ◌≤◌, Bool, true, false, cond, eqb, leb, List, [], ◌∷◌, length, map, Option, Some, None, bytes_eq, codes, refl, sym, subst, inl, inr, arith, option_and_then, leb-true, eqb-false, none-some, same_Some, In, some_then, some_else, In-left, In-right, In-map, WordsLine, words_line, StepValue, CertificateValue, Saying, says_depth, says_claim, says_path, small, number_of, in_front, numbers_of, depth_with, claim_with, path_with, saying_by, said_of, SaidLine, path_said, step_said, steps_said, AreSaid, AreLinesOf, IsCertText, IsWritableStep, IsWritable}
 use Rattle.tl_text.specs.Decimal.{decimal_of}
-use Rattle.tl_text.specs.LineValue.{WordsLine, words_line}
-use Rattle.cert_check.specs.CertificateValue.{StepValue, CertificateValue}
-use Rattle.cert_check.specs.CertText.{Saying, says_depth, says_claim, says_path, small, number_of, in_front, numbers_of, depth_with, claim_with, path_with, saying_by, said_of, SaidLine, path_said, step_said, steps_said, AreSaid, AreLinesOf, IsCertText}
-use Rattle.cert_check.specs.WrittenText.{IsWritableStep, IsWritable}
 
 -- numbers that are read
 small_below : (o : Option ℕ) (n : ℕ) → option_and_then small o ≡ Some n → n < 2 ^ 32

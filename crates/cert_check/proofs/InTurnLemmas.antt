@@ -1,15 +1,5 @@
 -- Steps in turn: a certificate is valid where its steps are in turn and its depth is reached, and only there.
-use Rattle.std.proofs.Common.{◌≡◌, ℕ, ◌+◌, ◌<◌, ◌≤◌, cond, eqb, List, [], ◌∷◌, ◌++◌, append_assoc, map, refl, sym, ap, ◌∙◌, subst, inl, inr, arith}
-use Rattle.std.proofs.lemmas.Bool.{eqb-true}
-use Rattle.std.specs.Prelude.{◌≢◌}
-use Rattle.aig_core.specs.Aig.{Aig, first_and, IsAnd, AreNormal}
-use Rattle.list_laws.specs.Members.{In}
-use Rattle.list_laws.specs.Order.{IsAscending}
-use Rattle.list_laws.proofs.Choice.{choose}
-use Rattle.list_laws.proofs.Members.{In-left, In-right, In-push, In-get, In-map}
-use Rattle.cert_check.specs.CertificateValue.{StepValue, CertificateValue}
-use Rattle.cert_check.specs.Valid.{claim_of, IsJustified, IsReached, IsValid}
-use Rattle.cert_check.specs.InTurn.{AreInTurn}
+use Rattle.cert_check.proofs.Common.{◌≡◌, ℕ, ◌+◌, ◌<◌, ◌≤◌, cond, eqb, List, [], ◌∷◌, ◌++◌, append_assoc, map, refl, sym, ap, ◌∙◌, subst, inl, inr, arith, eqb-true, ◌≢◌, Aig, first_and, IsAnd, AreNormal, In, IsAscending, choose, In-left, In-right, In-push, In-get, In-map, StepValue, CertificateValue, claim_of, IsJustified, IsReached, IsValid, AreInTurn}
 use Rattle.cert_check.proofs.PathLemmas.{path_below}
 
 -- later steps of higher nodes do not change the claim of a node

@@ -1,18 +1,8 @@
 -- A valid certificate is a lower bound of the depth of every cover: each of the K + 1 paths to a node meets each of its cuts, no two
 -- of them in the same shallow leaf, and a cut has at most K leaves.
-use Rattle.std.proofs.Common.{◌≡◌, ℕ, suc, ◌+◌, ◌/◌, ◌<◌, ◌≤◌, List, [], ◌∷◌, Option, Some, eqb, length, refl, sym, subst, inl, inr, ◌⊎◌, arith}
-use Rattle.std.specs.Prelude.{slice_get}
-use Rattle.std.proofs.lemmas.Bool.{eqb-true, cases_lt}
-use Rattle.aig_core.specs.Aig.{Aig, first_and}
-use Rattle.list_laws.specs.Members.{In}
+use Rattle.cert_check.proofs.Common.{◌≡◌, ℕ, suc, ◌+◌, ◌/◌, ◌<◌, ◌≤◌, List, [], ◌∷◌, Option, Some, eqb, length, refl, sym, subst, inl, inr, ◌⊎◌, arith, slice_get, eqb-true, cases_lt, Aig, first_and, In, choose, place_in, Blocks, IsCut, PathValue, StepValue, CertificateValue, IsLowerBound, AreLowerBounds, claim_of, path_count, IsJustified, Needs, node, complemented, SomeNeeds, IsValid}
 use Rattle.list_laws.proofs.Apart.{AreApart, apart_short}
-use Rattle.list_laws.proofs.Choice.{choose}
-use Rattle.list_laws.proofs.Members.{place_in}
-use Rattle.cut_sets.specs.Cuts.{Blocks, IsCut}
 use Rattle.cut_sets.specs.Covers.{IsCover, HasDepth, source, free, table, RootsWithin}
-use Rattle.cert_check.specs.CertificateValue.{PathValue, StepValue, CertificateValue}
-use Rattle.cert_check.specs.LowerBound.{IsLowerBound, AreLowerBounds}
-use Rattle.cert_check.specs.Valid.{claim_of, path_count, IsJustified, Needs, node, complemented, SomeNeeds, IsValid}
 use Rattle.cert_check.proofs.PathLemmas.{Meets, path_meets}
 
 -- the step that claims this for a node

@@ -1,3 +1,4 @@
+mod Common
 pub mod PathLemmas
 pub mod PathPlaces
 mod StampLemmas

@@ -1,22 +1,5 @@
 -- The lines of a certificate's text are read one by one: the steps of the lines so far, and the first line that doesn't fit.
-use Rattle.std.proofs.Common.{◌≡◌, ℕ, zero, suc, ◌+◌, ◌<◌, ◌≤◌, true, false, eqb, List, [], ◌∷◌, ◌++◌, length, map, take, drop, get_or, Some, None, Result, Ok, Err, refl, sym, ap, ◌∙◌, subst, arith, append_assoc, append-nil}
-use Rattle.std.specs.Prelude.{slice_get, MatchResult}
-use Rattle.std.specs.Option.{option_map}
-use Rattle.std.proofs.lemmas.Bool.{cond-true, cond-false, le-leb}
-use Rattle.std.proofs.lemmas.List.{take_all, map-append}
-use Rattle.std.proofs.lemmas.List.Concat.{flat_map-append}
-use Rattle.std.proofs.lemmas.Option.{slice_get-map, slice_get_read, slice_get_within}
-use Rattle.list_laws.proofs.Places.{drop_get}
-use Rattle.tl_fault.specs.OrMemory.{OrMemory}
-use Rattle.tl_fault.proofs.OrMemoryLemmas.{OrMemory-map}
-use Rattle.tl_text.specs.LineValue.{LineValue, WordsLine, words_line}
-use Rattle.cert_check.specs.CertificateValue.{PathValue, StepValue}
-use Rattle.cert_check.specs.CertText.{Saying, says_depth, says_claim, says_path, said_of, SaidLine, path_said, step_said, steps_said, AreSaid, AreLinesOf, fits_at, first_misfit, IsMalformed}
-use Rattle.cert_check.specs.Reading.{IsMisfit}
-use Rattle.cert_check.specs.Refusals.{refusal_of}
-use Rattle.cert_check.specs.declared.cert_err.CertErr.{CertErr}
-use Rattle.cert_check.specs.declared.cert_err.CertErr.TheVariants.{Malformed}
-use Rattle.list_laws.proofs.Places.{take_get}
+use Rattle.cert_check.proofs.Common.{◌≡◌, ℕ, zero, suc, ◌+◌, ◌<◌, ◌≤◌, true, false, eqb, List, [], ◌∷◌, ◌++◌, length, map, take, drop, get_or, Some, None, Result, Ok, Err, refl, sym, ap, ◌∙◌, subst, arith, append_assoc, append-nil, slice_get, MatchResult, option_map, cond-true, cond-false, le-leb, take_all, map-append, flat_map-append, slice_get-map, slice_get_read, slice_get_within, drop_get, OrMemory, OrMemory-map, LineValue, WordsLine, words_line, PathValue, StepValue, Saying, says_depth, says_claim, says_path, said_of, SaidLine, path_said, step_said, steps_said, AreSaid, AreLinesOf, fits_at, first_misfit, IsMalformed, IsMisfit, refusal_of, CertErr, Malformed, take_get}
 
 -- one more line
 said_push : (lines : List WordsLine) (others : List SaidLine) (line : WordsLine) (said : SaidLine) → AreSaid lines others → line.number ≡ said.number → said_of line.words ≡ Some said.saying → AreSaid (lines ++ line ∷ []) (others ++ said ∷ [])

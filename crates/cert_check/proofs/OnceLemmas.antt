@@ -1,12 +1,6 @@
 -- A text is that of one certificate at most, or has one refusal at most, and never both.
-use Rattle.std.proofs.Common.{◌≡◌, ℕ, suc, List, [], ◌∷◌, ◌++◌, map, Some, None, refl, sym, ap, ◌∙◌, arith}
-use Rattle.std.proofs.lemmas.Bool.{cond-true, le-leb}
-use Rattle.std.proofs.lemmas.Option.{none-some, same_Some}
+use Rattle.cert_check.proofs.Common.{◌≡◌, ℕ, suc, List, [], ◌∷◌, ◌++◌, map, Some, None, refl, sym, ap, ◌∙◌, arith, cond-true, le-leb, none-some, same_Some, WordsLine, text_settled, PathValue, StepValue, CertificateValue, Saying, says_depth, says_claim, says_path, said_of, SaidLine, path_said, steps_said, AreSaid, AreLinesOf, fits_at, first_misfit, malformed_line, IsMalformed, cert_err, HasOneReading}
 use Rattle.tl_fault.specs.Settled.{IsSettled}
-use Rattle.tl_text.specs.LineValue.{WordsLine}
-use Rattle.tl_text.proofs.TextOfLemmas.{text_settled}
-use Rattle.cert_check.specs.CertificateValue.{PathValue, StepValue, CertificateValue}
-use Rattle.cert_check.specs.CertText.{Saying, says_depth, says_claim, says_path, said_of, SaidLine, path_said, steps_said, AreSaid, AreLinesOf, fits_at, first_misfit, malformed_line, IsMalformed, cert_err, HasOneReading}
 
 -- lines say one thing
 said_same : (x y : SaidLine) → x.number ≡ y.number → x.saying ≡ y.saying → x ≡ y

@@ -1,10 +1,5 @@
 -- Paths by the places of their nodes.
-use Rattle.std.proofs.Common.{◌≡◌, ℕ, zero, suc, ◌+◌, ◌-◌, ◌/◌, ◌<◌, List, [], ◌∷◌, length, get_or, ap, ◌∙◌, subst, inl, inr, ◌⊎◌, arith}
-use Rattle.aig_core.specs.Aig.{Aig, IsNode, IsSource}
-use Rattle.aig_core.specs.declared.lit.Kind.TheVariants.{Regular}
-use Rattle.aig_core.specs.declared.lit.Pair.{Pair}
-use Rattle.cert_check.specs.Paths.{IsFanIn, first, second, Climbs, IsPath}
-use Rattle.aig_core.proofs.NodeLemmas.{same_pair}
+use Rattle.cert_check.proofs.Common.{◌≡◌, ℕ, zero, suc, ◌+◌, ◌-◌, ◌/◌, ◌<◌, List, [], ◌∷◌, length, get_or, ap, ◌∙◌, subst, inl, inr, ◌⊎◌, arith, Aig, IsNode, IsSource, Regular, Pair, IsFanIn, first, second, Climbs, IsPath, same_pair}
 
 -- the edges of a climb, and a climb of its edges
 climbs_edge : (g : Aig) (m : ℕ) (ms : List ℕ) (n j : ℕ) → Climbs g m ms n → j < length ms → IsFanIn g (get_or (m ∷ ms) j 0) (get_or (m ∷ ms) (suc j) 0)

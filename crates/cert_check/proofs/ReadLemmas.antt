@@ -1,11 +1,5 @@
 -- The lines of a text are read one by one.
-use Rattle.std.proofs.Common.{◌≡◌, ℕ, ◌+◌, ◌≤◌, List, [], ◌∷◌, ◌++◌, length, map, take, drop, Option, Some, None, refl, sym, ap, ◌∙◌}
-use Rattle.std.specs.Prelude.{slice_get}
-use Rattle.std.proofs.lemmas.List.{take_all, take-append-drop, map-append}
-use Rattle.list_laws.proofs.Places.{drop_get, take_get}
-use Rattle.tl_text.specs.LineValue.{token_bytes}
-use Rattle.tl_text.specs.declared.token.Token.{Token}
-use Rattle.cert_check.specs.CertText.{number_of, in_front, numbers_of}
+use Rattle.cert_check.proofs.Common.{◌≡◌, ℕ, ◌+◌, ◌≤◌, List, [], ◌∷◌, ◌++◌, length, map, take, drop, Option, Some, None, refl, sym, ap, ◌∙◌, slice_get, take_all, take-append-drop, map-append, drop_get, take_get, token_bytes, Token, number_of, in_front, numbers_of}
 
 -- numbers
 abbrev joined : Option (List ℕ) → Option (List ℕ) → Option (List ℕ)

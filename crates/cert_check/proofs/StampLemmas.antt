@@ -1,17 +1,5 @@
 -- Stamps of nodes, and what a clash with them means for the paths of a step.
-use Rattle.std.proofs.Common.{◌≡◌, ℕ, suc, ◌+◌, ◌-◌, ◌<◌, ◌≤◌, List, [], ◌∷◌, ◌++◌, take, drop, drop-cons, set, length, get_or, get_or-set_same, get_or-set_other, length-set, Some, None, sym, ap, ◌∙◌, subst, inl, inr, arith}
-use Rattle.std.proofs.lemmas.Bool.{cases_eq, cases_lt}
-use Rattle.std.proofs.lemmas.List.{take_more}
-use Rattle.std.proofs.lemmas.Option.{none-some, same_Some}
-use Rattle.aig_core.specs.Aig.{Aig}
-use Rattle.list_laws.specs.Members.{In}
-use Rattle.list_laws.proofs.Members.{In-push, In-pushed, In-left, In-get_or}
-use Rattle.cert_check.specs.CertificateValue.{PathValue, StepValue}
-use Rattle.cert_check.specs.Paths.{IsPath}
-use Rattle.cert_check.specs.Faults.{MayStand, NodesFault, PathsFault}
-use Rattle.cert_check.specs.Stamps.{Clashes, IsFirstClash, AreStamped, IsPathFault, no_path, clash}
-use Rattle.cert_check.specs.declared.cert_err.CertErr.{CertErr}
-use Rattle.cert_check.specs.declared.cert_err.CertErr.TheVariants.{Shared}
+use Rattle.cert_check.proofs.Common.{◌≡◌, ℕ, suc, ◌+◌, ◌-◌, ◌<◌, ◌≤◌, List, [], ◌∷◌, ◌++◌, take, drop, drop-cons, set, length, get_or, get_or-set_same, get_or-set_other, length-set, Some, None, sym, ap, ◌∙◌, subst, inl, inr, arith, cases_eq, cases_lt, take_more, none-some, same_Some, Aig, In, In-push, In-pushed, In-left, In-get_or, PathValue, StepValue, IsPath, MayStand, NodesFault, PathsFault, Clashes, IsFirstClash, AreStamped, IsPathFault, no_path, clash, CertErr, Shared}
 
 -- what is left from a place on begins with the number there
 pub drop_here : (xs : List ℕ) (i : ℕ) → i < length xs → drop i xs ≡ get_or xs i 0 ∷ drop (i + 1) xs

@@ -1,19 +1,5 @@
 -- The paths of a step, one by one.
-use Rattle.std.proofs.Common.{◌≡◌, ℕ, zero, suc, ◌+◌, ◌<◌, ◌≤◌, List, [], ◌∷◌, ◌++◌, take, drop, length, get_or, Some, refl, sym, ap, ◌∙◌, subst, inl, inr, arith}
-use Rattle.std.specs.Prelude.{slice_get, ◌≢◌}
-use Rattle.std.proofs.lemmas.Bool.{cases_lt}
-use Rattle.std.proofs.lemmas.List.{take_more, take_all}
-use Rattle.std.proofs.lemmas.Option.{none-some, same_Some, slice_get_within, slice_get_read}
-use Rattle.aig_core.specs.Aig.{Aig, node_count}
-use Rattle.list_laws.specs.Members.{In}
-use Rattle.list_laws.proofs.Items.{drop_at}
-use Rattle.list_laws.proofs.Members.{In-push}
-use Rattle.cert_check.specs.CertificateValue.{PathValue, StepValue}
-use Rattle.cert_check.specs.Paths.{IsPath}
-use Rattle.cert_check.specs.Valid.{path_count, IsJustified}
-use Rattle.cert_check.specs.Faults.{PathsFault}
-use Rattle.cert_check.specs.Stamps.{IsPathTaken, IsPathFault}
-use Rattle.cert_check.specs.declared.cert_err.CertErr.{CertErr}
+use Rattle.cert_check.proofs.Common.{◌≡◌, ℕ, zero, suc, ◌+◌, ◌<◌, ◌≤◌, List, [], ◌∷◌, ◌++◌, take, drop, length, get_or, Some, refl, sym, ap, ◌∙◌, subst, inl, inr, arith, slice_get, ◌≢◌, cases_lt, take_more, take_all, none-some, same_Some, slice_get_within, slice_get_read, Aig, node_count, In, drop_at, In-push, PathValue, StepValue, IsPath, path_count, IsJustified, PathsFault, IsPathTaken, IsPathFault, CertErr}
 use Rattle.cert_check.proofs.StampLemmas.{AreStampsOf, no_stamps, stamps_more, all_stand, nodes_pass, path_stops}
 
 -- an element before a place is one of the elements before it

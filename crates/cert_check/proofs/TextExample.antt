@@ -1,8 +1,5 @@
 -- Worked examples: what lines say, a text and its certificate, and texts that are malformed.
-use Rattle.std.proofs.Common.{◌≡◌, ℕ, List, [], ◌∷◌, Some, None, codes, refl}
-use Rattle.tl_text.specs.LineValue.{WordsLine}
-use Rattle.cert_check.specs.CertificateValue.{CertificateValue}
-use Rattle.cert_check.specs.CertText.{says_claim, says_path, said_of, malformed_line, IsCertText}
+use Rattle.cert_check.proofs.Common.{◌≡◌, ℕ, List, [], ◌∷◌, Some, None, codes, refl, WordsLine, CertificateValue, says_claim, says_path, said_of, malformed_line, IsCertText}
 
 claim_is_said : said_of (codes "claim" ∷ codes "6" ∷ codes "1" ∷ []) ≡ Some (says_claim 6 1)
 claim_is_said = refl

@@ -76,7 +76,7 @@ bits_reading words = shelf_reading IsOfBits (bits_word words) Script (λ files. 
 
 -- the header line of a pack
 abbrev pub pack_header : PackValue → List ℕ
-pack_header pack = bits_header_line (length pack.bits)
+pack_header given = bits_header_line (length given.bits)
 
 -- What a playing leaves outside, seen from the host at the start: of the bytes of the output alone.
 module _ (h : SpecialiserValue) (events : List EventValue) (old new : Outside) where

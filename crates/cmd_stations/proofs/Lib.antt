@@ -11,7 +11,7 @@ pub mod ScriptedLemmas
 -- of the graph and the tables of a source circuit,
 pub mod GraphLemmas
 mod InputLemmas
-mod SourceLemmas
+pub mod SourceLemmas
 pub mod ShowLemmas
 pub mod InitLemmas
 -- of what is written,

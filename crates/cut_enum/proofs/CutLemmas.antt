@@ -1,19 +1,7 @@
 -- The least unions of the sets of two fan-ins are the minimal cuts of the node.
-use Rattle.std.proofs.Common.{◌≡◌, ℕ, suc, ◌/◌, ◌<◌, ◌≤◌, true, false, List, [], ◌∷◌, length, refl, sym, ◌∙◌, subst, inl, inr, ◌⊎◌, arith}
-use Rattle.aig_core.specs.Aig.{Aig, first_and, IsAnd, IsNormal, AreNormal}
-use Rattle.aig_core.specs.declared.lit.Kind.TheVariants.{Regular, Parameter}
-use Rattle.aig_core.specs.declared.lit.Pair.{Pair}
-use Rattle.list_laws.specs.Members.{In, Within}
-use Rattle.list_laws.specs.Order.{IsAscending}
-use Rattle.cut_enum.specs.Merging.{AreApart, union, merged, starts_empty, with_own}
-use Rattle.aig_core.specs.Aig.{IsSource, IsNode}
-use Rattle.cut_sets.specs.Cuts.{Blocks, member, constant, parameter, fan_ins, CanBeLeaf, IsCut, IsMinimal, AreMinimal, Covers}
+use Rattle.cut_enum.proofs.Common.{◌≡◌, ℕ, suc, ◌/◌, ◌<◌, ◌≤◌, true, false, List, [], ◌∷◌, length, refl, sym, ◌∙◌, subst, inl, inr, ◌⊎◌, arith, Aig, first_and, IsAnd, IsNormal, AreNormal, Regular, Parameter, Pair, In, Within, IsAscending, AreApart, union, merged, starts_empty, with_own, IsSource, IsNode, Blocks, member, constant, parameter, fan_ins, CanBeLeaf, IsCut, IsMinimal, AreMinimal, Covers, Blocks-within, regular_blocked, contains_one, length_within, same_within, false≢true, choose}
 use Rattle.aig_core.proofs.NodeLemmas.{source_below, same_pair}
-use Rattle.cut_sets.proofs.BlockLemmas.{Blocks-within, regular_blocked, contains_one}
 use Rattle.cut_enum.proofs.SetLemmas.{union_left, union_right, In-union, IsAscending-union, union_within}
-use Rattle.cut_sets.proofs.AscendingLemmas.{length_within, same_within}
-use Rattle.std.proofs.lemmas.Bool.{false≢true}
-use Rattle.list_laws.proofs.Choice.{choose}
 use Rattle.cut_enum.proofs.LevelLemmas.{IsRising, IsRising-ordered, first_least}
 use Rattle.cut_enum.proofs.LeastLemmas.{IsLeast, IsLeast-merged, merged_covers, merged_only, IsUnionOf}
 

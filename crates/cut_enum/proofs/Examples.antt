@@ -2,16 +2,7 @@
 --
 -- Its sources are the inputs 1 and 2 and the parameter 3. Node 4 is input 1 where the parameter is true, node 5 is input 2 where
 -- it is false, and node 6 is the product of the complements of both.
-use Rattle.std.proofs.Common.{◌≡◌, ℕ, zero, suc, ◌+◌, ◌-◌, ◌/◌, ◌<◌, ◌≤◌, List, [], ◌∷◌, Some, refl, sym, ap, ◌∙◌, subst, inl, inr, arith}
-use Rattle.std.specs.List.{slice_get}
-use Rattle.std.proofs.lemmas.Option.{same_Some, none-some}
-use Rattle.aig_core.specs.Aig.{Aig, first_and, IsNormal, AreNormal}
-use Rattle.aig_core.specs.declared.lit.Kind.TheVariants.{Regular, Parameter}
-use Rattle.aig_core.specs.declared.lit.Pair.{Pair}
-use Rattle.list_laws.specs.Members.{In}
-use Rattle.cut_sets.specs.Cuts.{AreMinimal}
-use Rattle.cut_enum.specs.Table.{AreRows, row_at}
-use Rattle.cut_enum.specs.Merging.{IsRow}
+use Rattle.cut_enum.proofs.Common.{◌≡◌, ℕ, zero, suc, ◌+◌, ◌-◌, ◌/◌, ◌<◌, ◌≤◌, List, [], ◌∷◌, Some, refl, sym, ap, ◌∙◌, subst, inl, inr, arith, slice_get, same_Some, none-some, Aig, first_and, IsNormal, AreNormal, Regular, Parameter, Pair, In, AreMinimal, AreRows, row_at, IsRow}
 use Rattle.cut_enum.proofs.RowLemmas.{AreRows-none, AreRows-push, IsRow-node}
 
 abbrev pub pair : ℕ → ℕ → Pair

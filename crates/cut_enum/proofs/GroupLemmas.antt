@@ -1,12 +1,6 @@
 -- The words of a group, and the cuts that have them.
-use Rattle.std.proofs.Common.{◌≡◌, ℕ, suc, ◌+◌, ◌*◌, ◌-◌, ◌^◌, ◌<◌, ◌≤◌, min, Bool, false, ◌||◌, List, [], ◌∷◌, length, get_or, map, take, drop, slice_range, refl, sym, ap, ◌∙◌, arith, length-drop}
-use Rattle.std.specs.List.{list_any}
-use Rattle.std.proofs.lemmas.List.{length-take}
+use Rattle.cut_enum.proofs.Common.{◌≡◌, ℕ, suc, ◌+◌, ◌*◌, ◌-◌, ◌^◌, ◌<◌, ◌≤◌, min, Bool, false, ◌||◌, List, [], ◌∷◌, length, get_or, map, take, drop, slice_range, refl, sym, ap, ◌∙◌, arith, length-drop, list_any, length-take, GROUP, NoneClear, subset, signature_of}
 use Rattle.std.proofs.lemmas.List.Folds.{drop_split, list_any-append}
-use Rattle.cut_enum.specs.declared.limits.TheConstants.{GROUP}
-use Rattle.cut_enum.specs.Keeps.{NoneClear}
-use Rattle.cut_enum.specs.Merging.{subset}
-use Rattle.cut_enum.specs.Signature.{signature_of}
 use Rattle.cut_enum.proofs.SignatureLemmas.{outside-subset}
 
 -- none of a group whose words all have a bit outside is a part

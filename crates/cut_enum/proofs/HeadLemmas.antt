@@ -1,10 +1,5 @@
 -- The heads of two ascending lists, and the head of their union.
-use Rattle.std.proofs.Common.{◌≡◌, ℕ, ◌+◌, ◌-◌, ◌<◌, ◌≤◌, List, [], ◌∷◌, ◌++◌, length, get_or, take, drop, refl, sym, ap, ◌∙◌, inl, inr, arith, append_assoc, length-append}
-use Rattle.std.specs.List.{slice_set}
-use Rattle.std.proofs.lemmas.List.{take_all, take_more_set, append-nil, length-take-le}
-use Rattle.list_laws.specs.Members.{In}
-use Rattle.list_laws.specs.Order.{IsAscending}
-use Rattle.cut_enum.specs.Merging.{put, union}
+use Rattle.cut_enum.proofs.Common.{◌≡◌, ℕ, ◌+◌, ◌-◌, ◌<◌, ◌≤◌, List, [], ◌∷◌, ◌++◌, length, get_or, take, drop, refl, sym, ap, ◌∙◌, inl, inr, arith, append_assoc, length-append, slice_set, take_all, take_more_set, append-nil, length-take-le, In, IsAscending, put, union}
 use Rattle.cut_enum.proofs.SetLemmas.{put_at}
 
 put_past : (z x : ℕ) (b : List ℕ) → x < z → put z (x ∷ b) ≡ x ∷ put z b

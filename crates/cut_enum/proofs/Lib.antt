@@ -1,3 +1,4 @@
+mod Common
 pub mod SetLemmas
 mod UnionLemmas
 mod SignatureLemmas

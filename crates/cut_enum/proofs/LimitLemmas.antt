@@ -1,17 +1,5 @@
 -- A graph has one limit at most, and no table where it has one.
-use Rattle.std.proofs.Common.{◌≡◌, ℕ, suc, ◌+◌, ◌<◌, ◌≤◌, List, [], ◌∷◌, length, sum_by, refl, sym, ap, ◌∙◌, subst, inl, inr, arith, ◌⊎◌, Result, Ok, Err, IfOk, IfErr}
-use Rattle.std.proofs.lemmas.List.Sums.{sum_by-cons}
-use Rattle.std.proofs.lemmas.Bool.{cases_lt, cases_order}
-use Rattle.aig_core.specs.Aig.{Aig, first_and, node_count, IsAnd}
-use Rattle.cut_enum.specs.declared.limits.TheConstants.{MOST_OF_A_NODE, MOST_OF_A_TABLE}
-use Rattle.cut_sets.specs.Cuts.{AreMinimal}
-use Rattle.cut_enum.specs.Table.{row_at, AreRows}
-use Rattle.tl_fault.specs.OrMemory.{OrMemory}
-use Rattle.cut_enum.specs.Refusals.{refusal_of}
-use Rattle.cut_enum.specs.Limits.{Reaches, IsLimit}
-use Rattle.cut_enum.specs.declared.table.CutErr.{CutErr}
-use Rattle.cut_enum.specs.declared.table.CutErr.TheVariants.{NodeCuts, TotalCuts, Memory}
-use Rattle.cut_sets.proofs.OrderLemmas.{same_ordered}
+use Rattle.cut_enum.proofs.Common.{◌≡◌, ℕ, suc, ◌+◌, ◌<◌, ◌≤◌, List, [], ◌∷◌, length, sum_by, refl, sym, ap, ◌∙◌, subst, inl, inr, arith, ◌⊎◌, Result, Ok, Err, IfOk, IfErr, sum_by-cons, cases_lt, cases_order, Aig, first_and, node_count, IsAnd, MOST_OF_A_NODE, MOST_OF_A_TABLE, AreMinimal, row_at, AreRows, OrMemory, refusal_of, Reaches, IsLimit, CutErr, NodeCuts, TotalCuts, Memory, same_ordered}
 
 -- a node has one list of its minimal cuts
 pub minimal_once : (g : Aig) (k n : ℕ) (cs ds : List (List ℕ)) → AreMinimal g k n cs → AreMinimal g k n ds → cs ≡ ds

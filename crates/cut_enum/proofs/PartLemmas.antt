@@ -1,10 +1,5 @@
 -- Whether the elements of one ascending list are among those of another, by the heads of both.
-use Rattle.std.proofs.Common.{◌≡◌, ℕ, ◌-◌, ◌<◌, ◌≤◌, false, List, [], ◌∷◌, length, get_or, take, drop, refl, sym, ap, ◌∙◌, inl, inr, arith}
-use Rattle.std.proofs.lemmas.Bool.{cases_Bool}
-use Rattle.list_laws.specs.Members.{Within}
-use Rattle.list_laws.specs.Order.{IsAscending}
-use Rattle.list_laws.proofs.Choice.{same_test}
-use Rattle.cut_enum.specs.Merging.{subset}
+use Rattle.cut_enum.proofs.Common.{◌≡◌, ℕ, ◌-◌, ◌<◌, ◌≤◌, false, List, [], ◌∷◌, length, get_or, take, drop, refl, sym, ap, ◌∙◌, inl, inr, arith, cases_Bool, Within, IsAscending, same_test, subset}
 use Rattle.cut_enum.proofs.SetLemmas.{subset_true, subset_from}
 use Rattle.cut_enum.proofs.HeadLemmas.{rest_is}
 

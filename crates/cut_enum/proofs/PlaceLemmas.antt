@@ -1,14 +1,5 @@
 -- The place of a set in a list in order, and the halves in which it is looked for.
-use Rattle.std.proofs.Common.{◌≡◌, ℕ, zero, suc, ◌+◌, ◌-◌, ◌<◌, ◌≤◌, true, false, List, [], ◌∷◌, ◌++◌, length, get_or, map, take, drop, refl, sym, ap, ◌∙◌, subst, inl, inr, arith, length-append, length-drop}
-use Rattle.std.proofs.lemmas.List.{get_or_append_left, get_or_push, get_or-map, take-map, drop-map, map-append, take-append-drop, length-take-le}
-use Rattle.list_laws.specs.Members.{In}
-use Rattle.cut_enum.specs.Keeps.{listed, AreListed}
-use Rattle.std.specs.List.{insert}
-use Rattle.std.proofs.lemmas.Bool.{false≢true, both_ways, cases_Bool, cases_lt}
-use Rattle.list_laws.proofs.Members.{In-get_or, In-left, In-right, In-append, map_agree}
-use Rattle.cut_sets.specs.Sets.{before, IsOrdered}
-use Rattle.cut_enum.specs.Merging.{place, IsPlaceOf, IsAround}
-use Rattle.cut_sets.proofs.OrderLemmas.{before_trans, before-same}
+use Rattle.cut_enum.proofs.Common.{◌≡◌, ℕ, zero, suc, ◌+◌, ◌-◌, ◌<◌, ◌≤◌, true, false, List, [], ◌∷◌, ◌++◌, length, get_or, map, take, drop, refl, sym, ap, ◌∙◌, subst, inl, inr, arith, length-append, length-drop, get_or_append_left, get_or_push, get_or-map, take-map, drop-map, map-append, take-append-drop, length-take-le, In, listed, AreListed, insert, false≢true, both_ways, cases_Bool, cases_lt, In-get_or, In-left, In-right, In-append, map_agree, before, IsOrdered, place, IsPlaceOf, IsAround, before_trans, before-same}
 use Rattle.cut_enum.proofs.LevelLemmas.{place_at, IsOrdered-place}
 
 -- of two sets not both are before the other

@@ -1,9 +1,6 @@
 -- Where a leaf goes in an ascending list.
-use Rattle.std.proofs.Common.{◌≡◌, ℕ, zero, suc, ◌+◌, ◌<◌, ◌≤◌, List, [], ◌∷◌, length, get_or, refl, sym, ap, ◌∙◌, arith, drop}
-use Rattle.std.proofs.lemmas.List.{drop_more, drop_all}
-use Rattle.std.specs.List.{insert}
+use Rattle.cut_enum.proofs.Common.{◌≡◌, ℕ, zero, suc, ◌+◌, ◌<◌, ◌≤◌, List, [], ◌∷◌, length, get_or, refl, sym, ap, ◌∙◌, arith, drop, drop_more, drop_all, insert, put, union}
 use Rattle.std.proofs.lemmas.List.Edits.{length-insert}
-use Rattle.cut_enum.specs.Merging.{put, union}
 use Rattle.cut_enum.proofs.SetLemmas.{put_at}
 
 -- the place of x in a list: those before it are less, and what stands there is not

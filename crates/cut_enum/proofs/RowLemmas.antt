@@ -1,27 +1,7 @@
 -- The rows of a table, one node after another.
-use Rattle.std.proofs.Common.{◌≡◌, ℕ, ◌+◌, ◌-◌, ◌/◌, ◌<◌, ◌≤◌, cond, eqb, ltb, List, [], ◌∷◌, ◌++◌, length, sum_by, get_or, Option, Some, None, refl, sym, ap, ◌∙◌, subst, inl, inr, ◌⊎◌, arith, length-append}
-use Rattle.std.specs.List.{slice_get}
-use Rattle.std.proofs.lemmas.Option.{slice_get-get_or, none-some}
-use Rattle.std.proofs.lemmas.List.{get_or_push, get_or_past}
-use Rattle.std.proofs.lemmas.List.Sums.{sum_by_push}
+use Rattle.cut_enum.proofs.Common.{◌≡◌, ℕ, ◌+◌, ◌-◌, ◌/◌, ◌<◌, ◌≤◌, cond, eqb, ltb, List, [], ◌∷◌, ◌++◌, length, sum_by, get_or, Option, Some, None, refl, sym, ap, ◌∙◌, subst, inl, inr, ◌⊎◌, arith, length-append, slice_get, slice_get-get_or, none-some, get_or_push, get_or_past, sum_by_push, eqb-true, eqb-false, ltb-true, ltb-false, cases_lt, cases_order, Aig, first_and, node_count, IsAnd, pair_of, IsNormal, AreNormal, Regular, Parameter, Pair, MOST_OF_A_NODE, MOST_OF_A_TABLE, merged, IsNode, AreMinimal, constant, parameter, row_at, AreRows, AreApart, IsRow, IsTooMany, front_of, source_front, with_own, Reaches, IsLimit, NodeCuts, TotalCuts, Memory, CutErr, OrMemory, refusal_of, choose}
 use Rattle.std.proofs.Math.ListN.{get_or-append}
-use Rattle.std.proofs.lemmas.Bool.{eqb-true, eqb-false, ltb-true, ltb-false, cases_lt, cases_order}
-use Rattle.aig_core.specs.Aig.{Aig, first_and, node_count, IsAnd, pair_of, IsNormal, AreNormal}
 use Rattle.aig_core.specs.declared.lit.Kind.{Kind}
-use Rattle.aig_core.specs.declared.lit.Kind.TheVariants.{Regular, Parameter}
-use Rattle.aig_core.specs.declared.lit.Pair.{Pair}
-use Rattle.cut_enum.specs.declared.limits.TheConstants.{MOST_OF_A_NODE, MOST_OF_A_TABLE}
-use Rattle.cut_enum.specs.Merging.{merged}
-use Rattle.aig_core.specs.Aig.{IsNode}
-use Rattle.cut_sets.specs.Cuts.{AreMinimal, constant, parameter}
-use Rattle.cut_enum.specs.Table.{row_at, AreRows}
-use Rattle.cut_enum.specs.Merging.{AreApart, IsRow, IsTooMany, front_of, source_front, with_own}
-use Rattle.cut_enum.specs.Limits.{Reaches, IsLimit}
-use Rattle.cut_enum.specs.declared.table.CutErr.TheVariants.{NodeCuts, TotalCuts, Memory}
-use Rattle.cut_enum.specs.declared.table.CutErr.{CutErr}
-use Rattle.tl_fault.specs.OrMemory.{OrMemory}
-use Rattle.cut_enum.specs.Refusals.{refusal_of}
-use Rattle.list_laws.proofs.Choice.{choose}
 use Rattle.cut_enum.proofs.CutLemmas.{AreApart-front, IsFront, IsFront-node, IsFront-free, IsFront-regular, AreMinimal-merged}
 
 source_ok : (g : Aig) (k m : ℕ) (o : Option Kind) → 1 ≤ m → m - 1 < length g.kinds → slice_get g.kinds (m - 1) ≡ o → IsFront g k m (source_front m o)

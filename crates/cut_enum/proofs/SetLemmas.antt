@@ -1,11 +1,5 @@
 -- Unions and parts of ascending lists.
-use Rattle.std.proofs.Common.{◌≡◌, ℕ, ◌<◌, ◌≤◌, true, cond, ltb, eqb, List, [], ◌∷◌, refl, sym, subst, inl, inr, ◌⊎◌, arith}
-use Rattle.std.specs.List.{list_any}
-use Rattle.std.proofs.lemmas.Bool.{ltb-true, ltb-false, eqb-true, eqb-false, eq-eqb, and_parts, or_cases, or_left, or_right, and_from, false≢true}
-use Rattle.list_laws.specs.Members.{In, Within}
-use Rattle.list_laws.specs.Order.{IsAscending}
-use Rattle.cut_enum.specs.Merging.{put, union, subset}
-use Rattle.list_laws.proofs.Choice.{choose}
+use Rattle.cut_enum.proofs.Common.{◌≡◌, ℕ, ◌<◌, ◌≤◌, true, cond, ltb, eqb, List, [], ◌∷◌, refl, sym, subst, inl, inr, ◌⊎◌, arith, list_any, ltb-true, ltb-false, eqb-true, eqb-false, eq-eqb, and_parts, or_cases, or_left, or_right, and_from, false≢true, In, Within, IsAscending, put, union, subset, choose}
 
 -- what holds of `put` at a cell, by the order of the two heads
 pub put_at : (P : List ℕ → Type 0) (x y : ℕ) (ys : List ℕ) → (x < y → P (x ∷ y ∷ ys)) → (x ≡ y → P (y ∷ ys)) → (y < x → P (y ∷ put x ys)) → P (put x (y ∷ ys))

@@ -1,15 +1,5 @@
 -- The bits that the words of a group share.
-use Rattle.std.proofs.Common.{◌≡◌, ℕ, suc, ◌+◌, ◌-◌, ◌*◌, ◌^◌, ◌<◌, ◌≤◌, max, min, false, ◌||◌, List, [], ◌∷◌, ◌++◌, length, get_or, map, take, drop, slice_range, refl, sym, ap, ◌∙◌, subst, inl, inr, arith, bit_or, length-append, length-drop}
-use Rattle.std.specs.Int.{bit_at}
-use Rattle.std.specs.Int.Bits.{bit_and}
-use Rattle.std.specs.List.{list_any}
-use Rattle.std.proofs.lemmas.Bool.{cases_Bool, cases_lt}
-use Rattle.std.proofs.lemmas.List.{get_or_append_left, get_or-append-add, get_or-take, get_or-drop, length-take}
-use Rattle.std.proofs.lemmas.Nat.Bits.{bit_at_or, bit_at_and, same_from_bits}
-use Rattle.cut_enum.specs.declared.limits.TheConstants.{GROUP}
-use Rattle.cut_enum.specs.Keeps.{AllHave, AreShared}
-use Rattle.cut_enum.specs.Merging.{subset}
-use Rattle.cut_enum.specs.Signature.{signature_of}
+use Rattle.cut_enum.proofs.Common.{◌≡◌, ℕ, suc, ◌+◌, ◌-◌, ◌*◌, ◌^◌, ◌<◌, ◌≤◌, max, min, false, ◌||◌, List, [], ◌∷◌, ◌++◌, length, get_or, map, take, drop, slice_range, refl, sym, ap, ◌∙◌, subst, inl, inr, arith, bit_or, length-append, length-drop, bit_at, bit_and, list_any, cases_Bool, cases_lt, get_or_append_left, get_or-append-add, get_or-take, get_or-drop, length-take, bit_at_or, bit_at_and, same_from_bits, GROUP, AllHave, AreShared, subset, signature_of}
 use Rattle.cut_enum.proofs.SetLemmas.{subset_true}
 use Rattle.cut_enum.proofs.SignatureLemmas.{signature-within, outside-none}
 

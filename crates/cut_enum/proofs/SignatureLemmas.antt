@@ -1,15 +1,8 @@
 -- What the signatures of two lists say of the lists.
-use Rattle.std.proofs.Common.{◌≡◌, ℕ, zero, suc, ◌+◌, ◌-◌, ◌*◌, ◌/◌, ◌%◌, ◌^◌, ◌<◌, ◌≤◌, max, min, List, [], ◌∷◌, length, refl, sym, ap, ◌∙◌, inl, inr, arith, bit_or, count_ones, false}
+use Rattle.cut_enum.proofs.Common.{◌≡◌, ℕ, zero, suc, ◌+◌, ◌-◌, ◌*◌, ◌/◌, ◌%◌, ◌^◌, ◌<◌, ◌≤◌, max, min, List, [], ◌∷◌, length, refl, sym, ap, ◌∙◌, inl, inr, arith, bit_or, count_ones, false, bit_at, bit_and, bit_at-zero, bit_at_or, bit_at_and, bit_at_lowest, same_from_bits, cases_Bool, In, Within, union, subset, leaf_bit, signature_of}
 use Rattle.std.proofs.Math.Nat.{pow-succ'}
-use Rattle.std.specs.Int.{bit_at}
 use Rattle.std.proofs.lemmas.Nat.{or_shr, and-not}
-use Rattle.std.specs.Int.Bits.{bit_and}
-use Rattle.std.proofs.lemmas.Nat.Bits.{bit_at-zero, bit_at_or, bit_at_and, bit_at_lowest, same_from_bits}
 use lib.Count.{ones_step, ones-le}
-use Rattle.std.proofs.lemmas.Bool.{cases_Bool}
-use Rattle.list_laws.specs.Members.{In, Within}
-use Rattle.cut_enum.specs.Merging.{union, subset}
-use Rattle.cut_enum.specs.Signature.{leaf_bit, signature_of}
 use Rattle.cut_enum.proofs.SetLemmas.{In-union, union_left, union_right, subset_true}
 
 -- the bits of a member are among those of the list

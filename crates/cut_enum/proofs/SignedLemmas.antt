@@ -1,10 +1,5 @@
 -- Signatures one after another: of the leaves of a cut, and of the cuts of a list.
-use Rattle.std.proofs.Common.{◌≡◌, ℕ, zero, suc, ◌+◌, ◌-◌, ◌<◌, ◌≤◌, max, List, [], ◌∷◌, length, get_or, map, take, drop, slice_range, sym, ap, ◌∙◌, arith, bit_or}
-use Rattle.std.specs.Int.{bit_at}
-use Rattle.std.specs.Int.Bits.{or_zero_r}
-use Rattle.std.proofs.lemmas.List.{take-map, drop-map, length-map, drop_all, drop_more}
-use Rattle.std.proofs.lemmas.Nat.Bits.{bit_at_or, same_from_bits}
-use Rattle.cut_enum.specs.Signature.{leaf_bit, signature_of}
+use Rattle.cut_enum.proofs.Common.{◌≡◌, ℕ, zero, suc, ◌+◌, ◌-◌, ◌<◌, ◌≤◌, max, List, [], ◌∷◌, length, get_or, map, take, drop, slice_range, sym, ap, ◌∙◌, arith, bit_or, bit_at, or_zero_r, take-map, drop-map, length-map, drop_all, drop_more, bit_at_or, same_from_bits, leaf_bit, signature_of}
 
 or_assoc : (a b c : ℕ) → bit_or (bit_or a b) c ≡ bit_or a (bit_or b c)
 or_assoc a b c =

@@ -1,8 +1,5 @@
 -- Reading a part, and putting one more at the end.
-use Rattle.std.proofs.Common.{◌≡◌, ℕ, zero, suc, ◌+◌, ◌-◌, ◌<◌, ◌≤◌, List, [], ◌∷◌, ◌++◌, length, get_or, take, drop, slice_range, sum_by, refl, sym, ap, ◌∙◌, subst, arith, length-append, length-drop}
-use Rattle.std.proofs.lemmas.List.{take-append-le, drop-append-le, drop_all, take_all}
-use Rattle.std.proofs.lemmas.List.Sums.{sum_by_push}
-use Rattle.cut_enum.specs.declared.limits.TheConstants.{MOST_OF_A_TABLE}
+use Rattle.cut_enum.proofs.Common.{◌≡◌, ℕ, zero, suc, ◌+◌, ◌-◌, ◌<◌, ◌≤◌, List, [], ◌∷◌, ◌++◌, length, get_or, take, drop, slice_range, sum_by, refl, sym, ap, ◌∙◌, subst, arith, length-append, length-drop, take-append-le, drop-append-le, drop_all, take_all, sum_by_push, MOST_OF_A_TABLE}
 use Rattle.cut_enum.specs.Spans.{parts_from, parts_of, RisesTo, StartsTo, IsFlat}
 
 rises_le : (last start : ℕ) (ends : List ℕ) → RisesTo last start ends → start ≤ last

@@ -1,8 +1,5 @@
 -- A graph has one table of cuts.
-use Rattle.std.proofs.Common.{◌≡◌, ℕ, List, [], length, arith}
-use Rattle.std.proofs.lemmas.List.{ext_get_or}
-use Rattle.aig_core.specs.Aig.{Aig, node_count}
-use Rattle.cut_enum.specs.Table.{AreRows}
+use Rattle.cut_enum.proofs.Common.{◌≡◌, ℕ, List, [], length, arith, ext_get_or, Aig, node_count, AreRows}
 use Rattle.cut_enum.proofs.LimitLemmas.{same_row}
 
 pub table_once : (g : Aig) (k : ℕ) (rows more : List (List (List ℕ))) → AreRows g k (node_count g) rows → AreRows g k (node_count g) more → rows ≡ more

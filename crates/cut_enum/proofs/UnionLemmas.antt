@@ -1,11 +1,7 @@
 -- The union that the code makes is the union of the two lists, of which there is one.
-use Rattle.std.proofs.Common.{◌≡◌, ℕ, ◌<◌, ◌≤◌, List, length, Option, Some, None, MatchOption, IfSome, IfNone, sym, subst, inl, inr}
-use Rattle.list_laws.specs.Members.{Within}
-use Rattle.list_laws.specs.Order.{IsAscending}
-use Rattle.cut_enum.specs.Merging.{union}
+use Rattle.cut_enum.proofs.Common.{◌≡◌, ℕ, ◌<◌, ◌≤◌, List, length, Option, Some, None, MatchOption, IfSome, IfNone, sym, subst, inl, inr, Within, IsAscending, union, same_within}
 use Rattle.cut_enum.specs.Unions.{IsUnion}
 use Rattle.cut_enum.proofs.SetLemmas.{In-union, union_left, union_right, IsAscending-union}
-use Rattle.cut_sets.proofs.AscendingLemmas.{same_within}
 
 pub IsUnion-union : (a b : List ℕ) → IsAscending b → IsUnion a b (union a b)
 IsUnion-union a b up = record { ascending = IsAscending-union a b up; only = In-union a b; left = union_left a b; right = union_right a b }

@@ -1,16 +1,5 @@
 -- Several starts in turn.
-use Rattle.std.proofs.Common.{◌≡◌, ℕ, ◌+◌, ◌<◌, true, false, List, [], ◌∷◌, length, drop, get_or, Option, Some, None, refl, ap, ◌∙◌}
-use Rattle.std.specs.Prelude.{is_some}
-use Rattle.std.proofs.lemmas.Bool.{true≢false, false≢true}
-use Rattle.std.proofs.lemmas.Option.{slice_get-get_or}
-use Rattle.list_laws.proofs.Places.{drop_get}
-use Rattle.depth_first.specs.declared.edge.Edge.{Edge}
-use Rattle.depth_first.specs.declared.edge.End.{End}
-use Rattle.depth_first.specs.DepthFirst.{first, later, MeetsAll, PostsAll, more}
-use Rattle.depth_first.specs.Order.{IsSettled}
-use Rattle.depth_first.specs.Edges.{ways_from, successors}
-use Rattle.depth_first.specs.Walk.{WalkValue, Visited, VisitedAll, ending_of, leads_to}
-use Rattle.depth_first.specs.Steps.{AreLeft}
+use Rattle.depth_first.proofs.Common.{◌≡◌, ℕ, ◌+◌, ◌<◌, true, false, List, [], ◌∷◌, length, drop, get_or, Option, Some, None, refl, ap, ◌∙◌, is_some, true≢false, false≢true, slice_get-get_or, drop_get, Edge, End, first, later, MeetsAll, PostsAll, more, IsSettled, ways_from, successors, WalkValue, Visited, VisitedAll, ending_of, leads_to, AreLeft}
 use Rattle.depth_first.proofs.DepthLemmas.{settled_after}
 use Rattle.depth_first.proofs.PostLemmas.{adds_all}
 

@@ -1,20 +1,6 @@
 -- A walk that comes on, and what is taken back where memory runs out.
-use Rattle.std.proofs.Common.{◌≡◌, ℕ, suc, ◌-◌, ◌<◌, ◌≤◌, Option, List, [], ◌∷◌, ◌++◌, length, take, drop, reverse, Some, None, refl, sym, ap, ◌∙◌, subst, subst₂, append_assoc, length-append, take-append-drop, inl, inr, arith}
-use Rattle.std.specs.Prelude.{slice_get, slice_set}
-use Rattle.std.proofs.Math.Seq.{take-append_seam, drop-append_seam}
-use Rattle.std.proofs.lemmas.List.{length-drop, length-reverse, reverse-append}
-use Rattle.std.proofs.lemmas.Option.{none-some, same_Some}
-use Rattle.list_laws.specs.Members.{In}
+use Rattle.depth_first.proofs.Common.{◌≡◌, ℕ, suc, ◌-◌, ◌<◌, ◌≤◌, Option, List, [], ◌∷◌, ◌++◌, length, take, drop, reverse, Some, None, refl, sym, ap, ◌∙◌, subst, subst₂, append_assoc, length-append, take-append-drop, inl, inr, arith, slice_get, slice_set, take-append_seam, drop-append_seam, length-drop, length-reverse, reverse-append, none-some, same_Some, In, at_within, set_other, set_length, Edge, Frame, Mark, New, OnPath, Done, End, WalkValue, Followed, passes, stops_at, enters, hits, skips_over, seen, FramesValue, path_of, entered, first_of, others_of, advanced, finished, without_begun, renewed, forgotten, renewed_since, taken_back, AreMarks, AreKept, HasGrown}
 use Rattle.list_laws.proofs.Members.{In-append, In-right}
-use Rattle.list_laws.proofs.Places.{at_within, set_other, set_length}
-use Rattle.depth_first.specs.declared.edge.Edge.{Edge}
-use Rattle.depth_first.specs.declared.frames.Frame.{Frame}
-use Rattle.depth_first.specs.declared.frames.Mark.{Mark}
-use Rattle.depth_first.specs.declared.frames.Mark.TheVariants.{New, OnPath, Done}
-use Rattle.depth_first.specs.declared.edge.End.{End}
-use Rattle.depth_first.specs.Walk.{WalkValue}
-use Rattle.depth_first.specs.Steps.{Followed, passes, stops_at, enters, hits, skips_over, seen}
-use Rattle.depth_first.specs.Frames.{FramesValue, path_of, entered, first_of, others_of, advanced, finished, without_begun, renewed, forgotten, renewed_since, taken_back, AreMarks, AreKept, HasGrown}
 use Rattle.depth_first.proofs.ClearLemmas.{forgotten-length, forgotten-get, first_others}
 
 -- the last so many of a reversed list

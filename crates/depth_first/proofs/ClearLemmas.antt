@@ -1,14 +1,5 @@
 -- The marks once the nodes that were entered are forgotten.
-use Rattle.std.proofs.Common.{◌≡◌, ℕ, ◌<◌, List, [], ◌∷◌, length, Some, refl, sym, ap, ◌∙◌, subst, inl, inr, ◌⊎◌}
-use Rattle.std.specs.Prelude.{slice_get, slice_set}
-use Rattle.std.proofs.lemmas.Option.{none-some, same_Some, slice_get_within}
-use Rattle.list_laws.specs.Members.{In}
-use Rattle.list_laws.proofs.Places.{set_here, set_other, set_length, same_or}
-use Rattle.depth_first.specs.declared.frames.Mark.{Mark}
-use Rattle.depth_first.specs.declared.frames.Mark.TheVariants.{New, OnPath, Done}
-use Rattle.depth_first.specs.Walk.{WalkValue}
-use Rattle.depth_first.specs.Steps.{seen}
-use Rattle.depth_first.specs.Frames.{FramesValue, path_of, first_of, others_of, without_begun, renewed, forgotten, AreForgettable, AreMarks}
+use Rattle.depth_first.proofs.Common.{◌≡◌, ℕ, ◌<◌, List, [], ◌∷◌, length, Some, refl, sym, ap, ◌∙◌, subst, inl, inr, ◌⊎◌, slice_get, slice_set, none-some, same_Some, slice_get_within, In, set_here, set_other, set_length, same_or, Mark, New, OnPath, Done, WalkValue, seen, FramesValue, path_of, first_of, others_of, without_begun, renewed, forgotten, AreForgettable, AreMarks}
 
 abbrev pub with_count : ℕ → WalkValue
 with_count n = record { count = n; begun = []; order = []; path = [] }

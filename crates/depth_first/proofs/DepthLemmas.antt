@@ -1,8 +1,5 @@
 -- A walk without memory comes to no end from a node that is done.
-use Rattle.std.proofs.Common.{List, [], ◌∷◌, None, refl, ap, ◌∙◌, subst, inl, inr}
-use Rattle.list_laws.specs.Members.{In}
-use Rattle.depth_first.specs.DepthFirst.{Way, leads, stops, nodes_of, Meets, goes, MeetsAll, later}
-use Rattle.depth_first.specs.Order.{IsAfter, LeadsInto, IsSettled}
+use Rattle.depth_first.proofs.Common.{List, [], ◌∷◌, None, refl, ap, ◌∙◌, subst, inl, inr, In, Way, leads, stops, nodes_of, Meets, goes, MeetsAll, later, IsAfter, LeadsInto, IsSettled}
 
 module _ {N S : Type 0} (ways : N → List (Way N S)) where
   -- a way along which a walk comes to no end

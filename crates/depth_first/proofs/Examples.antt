@@ -1,10 +1,5 @@
 -- Worked examples of the definitions: a diamond, a loop and a stop.
-use Rattle.std.proofs.Common.{◌≡◌, ℕ, zero, suc, List, [], ◌∷◌, Some, refl, inl, inr, arith}
-use Rattle.list_laws.specs.Members.{In}
-use Rattle.depth_first.specs.declared.edge.Edge.TheVariants.{Node, Stop, Pass}
-use Rattle.depth_first.specs.DepthFirst.{Way, leads, stops, nodes_of, repeats, halts, Meets, met, goes, MeetsAll, stop, first, later, Posts, skips, posts, PostsAll, more}
-use Rattle.depth_first.specs.Reach.{Reaches, here, through}
-use Rattle.depth_first.specs.Edges.{ways_of}
+use Rattle.depth_first.proofs.Common.{◌≡◌, ℕ, zero, suc, List, [], ◌∷◌, Some, refl, inl, inr, arith, In, Node, Stop, Pass, Way, leads, stops, nodes_of, repeats, halts, Meets, met, goes, MeetsAll, stop, first, later, Posts, skips, posts, PostsAll, more, Reaches, here, through, ways_of}
 
 -- edges that are passed over aren't seen
 seen_ways : ways_of {S = ℕ} (Pass ∷ Node 3 ∷ Stop 7 ∷ Pass ∷ Node 2 ∷ []) ≡ leads 3 ∷ stops 7 ∷ leads 2 ∷ []

@@ -1,7 +1,5 @@
 -- A walk along edges that lead to lower nodes alone comes to no end.
-use Rattle.std.proofs.Common.{◌≡◌, ℕ, ◌<◌, List, [], ◌∷◌, Option, None, refl, sym, subst, inl, inr, arith}
-use Rattle.list_laws.specs.Members.{In}
-use Rattle.depth_first.specs.DepthFirst.{Way, leads, stops, Ending, Meets, met, goes, MeetsAll, none, stop, first, later}
+use Rattle.depth_first.proofs.Common.{◌≡◌, ℕ, ◌<◌, List, [], ◌∷◌, Option, None, refl, sym, subst, inl, inr, arith, In, Way, leads, stops, Ending, Meets, met, goes, MeetsAll, none, stop, first, later}
 
 module _ {S : Type 0} (ways : ℕ → List (Way ℕ S)) where
   -- a way that leads below each of these nodes

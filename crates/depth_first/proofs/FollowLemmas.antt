@@ -1,18 +1,5 @@
 -- One step of a walk: the next edge of the path's last node is followed, or the node is left.
-use Rattle.std.proofs.Common.{◌≡◌, ℕ, zero, suc, ◌<◌, List, [], ◌∷◌, length, Option, Some, None, refl, sym, subst, subst₂, inl, inr}
-use Rattle.std.specs.Prelude.{slice_get}
-use Rattle.std.proofs.lemmas.Option.{none-some, same_Some}
-use Rattle.list_laws.specs.Members.{In}
-use Rattle.list_laws.proofs.Places.{set_length}
-use Rattle.depth_first.specs.declared.edge.Edge.{Edge}
-use Rattle.depth_first.specs.declared.edge.Edge.TheVariants.{Node, Stop, Pass}
-use Rattle.depth_first.specs.declared.edge.End.{End}
-use Rattle.depth_first.specs.declared.frames.Frame.{Frame}
-use Rattle.depth_first.specs.declared.frames.Mark.TheVariants.{OnPath, Done}
-use Rattle.depth_first.specs.DepthFirst.{nodes_of}
-use Rattle.depth_first.specs.Edges.{ways_of, successors, AreNodes}
-use Rattle.depth_first.specs.Frames.{FramesValue, path_of, first_of, others_of, advanced, finished, AreKept}
-use Rattle.depth_first.specs.Steps.{IsEdgeWithin, Followed, passes, stops_at, enters, hits, skips_over, IsGoing, Stepped}
+use Rattle.depth_first.proofs.Common.{◌≡◌, ℕ, zero, suc, ◌<◌, List, [], ◌∷◌, length, Option, Some, None, refl, sym, subst, subst₂, inl, inr, slice_get, none-some, same_Some, In, set_length, Edge, Node, Stop, Pass, End, Frame, OnPath, Done, nodes_of, ways_of, successors, AreNodes, FramesValue, path_of, first_of, others_of, advanced, finished, AreKept, IsEdgeWithin, Followed, passes, stops_at, enters, hits, skips_over, IsGoing, Stepped}
 use Rattle.depth_first.proofs.MarkLemmas.{marks_entered, marks_finished}
 use Rattle.depth_first.proofs.StepLemmas.{with_top, top_is, left_stop, meets_stop, enters_stop, meets_hit, enters_hit, one_more, end_step, pass_step, done_step, new_step}
 

@@ -1,3 +1,4 @@
+mod Common
 mod DepthLemmas
 pub mod PostLemmas
 mod WorkLemmas

@@ -1,13 +1,5 @@
 -- The marks after a new node is put on the path, and after the last node of the path is left; and a node on the path, by its mark.
-use Rattle.std.proofs.Common.{◌≡◌, ℕ, ◌<◌, ◌↔◌, IsTrue, List, ◌∷◌, length, Option, Some, None, sym, ◌∙◌, subst, refl, inl, inr}
-use Rattle.std.specs.Prelude.{slice_get, slice_set}
-use Rattle.std.proofs.lemmas.Bool.{false≢true}
-use Rattle.std.proofs.lemmas.Option.{none-some, same_Some, slice_get_within}
-use Rattle.list_laws.specs.Members.{In}
-use Rattle.list_laws.proofs.Places.{at_within, set_here, set_other, set_length, same_or}
-use Rattle.depth_first.specs.declared.frames.Mark.{Mark}
-use Rattle.depth_first.specs.declared.frames.Mark.TheVariants.{New, OnPath, Done}
-use Rattle.depth_first.specs.Frames.{AreMarks, has_path_mark}
+use Rattle.depth_first.proofs.Common.{◌≡◌, ℕ, ◌<◌, ◌↔◌, IsTrue, List, ◌∷◌, length, Option, Some, None, sym, ◌∙◌, subst, refl, inl, inr, slice_get, slice_set, false≢true, none-some, same_Some, slice_get_within, In, at_within, set_here, set_other, set_length, same_or, Mark, New, OnPath, Done, AreMarks, has_path_mark}
 
 -- the mark of a node after one was set
 set_mark : (marks : List Mark) (n k : ℕ) (x y : Mark) → n < length marks → slice_get (slice_set marks n x) k ≡ Some y → k ≡ n → x ≡ y

@@ -1,11 +1,5 @@
 -- The nodes of a stack.
-use Rattle.std.proofs.Common.{◌≡◌, ℕ, ◌+◌, ◌<◌, ◌≤◌, eqb, eqb-true, eq-eqb, List, [], ◌∷◌, ◌++◌, length, take, reverse, get_or, refl, sym, ap, ◌∙◌, arith}
-use Rattle.std.proofs.lemmas.Bool.{false_from_ne_true}
-use Rattle.std.proofs.lemmas.List.{reverse-append, take_more}
-use Rattle.std.proofs.Math.Seq.{take-length}
-use Rattle.depth_first.specs.declared.frames.Frame.{Frame}
-use Rattle.depth_first.specs.Frames.{path_of}
-use Rattle.depth_first.specs.Walk.{from_node}
+use Rattle.depth_first.proofs.Common.{◌≡◌, ℕ, ◌+◌, ◌<◌, ◌≤◌, eqb, eqb-true, eq-eqb, List, [], ◌∷◌, ◌++◌, length, take, reverse, get_or, refl, sym, ap, ◌∙◌, arith, false_from_ne_true, reverse-append, take_more, take-length, Frame, path_of, from_node}
 
 pub path_of-append : (fs gs : List Frame) → path_of (fs ++ gs) ≡ path_of fs ++ path_of gs
 path_of-append [] gs = refl

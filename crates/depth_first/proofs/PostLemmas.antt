@@ -1,9 +1,5 @@
 -- The nodes that a postorder does are those that its starts reach.
-use Rattle.std.proofs.Common.{List, [], ◌∷◌, sym, subst, refl, inl, inr, ◌⊎◌}
-use Rattle.list_laws.specs.Members.{In}
-use Rattle.depth_first.specs.DepthFirst.{Posts, skips, posts, PostsAll, none, more}
-use Rattle.depth_first.specs.Order.{IsAfter}
-use Rattle.depth_first.specs.Reach.{Reaches, here, through, IsReached, AddsReached}
+use Rattle.depth_first.proofs.Common.{List, [], ◌∷◌, sym, subst, refl, inl, inr, ◌⊎◌, In, Posts, skips, posts, PostsAll, none, more, IsAfter, Reaches, here, through, IsReached, AddsReached}
 
 module _ {N : Type 0} (next : N → List N) where
   -- what was done stays

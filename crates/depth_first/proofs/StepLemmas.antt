@@ -1,18 +1,6 @@
 -- Steps of a walk with marks and a stack.
-use Rattle.std.proofs.Common.{◌≡◌, ℕ, ◌+◌, ◌<◌, ◌≤◌, List, [], ◌∷◌, length, Option, Some, None, refl, sym, ap, subst, inl, inr, arith}
-use Rattle.std.specs.Prelude.{slice_get, slice_set}
-use Rattle.std.proofs.lemmas.Option.{none-some, same_Some}
-use Rattle.list_laws.specs.Members.{In}
-use Rattle.list_laws.proofs.Places.{drop_get, drop_past, past_end, set_length}
-use Rattle.depth_first.specs.declared.edge.Edge.{Edge}
-use Rattle.depth_first.specs.declared.edge.Edge.TheVariants.{Node, Stop, Pass}
-use Rattle.depth_first.specs.declared.frames.Frame.{Frame}
-use Rattle.depth_first.specs.declared.frames.Mark.TheVariants.{New, OnPath, Done}
+use Rattle.depth_first.proofs.Common.{◌≡◌, ℕ, ◌+◌, ◌<◌, ◌≤◌, List, [], ◌∷◌, length, Option, Some, None, refl, sym, ap, subst, inl, inr, arith, slice_get, slice_set, none-some, same_Some, In, drop_get, drop_past, past_end, set_length, Edge, Node, Stop, Pass, Frame, New, OnPath, Done, LeadsInto, ways_of, ways_from, successors, FramesValue, path_of, first_of, others_of, entered, onward, advanced, finished, left_of, frames_work, new_work, walk_work, MeetsLeft, PostsLeft, EntersLeft, ArePassed, IsGoing, IsLater, Stepped}
 use Rattle.depth_first.specs.DepthFirst.{Way, leads, stops, Ending, repeats, halts, nodes_of, Meets, met, goes, MeetsAll, stop, first, later, skips, posts, PostsAll, more, Outcome, ends_at, goes_through, Enters, ended, stopped_at, back, again, inside, onward as onward_to}
-use Rattle.depth_first.specs.Order.{LeadsInto}
-use Rattle.depth_first.specs.Edges.{ways_of, ways_from, successors}
-use Rattle.depth_first.specs.Frames.{FramesValue, path_of, first_of, others_of, entered, onward, advanced, finished}
-use Rattle.depth_first.specs.Steps.{left_of, frames_work, new_work, walk_work, MeetsLeft, PostsLeft, EntersLeft, ArePassed, IsGoing, IsLater, Stepped}
 use Rattle.depth_first.proofs.DepthLemmas.{done_meets, leads_more}
 use Rattle.depth_first.proofs.MarkLemmas.{marks_entered, marks_finished}
 use Rattle.depth_first.proofs.WorkLemmas.{enter_less, finish_less}

@@ -1,20 +1,6 @@
 -- The walk to the end of its stack, and the visit of a start.
-use Rattle.std.proofs.Common.{◌≡◌, ℕ, ◌<◌, true, false, List, [], ◌∷◌, length, Option, Some, None, refl, sym, ap, ◌∙◌, subst, inl, inr}
-use Rattle.std.specs.Prelude.{slice_get, is_some}
-use Rattle.std.proofs.lemmas.Bool.{true≢false, false≢true}
-use Rattle.std.proofs.lemmas.Option.{none-some}
-use Rattle.list_laws.specs.Members.{In}
-use Rattle.list_laws.proofs.Places.{set_length}
-use Rattle.depth_first.specs.declared.edge.Edge.{Edge}
-use Rattle.depth_first.specs.declared.edge.End.{End}
-use Rattle.depth_first.specs.declared.frames.Frame.{Frame}
-use Rattle.depth_first.specs.declared.frames.Mark.TheVariants.{New, OnPath, Done}
+use Rattle.depth_first.proofs.Common.{◌≡◌, ℕ, ◌<◌, true, false, List, [], ◌∷◌, length, Option, Some, None, refl, sym, ap, ◌∙◌, subst, inl, inr, slice_get, is_some, true≢false, false≢true, none-some, In, set_length, Edge, End, Frame, New, OnPath, Done, IsSettled, ways_from, successors, Visited, ending_of, FramesValue, path_of, first_of, entered, AreMarks, AreKept, walk_work, MeetsLeft, PostsLeft, EntersLeft, ArePassed, IsGoing, IsLater, Stepped, Ran, seen}
 use Rattle.depth_first.specs.DepthFirst.{leads, Ending, Meets, goes, MeetsAll, Posts, skips, posts, Outcome, ends_at, goes_through, Enters, ended, again, inside, onward}
-use Rattle.depth_first.specs.Order.{IsSettled}
-use Rattle.depth_first.specs.Edges.{ways_from, successors}
-use Rattle.depth_first.specs.Walk.{Visited, ending_of}
-use Rattle.depth_first.specs.Frames.{FramesValue, path_of, first_of, entered, AreMarks, AreKept}
-use Rattle.depth_first.specs.Steps.{walk_work, MeetsLeft, PostsLeft, EntersLeft, ArePassed, IsGoing, IsLater, Stepped, Ran, seen}
 use Rattle.depth_first.proofs.DepthLemmas.{done_meets, settled_after}
 use Rattle.depth_first.proofs.PostLemmas.{adds_one}
 use Rattle.depth_first.proofs.MarkLemmas.{marks_entered}

@@ -1,11 +1,5 @@
 -- The work that is left grows less.
-use Rattle.std.proofs.Common.{◌≡◌, ℕ, zero, suc, ◌+◌, ◌≤◌, List, [], ◌∷◌, length, Some, refl, arith}
-use Rattle.std.specs.Prelude.{slice_get, slice_set}
-use Rattle.std.proofs.lemmas.Option.{none-some, same_Some}
-use Rattle.depth_first.specs.declared.edge.Edge.{Edge}
-use Rattle.depth_first.specs.declared.frames.Mark.{Mark}
-use Rattle.depth_first.specs.declared.frames.Mark.TheVariants.{New, OnPath, Done}
-use Rattle.depth_first.specs.Steps.{new_work}
+use Rattle.depth_first.proofs.Common.{◌≡◌, ℕ, zero, suc, ◌+◌, ◌≤◌, List, [], ◌∷◌, length, Some, refl, arith, slice_get, slice_set, none-some, same_Some, Edge, Mark, New, OnPath, Done, new_work}
 
 pub enter_less : {S : Type 0} (edges : ℕ → List (Edge S)) (ms : List Mark) (n : ℕ) → slice_get ms n ≡ Some New
     → new_work edges (slice_set ms n OnPath) + (1 + length (edges n)) ≡ new_work edges ms

@@ -1,10 +1,5 @@
 -- A label is a lower bound of the depth in every cover.
-use Rattle.std.proofs.Common.{◌≡◌, ℕ, suc, ◌≤◌, List, [], ◌∷◌, Option, Some, refl, ap, inl, inr, arith}
-use Rattle.aig_core.specs.Aig.{Aig, first_and, IsAnd, AreNormal}
-use Rattle.list_laws.specs.Members.{In, Within}
-use Rattle.cut_sets.specs.Cuts.{IsCut, AreMinimal, Covers}
-use Rattle.cut_sets.proofs.BlockLemmas.{minimal_within}
-use Rattle.depth_label.specs.Label.{greatest, height, AreLabels}
+use Rattle.depth_label.proofs.Common.{◌≡◌, ℕ, suc, ◌≤◌, List, [], ◌∷◌, Option, Some, refl, ap, inl, inr, arith, Aig, first_and, IsAnd, AreNormal, In, Within, IsCut, AreMinimal, Covers, minimal_within, greatest, height, AreLabels}
 use Rattle.cut_sets.specs.Covers.{IsCover, HasDepth, source, free, table}
 
 -- where every element's label is at most d, so is the greatest

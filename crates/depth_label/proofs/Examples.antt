@@ -1,11 +1,6 @@
 -- A worked example: the labels of the multiplexer whose choice is a parameter.
-use Rattle.std.proofs.Common.{◌≡◌, ℕ, zero, suc, ◌<◌, ◌≤◌, List, [], ◌∷◌, refl, sym, subst, inl, inr, arith}
-use Rattle.std.proofs.lemmas.List.{get_or_past}
-use Rattle.aig_core.specs.Aig.{IsAnd}
-use Rattle.list_laws.specs.Members.{In}
-use Rattle.cut_enum.specs.Table.{row_at}
+use Rattle.depth_label.proofs.Common.{◌≡◌, ℕ, zero, suc, ◌<◌, ◌≤◌, List, [], ◌∷◌, refl, sym, subst, inl, inr, arith, get_or_past, IsAnd, In, row_at, height, LabelsValue, label_of, best_of, IsAsGood, lower, tie, IsBestCut, AreLabelled}
 use Rattle.cut_enum.proofs.Examples.{mux, mux_rows, last_cuts}
-use Rattle.depth_label.specs.Label.{height, LabelsValue, label_of, best_of, IsAsGood, lower, tie, IsBestCut, AreLabelled}
 
 -- its AND nodes are 4, 5 and 6
 pub mux_nodes : (P : ℕ → Type 0) → P 4 → P 5 → P 6 → (n : ℕ) → IsAnd mux n → P n

@@ -1,19 +1,9 @@
 -- The labels of the nodes are the least heights of their cuts, node by node.
-use Rattle.std.proofs.Common.{◌≡◌, ℕ, ◌+◌, ◌-◌, ◌/◌, ◌^◌, ◌<◌, ◌≤◌, List, [], ◌∷◌, ◌++◌, length, Some, None, refl, sym, ap, ◌∙◌, subst, inl, inr, ◌⊎◌, arith, get_or, length-append}
+use Rattle.depth_label.proofs.Common.{◌≡◌, ℕ, ◌+◌, ◌-◌, ◌/◌, ◌^◌, ◌<◌, ◌≤◌, List, [], ◌∷◌, ◌++◌, length, Some, None, refl, sym, ap, ◌∙◌, subst, inl, inr, ◌⊎◌, arith, get_or, length-append, get_or_push, get_or_past, slice_get-get_or, cases_lt, cases_order, Aig, first_and, node_count, IsAnd, IsNormal, AreNormal, IsNode, In, AreMinimal, member, fan_ins, Covers, AreRows, row_at, contains_one, greatest, height, LabelsValue, label_at, label_of, best_of, IsCutTable, IsBestCut, AreLabelled, AreLeastDepths, AreSmall, lowest, lowest_cut, AreLabelledTo}
 use Rattle.std.specs.List.{slice_get}
-use Rattle.std.proofs.lemmas.List.{get_or_push, get_or_past}
 use Rattle.std.proofs.Math.ListN.{get_or-append}
-use Rattle.std.proofs.lemmas.Option.{slice_get-get_or}
-use Rattle.std.proofs.lemmas.Bool.{cases_lt, cases_order}
-use Rattle.aig_core.specs.Aig.{Aig, first_and, node_count, IsAnd, IsNormal, AreNormal, IsNode}
 use Rattle.aig_core.specs.declared.lit.Pair.{Pair}
-use Rattle.list_laws.specs.Members.{In}
-use Rattle.cut_sets.specs.Cuts.{AreMinimal, member, fan_ins, Covers}
-use Rattle.cut_enum.specs.Table.{AreRows, row_at}
-use Rattle.cut_sets.proofs.BlockLemmas.{contains_one}
 use Rattle.depth_label.proofs.DepthLemmas.{label_le_depth}
-use Rattle.depth_label.specs.Label.{greatest, height, LabelsValue, label_at, label_of, best_of, IsCutTable, IsBestCut, AreLabelled, AreLeastDepths}
-use Rattle.depth_label.specs.Fold.{AreSmall, lowest, lowest_cut, AreLabelledTo}
 use Rattle.depth_label.proofs.LowestLemmas.{lowest_best, good_low, lowest_cut_same, lowest_leaf}
 
 -- labels that agree on the leaves give the same height

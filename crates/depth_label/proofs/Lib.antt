@@ -1,3 +1,4 @@
+mod Common
 pub mod DepthLemmas
 mod LowestLemmas
 pub mod LabelLemmas

@@ -1,12 +1,7 @@
 -- The first of the lowest cuts of an ordered list is its best cut.
-use Rattle.std.proofs.Common.{◌≡◌, ℕ, ◌<◌, ◌≤◌, true, cond, ltb, List, [], ◌∷◌, Option, Some, None, refl, sym, ap, ◌∙◌, subst, inl, inr, ◌⊎◌, arith}
-use Rattle.std.proofs.lemmas.Option.{same_Some, none-some}
-use Rattle.std.proofs.lemmas.Bool.{cases_order, ltb-true, ltb-false}
-use Rattle.list_laws.specs.Members.{In}
+use Rattle.depth_label.proofs.Common.{◌≡◌, ℕ, ◌<◌, ◌≤◌, true, cond, ltb, List, [], ◌∷◌, Option, Some, None, refl, sym, ap, ◌∙◌, subst, inl, inr, ◌⊎◌, arith, same_Some, none-some, cases_order, ltb-true, ltb-false, In, height, IsAsGood, lower, tie, IsBestCut, lower_of, lowest, lowest_cut, or_empty}
 use Rattle.cut_sets.specs.Sets.{before, IsOrdered}
 use Rattle.list_laws.proofs.Choice.{choose}
-use Rattle.depth_label.specs.Label.{height, IsAsGood, lower, tie, IsBestCut}
-use Rattle.depth_label.specs.Fold.{lower_of, lowest, lowest_cut, or_empty}
 
 -- the best of the cuts for which S holds
 record BestIn (S : List ℕ → Type 0) (label : ℕ → ℕ) (c : List ℕ) : Type 0 where

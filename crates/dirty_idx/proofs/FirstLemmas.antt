@@ -1,8 +1,5 @@
 -- The first word with a bit, from layer to layer.
-use Rattle.std.proofs.Common.{◌≡◌, ℕ, zero, suc, ◌+◌, ◌-◌, ◌*◌, ◌/◌, ◌%◌, ◌^◌, ◌<◌, ◌≤◌, min, List, sym, ap, ◌∙◌, subst, inl, inr, arith}
-use Rattle.std.specs.Int.{bit_at, trailing_zeros, w64}
-use Rattle.std.proofs.lemmas.Bool.{cases_eq, cases_lt}
-use Rattle.std.proofs.lemmas.Nat.Bits.{bit_at-trailing_zeros}
+use Rattle.dirty_idx.proofs.Common.{◌≡◌, ℕ, zero, suc, ◌+◌, ◌-◌, ◌*◌, ◌/◌, ◌%◌, ◌^◌, ◌<◌, ◌≤◌, min, List, sym, ap, ◌∙◌, subst, inl, inr, arith, bit_at, trailing_zeros, w64, cases_eq, cases_lt, bit_at-trailing_zeros}
 use Rattle.dirty_idx.specs.Layers.{word_at, upper_words, AreTold, IsFirstWord}
 use Rattle.dirty_idx.proofs.LayerLemmas.{some_bit, no_bit}
 

@@ -1,10 +1,5 @@
 -- Bits of words, and what the words above a word say of it once the bit above it is put right.
-use Rattle.std.proofs.Common.{◌≡◌, ℕ, ◌+◌, ◌-◌, ◌*◌, ◌/◌, ◌%◌, ◌^◌, ◌<◌, ◌≤◌, min, List, length, set, get_or, sym, ap, ◌∙◌, subst, inl, inr, arith, bit_and, bit_or}
-use Rattle.std.specs.Int.{bit_at, bit_not, w64}
-use Rattle.std.proofs.lemmas.List.{length-set, get_or-set_same, get_or-set_other, get_or_read}
-use Rattle.std.proofs.lemmas.Bool.{cases_eq}
-use Rattle.std.proofs.lemmas.Nat.Bits.{bit_at-zero, bit_at_set_same, bit_at_set_other, bit_at_clear_same, bit_at_clear_other, shr_and_one}
-use Rattle.dirty_idx.specs.Layers.{word_at, bit_above, AreTold, IsClimbed, IsSomeOnTheWay, IsNoneOnTheWay, IsRetold}
+use Rattle.dirty_idx.proofs.Common.{◌≡◌, ℕ, ◌+◌, ◌-◌, ◌*◌, ◌/◌, ◌%◌, ◌^◌, ◌<◌, ◌≤◌, min, List, length, set, get_or, sym, ap, ◌∙◌, subst, inl, inr, arith, bit_and, bit_or, bit_at, bit_not, w64, length-set, get_or-set_same, get_or-set_other, get_or_read, cases_eq, bit_at-zero, bit_at_set_same, bit_at_set_other, bit_at_clear_same, bit_at_clear_other, shr_and_one, word_at, bit_above, AreTold, IsClimbed, IsSomeOnTheWay, IsNoneOnTheWay, IsRetold}
 
 -- a word with a bit is not 0
 pub some_bit : (w b : ℕ) → bit_at w b ≡ 1 → 0 < w

@@ -1,11 +1,5 @@
 -- The marks that the lowest words have, and what a bit put into them changes.
-use Rattle.std.proofs.Common.{◌≡◌, ℕ, ◌+◌, ◌-◌, ◌*◌, ◌/◌, ◌%◌, ◌^◌, ◌<◌, ◌≤◌, min, Bool, true, false, eqb, List, length, set, get_or, replicate, sym, ap, ◌∙◌, subst, inl, inr, arith, eq-eqb, eqb-true, bit_and, bit_or}
-use Rattle.std.specs.Int.{bit_at, bit_not, trailing_zeros, w64}
-use Rattle.std.proofs.lemmas.List.{length-set, length-replicate, get_or-replicate, get_or-set_same, get_or-set_other, get_or_past, get_or_read, same_lists}
-use Rattle.std.proofs.lemmas.List.FromFn.{length-map-range_with_len, get_or-map-range_with_len}
-use Rattle.std.proofs.lemmas.Bool.{cases_eq, cases_lt}
-use Rattle.std.proofs.lemmas.Nat.Bits.{bit_at-trailing_zeros, bit_at_set_same, bit_at_set_other, bit_at_clear_same, bit_at_clear_other, shr_and_one}
-use Rattle.dirty_idx.specs.Marks.{is_marked, IsLeast, IsEmpty}
+use Rattle.dirty_idx.proofs.Common.{◌≡◌, ℕ, ◌+◌, ◌-◌, ◌*◌, ◌/◌, ◌%◌, ◌^◌, ◌<◌, ◌≤◌, min, Bool, true, false, eqb, List, length, set, get_or, replicate, sym, ap, ◌∙◌, subst, inl, inr, arith, eq-eqb, eqb-true, bit_and, bit_or, bit_at, bit_not, trailing_zeros, w64, length-set, length-replicate, get_or-replicate, get_or-set_same, get_or-set_other, get_or_past, get_or_read, same_lists, length-map-range_with_len, get_or-map-range_with_len, cases_eq, cases_lt, bit_at-trailing_zeros, bit_at_set_same, bit_at_set_other, bit_at_clear_same, bit_at_clear_other, shr_and_one, is_marked, IsLeast, IsEmpty}
 use Rattle.dirty_idx.specs.Layers.{word_at, upper_words, AreTold, bit_above, mark_bit, marks_of, AreTiers, AreNoneBefore, AreKept, IsPut, IsRetold, IsFirstWord}
 use Rattle.dirty_idx.proofs.LayerLemmas.{some_bit, no_bit}
 use Rattle.dirty_idx.proofs.FirstLemmas.{none_below}

@@ -1,6 +1,5 @@
 -- A worked example: the set of 1 and 3 among the numbers below 5, and where its words would lie.
-use Rattle.std.proofs.Common.{◌≡◌, ℕ, zero, suc, ◌<◌, Bool, true, false, List, [], ◌∷◌, Some, None, refl, arith}
-use Rattle.dirty_idx.specs.Marks.{is_marked, IsLeast, IsEmpty, without}
+use Rattle.dirty_idx.proofs.Common.{◌≡◌, ℕ, zero, suc, ◌<◌, Bool, true, false, List, [], ◌∷◌, Some, None, refl, arith, is_marked, IsLeast, IsEmpty, without}
 use Rattle.dirty_idx.specs.Layers.{upper_words, mark_bit, marks_of}
 
 abbrev one_and_three : List Bool

@@ -1,9 +1,5 @@
 -- What the crates above want to know of readers: they are AND nodes above what they read, and addresses of the pack.
-use Rattle.std.proofs.Common.{ℕ, ◌+◌, ◌-◌, ◌/◌, ◌<◌, ◌≤◌, List, length, inl, inr, arith}
-use Rattle.std.proofs.lemmas.Option.{slice_get_within}
-use Rattle.aig_core.specs.declared.lit.Lit.{Lit}
-use Rattle.aig_core.specs.Aig.{Aig, first_and, IsAnd, IsNormal, AreNormal}
-use Rattle.dirty_idx.specs.Readers.{Reads, IsLitOf}
+use Rattle.dirty_idx.proofs.Common.{ℕ, ◌+◌, ◌-◌, ◌/◌, ◌<◌, ◌≤◌, List, length, inl, inr, arith, slice_get_within, Lit, Aig, first_and, IsAnd, IsNormal, AreNormal, Reads, IsLitOf}
 
 pub reads_and : (g : Aig) (n m : ℕ) → Reads g n m → IsAnd g m
 reads_and g n m reads =

@@ -1,20 +1,7 @@
 -- The lists that are made of a pack's readings are those of its readers.
-use Rattle.std.proofs.Common.{◌≡◌, ◌⊎◌, ℕ, suc, ◌+◌, ◌-◌, ◌*◌, ◌/◌, ◌<◌, ◌≤◌, List, [], ◌∷◌, ◌++◌, length, drop, Some, refl, sym, ap, ◌∙◌, subst, inl, inr, arith}
-use Rattle.std.specs.Prelude.{slice_get}
-use Rattle.std.proofs.lemmas.Option.{none-some, same_Some}
-use Rattle.std.proofs.lemmas.List.{append_assoc}
-use Rattle.std.proofs.lemmas.List.FromFn.{length-map-range_with_len, get_or-map-range_with_len}
-use Rattle.std.proofs.lemmas.Bool.{cases_eq}
-use Rattle.list_laws.specs.Members.{In}
+use Rattle.dirty_idx.proofs.Common.{◌≡◌, ◌⊎◌, ℕ, suc, ◌+◌, ◌-◌, ◌*◌, ◌/◌, ◌<◌, ◌≤◌, List, [], ◌∷◌, ◌++◌, length, drop, Some, refl, sym, ap, ◌∙◌, subst, inl, inr, arith, slice_get, none-some, same_Some, append_assoc, length-map-range_with_len, get_or-map-range_with_len, cases_eq, In, Lit, Pair, Aig, first_and, node_count, pair_of, IsNormal, AreNormal, PackValue, IsPack, Reading, Reads, IsLitOf, AreAll, AreReaders, readers_in, lists_of, AreOf, node_readings, bit_readings}
 use Rattle.list_laws.proofs.Places.{drop_get}
-use Rattle.aig_core.specs.declared.lit.Lit.{Lit}
-use Rattle.aig_core.specs.declared.lit.Pair.{Pair}
-use Rattle.aig_core.specs.Aig.{Aig, first_and, node_count, pair_of, IsNormal, AreNormal}
 use Rattle.ppc_pack.specs.declared.pack.PackParam.{PackParam}
-use Rattle.ppc_pack.specs.Pack.{PackValue, IsPack}
-use Rattle.dirty_idx.specs.declared.lists.Reading.{Reading}
-use Rattle.dirty_idx.specs.Readers.{Reads, IsLitOf, AreAll, AreReaders}
-use Rattle.dirty_idx.specs.Listed.{readers_in, lists_of, AreOf, node_readings, bit_readings}
 use Rattle.dirty_idx.proofs.CountLemmas.{readers_same, readers_other}
 
 -- m is the index of an element that R holds of, where the indices begin at k

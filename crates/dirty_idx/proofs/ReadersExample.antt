@@ -1,15 +1,7 @@
 -- A worked example: the pack of two parameters p and q with the nodes p q, p' q and their product, and some bits of each.
-use Rattle.std.proofs.Common.{◌≡◌, ℕ, zero, suc, ◌+◌, ◌-◌, ◌/◌, ◌%◌, ◌<◌, List, [], ◌∷◌, Some, refl, subst, sym, ap, ◌∙◌, inl, inr, arith}
-use Rattle.std.specs.Prelude.{slice_get}
-use Rattle.std.proofs.lemmas.Option.{none-some, same_Some}
-use Rattle.list_laws.specs.Members.{In}
+use Rattle.dirty_idx.proofs.Common.{◌≡◌, ℕ, zero, suc, ◌+◌, ◌-◌, ◌/◌, ◌%◌, ◌<◌, List, [], ◌∷◌, Some, refl, subst, sym, ap, ◌∙◌, inl, inr, arith, slice_get, none-some, same_Some, In, Lit, Pair, Aig, IsNormal, AreNormal, PackValue, IsPack, ReadersValue, nodes_of, addresses_of, AreReaders}
 use Rattle.aig_core.specs.declared.lit.Kind.TheVariants.{Parameter}
-use Rattle.aig_core.specs.declared.lit.Lit.{Lit}
-use Rattle.aig_core.specs.declared.lit.Pair.{Pair}
-use Rattle.aig_core.specs.Aig.{Aig, IsNormal, AreNormal}
-use Rattle.ppc_pack.specs.Pack.{PackValue, IsPack}
 use Rattle.ppc_pack.proofs.PackExample.{two_parameters, two_parameters_is}
-use Rattle.dirty_idx.specs.Readers.{ReadersValue, nodes_of, addresses_of, AreReaders}
 use Rattle.dirty_idx.proofs.ReaderLemmas.{are_readers}
 
 abbrev pub lit : ℕ → Lit

@@ -1,6 +1,5 @@
 -- What holds of a value that a test chooses.
-use Rattle.std.proofs.Common.{◌≡◌, Bool, true, false, cond, Option, Some, None, refl, sym}
-use Rattle.std.proofs.lemmas.Option.{none-some}
+use Rattle.list_laws.proofs.Common.{◌≡◌, Bool, true, false, cond, Option, Some, None, refl, sym, none-some}
 
 -- with the test's outcome
 pub choose : {X : Type 0} (P : X → Type 0) (b : Bool) (x y : X) → (b ≡ true → P x) → (b ≡ false → P y) → P (cond b x y)

@@ -1,9 +1,7 @@
 -- The first place of a list at which a test passes.
-use Rattle.std.proofs.Common.{◌≡◌, ℕ, zero, suc, ◌+◌, ◌<◌, ◌≤◌, Bool, true, false, not, cond, ltb, List, [], ◌∷◌, length, get_or, Some, None, refl, sym, ap, ◌∙◌, subst, inl, inr, arith}
+use Rattle.list_laws.proofs.Common.{◌≡◌, ℕ, zero, suc, ◌+◌, ◌<◌, ◌≤◌, Bool, true, false, not, cond, ltb, List, [], ◌∷◌, length, get_or, Some, None, refl, sym, ap, ◌∙◌, subst, inl, inr, arith, slice_get_within, get_or_from_slice_get, ltb-false, cond-true, cond-false, lt-ltb, le-ltb, or_parts, cases_Bool}
 use Rattle.std.specs.List.{slice_get, position, position_or_len, list_any}
-use Rattle.std.proofs.lemmas.Option.{slice_get_within, get_or_from_slice_get}
 use Rattle.std.proofs.lemmas.List.Sums.{fails_before_first}
-use Rattle.std.proofs.lemmas.Bool.{ltb-false, cond-true, cond-false, lt-ltb, le-ltb, or_parts, cases_Bool}
 use Rattle.list_laws.proofs.Choice.{none_then}
 
 -- where it is

@@ -1,7 +1,5 @@
 -- The item of a loop over a list: the element at its place.
-use Rattle.std.proofs.Common.{◌≡◌, ℕ, suc, ◌+◌, ◌<◌, List, ◌∷◌, length, get_or, drop, refl, sym, ap, ◌∙◌, drop-cons, arith}
-use Rattle.std.proofs.lemmas.Option.{slice_get_read}
-use Rattle.list_laws.specs.Members.{In}
+use Rattle.list_laws.proofs.Common.{◌≡◌, ℕ, suc, ◌+◌, ◌<◌, List, ◌∷◌, length, get_or, drop, refl, sym, ap, ◌∙◌, drop-cons, arith, slice_get_read, In}
 use Rattle.list_laws.proofs.Members.{In-get}
 
 -- it is a member

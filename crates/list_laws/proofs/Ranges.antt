@@ -1,7 +1,5 @@
 -- A range of numbers: its members, and two adjacent ranges.
-use Rattle.std.proofs.Common.{◌≡◌, ℕ, zero, suc, ◌+◌, ◌<◌, ◌≤◌, List, ◌∷◌, ◌++◌, ap, ◌∙◌, inl, inr, arith}
-use Rattle.std.specs.List.{range_with_len}
-use Rattle.list_laws.specs.Members.{In}
+use Rattle.list_laws.proofs.Common.{◌≡◌, ℕ, zero, suc, ◌+◌, ◌<◌, ◌≤◌, List, ◌∷◌, ◌++◌, ap, ◌∙◌, inl, inr, arith, range_with_len, In}
 use Rattle.list_laws.proofs.Places.{same_or}
 
 pub of_range : (from count x : ℕ) → In (range_with_len from count) x → (from ≤ x) × (x < from + count)

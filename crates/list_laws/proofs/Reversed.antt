@@ -1,7 +1,6 @@
 -- The members of a reversed list.
-use Rattle.std.proofs.Common.{List, [], ◌∷◌, reverse, ◌⊎◌, inl, inr}
+use Rattle.list_laws.proofs.Common.{List, [], ◌∷◌, reverse, ◌⊎◌, inl, inr, In}
 use mathlib.Core.List.{reverse_aux}
-use Rattle.list_laws.specs.Members.{In}
 
 -- what stands in a reversed list stands in the list
 reversed_parts : {A : Type 0} (xs ys : List A) (x : A) → In (reverse_aux xs ys) x → In xs x ⊎ In ys x

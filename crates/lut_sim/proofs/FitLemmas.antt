@@ -1,18 +1,5 @@
 -- Values that fit the LUTs: those that a cycle leaves do, and any others agree with them at each LUT.
-use Rattle.std.proofs.Common.{◌≡◌, ℕ, zero, suc, ◌+◌, ◌*◌, ◌/◌, ◌%◌, ◌<◌, ◌≤◌, Bool, true, false, eqb, List, [], ◌∷◌, length, get_or, map, refl, sym, ap, ◌∙◌, subst, inl, inr, arith}
-use Rattle.std.proofs.lemmas.Bool.{cases_Bool, and_parts, and_from, eq-eqb, eqb-true}
-use Rattle.list_laws.specs.Members.{In}
-use Rattle.list_laws.specs.Digits.{number}
-use Rattle.list_laws.proofs.Members.{map_agree}
-use Rattle.aig_core.specs.Roots.{lits_of}
-use Rattle.cover_pick.specs.declared.lut.Lut.{Lut}
-use Rattle.cover_pick.specs.Template.{TemplateValue}
-use Rattle.cover_pick.specs.Mapping.{AscendByLit, HasLut}
-use Rattle.lut_sim.specs.declared.shape.Shape.{Shape}
-use Rattle.lut_sim.specs.Sources.{is_regular, is_plain}
-use Rattle.lut_sim.specs.Playable.{IsPlayable, HasValue}
-use Rattle.lut_sim.specs.Cycle.{address, FitsTables, IsOnlyTableCycle}
-use Rattle.lut_sim.specs.Steps.{value_in, with_table, with_tables}
+use Rattle.lut_sim.proofs.Common.{◌≡◌, ℕ, zero, suc, ◌+◌, ◌*◌, ◌/◌, ◌%◌, ◌<◌, ◌≤◌, Bool, true, false, eqb, List, [], ◌∷◌, length, get_or, map, refl, sym, ap, ◌∙◌, subst, inl, inr, arith, cases_Bool, and_parts, and_from, eq-eqb, eqb-true, In, number, map_agree, lits_of, Lut, TemplateValue, AscendByLit, HasLut, Shape, is_regular, is_plain, IsPlayable, HasValue, address, FitsTables, IsOnlyTableCycle, value_in, with_table, with_tables}
 use Rattle.lut_sim.proofs.StepLemmas.{with_tables_other, with_table_other, with_table_here, length-with_table, IsFed}
 
 -- a positive literal's phase and node

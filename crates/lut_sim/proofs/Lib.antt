@@ -1,3 +1,4 @@
+mod Common
 mod StepLemmas
 pub mod FitLemmas
 pub mod RoomLemmas

@@ -1,15 +1,6 @@
 -- A mapping over a graph whose sources have a shape can be played.
-use Rattle.std.proofs.Common.{◌≡◌, ℕ, ◌/◌, ◌%◌, ◌<◌, ◌≤◌, true, eqb, List, length, sym, subst, inl, inr, ◌⊎◌, arith}
-use Rattle.std.proofs.lemmas.Bool.{and_from, eq-eqb}
-use Rattle.list_laws.specs.Members.{In}
+use Rattle.lut_sim.proofs.Common.{◌≡◌, ℕ, ◌/◌, ◌%◌, ◌<◌, ◌≤◌, true, eqb, List, length, sym, subst, inl, inr, ◌⊎◌, arith, and_from, eq-eqb, In, lits_of, Lut, TemplateValue, IsMapping, IsTableOf, source, free, node, IsPlain, HasLut, Shape, is_regular, is_plain, last_source, IsPlayable, HasValue}
 use Rattle.aig_core.specs.Aig.{Aig, first_and, IsAnd}
-use Rattle.aig_core.specs.Roots.{lits_of}
-use Rattle.cover_pick.specs.declared.lut.Lut.{Lut}
-use Rattle.cover_pick.specs.Template.{TemplateValue}
-use Rattle.cover_pick.specs.Mapping.{IsMapping, IsTableOf, source, free, node, IsPlain, HasLut}
-use Rattle.lut_sim.specs.declared.shape.Shape.{Shape}
-use Rattle.lut_sim.specs.Sources.{is_regular, is_plain, last_source}
-use Rattle.lut_sim.specs.Playable.{IsPlayable, HasValue}
 use Rattle.lut_sim.specs.GraphShape.{HasShape}
 use Rattle.lut_sim.proofs.RoomLemmas.{regular_within}
 

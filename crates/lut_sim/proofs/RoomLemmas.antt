@@ -1,18 +1,6 @@
 -- There is room for each LUT of a playable circuit.
-use Rattle.std.proofs.Common.{◌≡◌, ℕ, suc, ◌+◌, ◌-◌, ◌*◌, ◌/◌, ◌^◌, ◌<◌, ◌≤◌, Bool, true, List, [], ◌∷◌, length, get_or, slice_set, take, refl, sym, ap, ◌∙◌, subst, inl, inr, arith, ◌&&◌, ◌||◌, leb, ltb, ◌++◌, append-nil, append_assoc}
-use Rattle.std.proofs.Math.ListN.{length-set}
-use Rattle.std.proofs.lemmas.Bool.{or_cases, and_parts, leb-true}
-use Rattle.std.proofs.lemmas.List.{take_more_set, take_all}
-use Rattle.list_laws.specs.Members.{In}
-use Rattle.cover_pick.specs.declared.lut.Lut.{Lut}
-use Rattle.cover_pick.specs.Template.{TemplateValue}
-use Rattle.cover_pick.specs.Mapping.{AscendByLit, bits_of}
+use Rattle.lut_sim.proofs.Common.{◌≡◌, ℕ, suc, ◌+◌, ◌-◌, ◌*◌, ◌/◌, ◌^◌, ◌<◌, ◌≤◌, Bool, true, List, [], ◌∷◌, length, get_or, slice_set, take, refl, sym, ap, ◌∙◌, subst, inl, inr, arith, ◌&&◌, ◌||◌, leb, ltb, ◌++◌, append-nil, append_assoc, length-set, or_cases, and_parts, leb-true, take_more_set, take_all, In, Lut, TemplateValue, AscendByLit, bits_of, Shape, last_source, is_regular, IsPlayable, HasValue, HasRoom, IsTableInRoom, filled}
 use Rattle.cover_pick.proofs.BitsLemmas.{base_within}
-use Rattle.lut_sim.specs.declared.shape.Shape.{Shape}
-use Rattle.lut_sim.specs.Sources.{last_source, is_regular}
-use Rattle.lut_sim.specs.Playable.{IsPlayable, HasValue}
-use Rattle.lut_sim.specs.Keeps.{HasRoom}
-use Rattle.lut_sim.specs.Steps.{IsTableInRoom, filled}
 use Rattle.lut_sim.proofs.FitLemmas.{plain_parts}
 
 -- a test on two sides that are both within a bound

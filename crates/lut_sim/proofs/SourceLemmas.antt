@@ -1,15 +1,6 @@
 -- The sources' values after both writes.
-use Rattle.std.proofs.Common.{◌≡◌, ℕ, ◌+◌, ◌-◌, ◌*◌, ◌<◌, ◌≤◌, Bool, true, false, ◌&&◌, leb, ltb, List, length, get_or, refl, ap, ◌∙◌, inl, inr, arith}
-use Rattle.std.proofs.lemmas.Bool.{or_cases, and_parts, leb-true, leb-false, ltb-true}
-use Rattle.list_laws.proofs.Choice.{choose}
-use Rattle.lut_sim.specs.declared.shape.Shape.{Shape}
-use Rattle.lut_sim.specs.Sources.{last_source, is_regular, source_value}
-use Rattle.lut_sim.specs.Steps.{value_in, with_sources, with_tables, HaveSources}
+use Rattle.lut_sim.proofs.Common.{◌≡◌, ℕ, ◌+◌, ◌-◌, ◌*◌, ◌<◌, ◌≤◌, Bool, true, false, ◌&&◌, leb, ltb, List, length, get_or, refl, ap, ◌∙◌, inl, inr, arith, or_cases, and_parts, leb-true, leb-false, ltb-true, choose, Shape, last_source, is_regular, source_value, value_in, with_sources, with_tables, HaveSources, TemplateValue, IsPlayable, FitsTables, HasRoom}
 use Rattle.lut_sim.proofs.StepLemmas.{with_sources_at, with_sources_other, length-with_sources, with_tables_other}
-use Rattle.cover_pick.specs.Template.{TemplateValue}
-use Rattle.lut_sim.specs.Playable.{IsPlayable}
-use Rattle.lut_sim.specs.Cycle.{FitsTables}
-use Rattle.lut_sim.specs.Keeps.{HasRoom}
 use Rattle.lut_sim.proofs.FitLemmas.{plain_of_regular, tables_fit, playable_fed}
 
 -- a regular source is an input or a latch

@@ -1,14 +1,5 @@
 -- What the steps of a cycle write, and what they leave.
-use Rattle.std.proofs.Common.{◌≡◌, ℕ, zero, suc, ◌+◌, ◌*◌, ◌<◌, Bool, true, false, List, [], ◌∷◌, length, get_or, slice_set, get_or-set_same, get_or-set_other, refl, sym, ap, ◌∙◌, inl, inr, ◌⊎◌, arith}
-use Rattle.std.proofs.Math.ListN.{length-set}
-use Rattle.std.proofs.lemmas.Bool.{false≢true}
-use Rattle.list_laws.specs.Members.{In}
-use Rattle.list_laws.proofs.Choice.{choose, choose_one}
-use Rattle.cover_pick.specs.declared.lut.Lut.{Lut}
-use Rattle.lut_sim.specs.declared.shape.Shape.{Shape}
-use Rattle.lut_sim.specs.Sources.{is_plain}
-use Rattle.lut_sim.specs.Cycle.{address}
-use Rattle.lut_sim.specs.Steps.{value_in, with_sources, with_table, with_tables}
+use Rattle.lut_sim.proofs.Common.{◌≡◌, ℕ, zero, suc, ◌+◌, ◌*◌, ◌<◌, Bool, true, false, List, [], ◌∷◌, length, get_or, slice_set, get_or-set_same, get_or-set_other, refl, sym, ap, ◌∙◌, inl, inr, ◌⊎◌, arith, length-set, false≢true, In, choose, choose_one, Lut, Shape, is_plain, address, value_in, with_sources, with_table, with_tables}
 
 -- what a write writes
 written : (vs : List Bool) (l : ℕ) (b : Bool) → l < length vs → value_in (slice_set vs l b) l ≡ b

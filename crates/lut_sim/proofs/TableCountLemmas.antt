@@ -1,12 +1,7 @@
 -- How many LUTs a circuit can have.
-use Rattle.std.proofs.Common.{◌≡◌, ◌+◌, ◌^◌, ◌≤◌, List, [], ◌∷◌, length, arith}
+use Rattle.lut_sim.proofs.Common.{◌≡◌, ◌+◌, ◌^◌, ◌≤◌, List, [], ◌∷◌, length, arith, Lut, bits_of, TemplateValue, Shape, IsPlayable}
 use Rattle.std.proofs.lemmas.List.Sums.{sum_by-cons}
 use Rattle.std.proofs.Math.Nat.{one-le-pow}
-use Rattle.cover_pick.specs.declared.lut.Lut.{Lut}
-use Rattle.cover_pick.specs.Mapping.{bits_of}
-use Rattle.cover_pick.specs.Template.{TemplateValue}
-use Rattle.lut_sim.specs.declared.shape.Shape.{Shape}
-use Rattle.lut_sim.specs.Playable.{IsPlayable}
 
 -- each table has a bit
 tables_fit : (ts : List Lut) → length ts ≤ bits_of ts

@@ -1,11 +1,5 @@
 -- The circuit of one LUT with the latch as its leaf can be played.
-use Rattle.std.proofs.Common.{◌≡◌, ℕ, ◌<◌, [], ◌∷◌, IsTrue, refl, sym, subst, inl, inr, arith}
-use Rattle.list_laws.specs.Members.{In}
-use Rattle.cover_pick.specs.declared.lut.Lut.{Lut}
-use Rattle.cover_pick.specs.Template.{TemplateValue}
-use Rattle.lut_sim.specs.declared.shape.Shape.{Shape}
-use Rattle.lut_sim.specs.Sources.{is_plain, is_regular}
-use Rattle.lut_sim.specs.Playable.{IsPlayable}
+use Rattle.lut_sim.proofs.Common.{◌≡◌, ℕ, ◌<◌, [], ◌∷◌, IsTrue, refl, sym, subst, inl, inr, arith, In, Lut, TemplateValue, Shape, is_plain, is_regular, IsPlayable}
 
 -- its table
 abbrev pub complement : Lut

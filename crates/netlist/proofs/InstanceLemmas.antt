@@ -1,8 +1,5 @@
 -- The drivers and the reads of an instance are those of its model's commands, and its ports.
-use Rattle.netlist.proofs.Common.{◌≡◌, ℕ, List, [], ◌∷◌, Option, Some, None, refl, sym, ◌∙◌, subst, inl, inr, ◌⊎◌, slice_get, cases_Bool, none-some, same_Some, IsTrue, both_ways}
-use Rattle.netlist.specs.{Body, Cover, Latch, Subckt, Command, Pair, ModelValue, Path, body_at, subckts_of, model_named, model_at, is_input, is_output, Driver, by_input, IsDriver, input, latch, cover, output, by_latch, by_cover, by_subckt}
-use Rattle.netlist.specs.SubcktValue.{SubcktValue}
-use Rattle.netlist.specs.LibraryValue.{LibraryValue}
+use Rattle.netlist.proofs.Common.{◌≡◌, ℕ, List, [], ◌∷◌, Option, Some, None, refl, sym, ◌∙◌, subst, inl, inr, ◌⊎◌, slice_get, cases_Bool, none-some, same_Some, IsTrue, both_ways, Body, Cover, Latch, Subckt, Command, Pair, ModelValue, Path, body_at, subckts_of, model_named, model_at, is_input, is_output, Driver, by_input, IsDriver, input, latch, cover, output, by_latch, by_cover, by_subckt, SubcktValue, LibraryValue}
 use Rattle.netlist.proofs.PlaceLemmas.{command_of, body_of}
 use Rattle.netlist.proofs.NameLemmas.{Decided, same_name, Found, find, Member, find_member}
 

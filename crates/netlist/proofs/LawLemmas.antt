@@ -1,8 +1,6 @@
 -- The values of nets and of covers, under values of the main inputs, the latches and the covers.
-use Rattle.netlist.proofs.Common.{◌≡◌, ℕ, Bool, false, List, [], ◌∷◌, map, Option, Some, None, refl, ap, ap₂, inl, inr, In, sym, ◌∙◌, subst, ◌⊎◌, IsTrue}
-use Rattle.netlist.specs.CoverValue.{CoverValue}
+use Rattle.netlist.proofs.Common.{◌≡◌, ℕ, Bool, false, List, [], ◌∷◌, map, Option, Some, None, refl, ap, ap₂, inl, inr, In, sym, ◌∙◌, subst, ◌⊎◌, IsTrue, CoverValue, LibraryValue}
 use Rattle.netlist.specs.{cover_value, Path, Net, input_net, latch_net, cover_net, Place, cover_at, with_cover, covers_among, reads_in, reads_of, Pair, is_input, is_output, CoverAt, ConnectionAt, IsMainInput, Drives, main_input, latch_output, cover_output, from_inside, from_outside, IsClock, input_actual, model_output, IsRead, cover_input, same_place, Fits, AreNets, Ordered, IsSound, HasOneCycle}
-use Rattle.netlist.specs.LibraryValue.{LibraryValue}
 use Rattle.netlist.proofs.ControlLemmas.{is_clock}
 use Rattle.netlist.proofs.NetLemmas.{nets, are_nets}
 use Rattle.netlist.proofs.PlaceLemmas.{place_of, same_place-is, same_place-refl, cover_at-is, child_at}

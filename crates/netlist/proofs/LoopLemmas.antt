@@ -1,8 +1,5 @@
 -- Loops of covers: none depends on itself exactly where the walk meets none again, and then they have an order in which each comes after those that it reads.
-use Rattle.netlist.proofs.Common.{◌≡◌, ℕ, List, [], ◌∷◌, Option, Some, None, refl, sym, ap, ◌∙◌, subst, inl, inr, ◌⊎◌, true, ◌++◌, In, both_ways, cases_Bool, false≢true, In-right, In-append}
-use Rattle.netlist.specs.{own_of, ModelValue, Body, Cover, Latch, Subckt, LatchValue, Path, body_at, model_at, CoverAt, Net, input_net, latch_net, cover_net, Drives, main_input, latch_output, cover_output, from_inside, from_outside, Place, same_place, cover_at, latch_at, is_cover, is_latch, FlatOrder, IsDriven, AreNets, with_cover, covers_among, reads_in, reads_of, ReadsCover, Depends, direct, through, Ordered, latch_covers, all_latch_covers, roots_of, LoopWalk}
-use Rattle.netlist.specs.CoverValue.{CoverValue}
-use Rattle.netlist.specs.LibraryValue.{LibraryValue}
+use Rattle.netlist.proofs.Common.{◌≡◌, ℕ, List, [], ◌∷◌, Option, Some, None, refl, sym, ap, ◌∙◌, subst, inl, inr, ◌⊎◌, true, ◌++◌, In, both_ways, cases_Bool, false≢true, In-right, In-append, own_of, ModelValue, Body, Cover, Latch, Subckt, LatchValue, Path, body_at, model_at, CoverAt, Net, input_net, latch_net, cover_net, Drives, main_input, latch_output, cover_output, from_inside, from_outside, Place, same_place, cover_at, latch_at, is_cover, is_latch, FlatOrder, IsDriven, AreNets, with_cover, covers_among, reads_in, reads_of, ReadsCover, Depends, direct, through, Ordered, latch_covers, all_latch_covers, roots_of, LoopWalk, CoverValue, LibraryValue}
 use Rattle.netlist.proofs.NetLemmas.{same_nets}
 use Rattle.netlist.proofs.OrderLemmas.{flat_all, order_exists, IsOfKind, flat_only}
 use Rattle.netlist.proofs.PlaceLemmas.{cover_at-is, place_of, same_place-is, same_place-refl}

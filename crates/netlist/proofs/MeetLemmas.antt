@@ -1,8 +1,6 @@
 -- Depth-first walks: several starts in turn, and walks along edges that lead to nodes alone.
-use Rattle.netlist.proofs.Common.{◌≡◌, ℕ, List, [], ◌∷◌, ◌++◌, Option, Some, None, refl, sym, ap, ◌∙◌, subst, none-some, In, inl, inr, ◌⊎◌, map, zero, suc, ◌+◌, ◌≤◌, length, arith, same_Some, In-map, AreApart, apart_short}
-use Rattle.netlist.specs.{leads, Repeat, Meets, met, goes, MeetsAll}
+use Rattle.netlist.proofs.Common.{◌≡◌, ℕ, List, [], ◌∷◌, ◌++◌, Option, Some, None, refl, sym, ap, ◌∙◌, subst, none-some, In, inl, inr, ◌⊎◌, map, zero, suc, ◌+◌, ◌≤◌, length, arith, same_Some, In-map, AreApart, apart_short, leads, Repeat, Meets, met, goes, MeetsAll, IsAfter}
 use Rattle.depth_first.specs.DepthFirst.{Way, stops, Ending, repeats, halts, Meets as MeetsBy, MeetsAll as MeetAllBy, met as met_by, goes as goes_by, none as none_by, stop as stop_by, first as first_by, later as later_by}
-use Rattle.depth_first.specs.Order.{IsAfter}
 use Rattle.depth_first.specs.Walk.{leads_to}
 use Rattle.netlist.specs.DepthFirst.{none, first, later}
 use Rattle.netlist.proofs.PostLemmas.{Reaches, at_once, one_more}

@@ -1,7 +1,5 @@
 -- Each driven name has one net, where no name is driven twice and each connection has a driver.
-use Rattle.netlist.proofs.Common.{◌≡◌, ℕ, not, List, [], ◌∷◌, Option, Some, None, refl, sym, ap, ap₂, ◌∙◌, subst, subst₂, inl, inr, IsTrue, both_ways, and_parts, not-true, none-some, same_Some, ◌+◌, ◌<◌, ◌≤◌, ◌++◌}
-use Rattle.netlist.specs.{Pair, ModelValue, Path, placed, model_at, has_name, is_input, is_output, ConnectionAt, IsMainInput, Net, input_net, latch_net, cover_net, Drives, main_input, latch_output, cover_output, from_inside, from_outside, Driver, by_input, by_latch, by_cover, by_subckt, IsDriver, input, latch, cover, output, input_actual, model_output, Ends, ends, IsDriven, AreNets}
-use Rattle.netlist.specs.LibraryValue.{LibraryValue}
+use Rattle.netlist.proofs.Common.{◌≡◌, ℕ, not, List, [], ◌∷◌, Option, Some, None, refl, sym, ap, ap₂, ◌∙◌, subst, subst₂, inl, inr, IsTrue, both_ways, and_parts, not-true, none-some, same_Some, ◌+◌, ◌<◌, ◌≤◌, ◌++◌, Pair, ModelValue, Path, placed, model_at, has_name, is_input, is_output, ConnectionAt, IsMainInput, Net, input_net, latch_net, cover_net, Drives, main_input, latch_output, cover_output, from_inside, from_outside, Driver, by_input, by_latch, by_cover, by_subckt, IsDriver, input, latch, cover, output, input_actual, model_output, Ends, ends, IsDriven, AreNets, LibraryValue}
 use Rattle.netlist.proofs.InstanceLemmas.{has_driver}
 use Rattle.netlist.proofs.PlaceLemmas.{child_at, child_placed}
 use Rattle.netlist.proofs.NameLemmas.{Decided}

@@ -1,9 +1,6 @@
 -- A postorder, the last first, is an order: each node stands before those that it goes to, and none stands twice; and it is one.
-use Rattle.netlist.proofs.Common.{◌≡◌, List, [], ◌∷◌, sym, subst, subst₂, inl, inr, ap, ◌∙◌, In, nodes_done, ◌⊎◌, ℕ, zero, suc, ◌<◌, reverse, Some, refl, arith, slice_get, none-some, same_Some, AreApart, Bool, true, false, cond, cond-true, cond-false, false_from_ne_true}
-use Rattle.netlist.specs.{PostsAll}
-use Rattle.depth_first.proofs.PostLemmas.{nodes_from, step_stands}
+use Rattle.netlist.proofs.Common.{◌≡◌, List, [], ◌∷◌, sym, subst, subst₂, inl, inr, ap, ◌∙◌, In, nodes_done, ◌⊎◌, ℕ, zero, suc, ◌<◌, reverse, Some, refl, arith, slice_get, none-some, same_Some, AreApart, Bool, true, false, cond, cond-true, cond-false, false_from_ne_true, PostsAll, nodes_from, step_stands, IsAfter}
 use Rattle.depth_first.specs.DepthFirst.{Posts, skips, posts, none, more}
-use Rattle.depth_first.specs.Order.{IsAfter}
 use Rattle.depth_first.specs.Reach.{Reaches as ReachesOrIs, here, through}
 use mathlib.Core.List.{reverse_aux}
 use Rattle.netlist.proofs.NameLemmas.{not_empty, same_first, same_rest}

@@ -1,10 +1,6 @@
 -- The inputs of a flat circuit are main inputs, and no clock nets.
-use Rattle.netlist.proofs.Common.{◌≡◌, ℕ, Bool, not, List, [], ◌∷◌, Some, ◌∙◌, subst, filter, slice_get, or_left, not-true, In, choose, In-get, ◌≤◌, ◌++◌, ◌<◌}
-use Rattle.netlist.specs.LibraryValue.{LibraryValue}
-use Rattle.netlist.specs.{has_name, IsMainInput, IsClock, IsFlat, AreOnce}
-use Rattle.netlist.specs.FlatValue.{FlatValue}
+use Rattle.netlist.proofs.Common.{◌≡◌, ℕ, Bool, not, List, [], ◌∷◌, Some, ◌∙◌, subst, filter, slice_get, or_left, not-true, In, choose, In-get, ◌≤◌, ◌++◌, ◌<◌, LibraryValue, has_name, IsMainInput, IsClock, IsFlat, AreOnce, FlatValue, In-filter}
 use Rattle.tl_text.proofs.NameSetLemmas.{in_has}
-use Rattle.list_laws.proofs.Members.{In-filter}
 
 pub record IsRegular (library : LibraryValue) (name : List ℕ) : Type 0 where
   pub input : IsMainInput library name

@@ -1,6 +1,5 @@
 -- Where values of all names fit for all values of inputs and latches, there are cycles from any states and runs of any length.
-use Rattle.std.proofs.Common.{◌≡◌, ℕ, Bool, List, [], ◌∷◌, length, map, refl, sym, ap, ◌∙◌}
-use Rattle.std.proofs.lemmas.List.{length-map}
+use Rattle.netlist.proofs.Common.{◌≡◌, ℕ, Bool, List, [], ◌∷◌, length, map, refl, sym, ap, ◌∙◌, length-map}
 use Rattle.netlist.specs.LibraryValue.{LibraryValue, ModelValue}
 use Rattle.netlist.specs.Law.{HasOneCycle}
 use Rattle.netlist.specs.Places.{Place, latch_at}

@@ -1,21 +1,8 @@
 -- Texts that are added one after another.
-use Rattle.std.proofs.Common.{◌≡◌, ℕ, ◌+◌, List, ◌++◌, length, replicate, drop, Some, sym, ap, ◌∙◌, arith, append_assoc}
-use Rattle.std.specs.Prelude.{slice_get}
-use Rattle.std.proofs.lemmas.List.{length-replicate}
-use Rattle.list_laws.proofs.Places.{drop_get}
-use Rattle.aig_core.specs.Aig.{Aig, first_and}
-use Rattle.aig_core.specs.declared.lit.Kind.TheVariants.{Parameter}
-use Rattle.aig_core.specs.declared.lit.Lit.{Lit}
-use Rattle.aig_core.specs.declared.lit.Pair.{Pair}
-use Rattle.ppc_pack.specs.Pack.{PackValue}
-use Rattle.ppc_pack.specs.declared.pack.PackParam.{PackParam}
+use Rattle.ppc_file.proofs.Common.{◌≡◌, ℕ, ◌+◌, List, ◌++◌, length, replicate, drop, Some, sym, ap, ◌∙◌, arith, append_assoc, slice_get, length-replicate, drop_get, Aig, first_and, Parameter, Lit, Pair, PackValue, PackParam, added_twice, Version, node_bytes, nodes_bytes, head_bytes, params_part, nodes_part, bits_part, bytes_of, Added}
 use Rattle.tl_io.specs.Sink.{SinkSeen}
 use Rattle.tl_piece.specs.Added.{IsAdded}
 use Rattle.tl_piece.specs.declared.writer.Writer.{Writer}
-use Rattle.tl_piece.proofs.AddedLemmas.{added_twice}
-use Rattle.ppc_file.specs.declared.version.Version.{Version}
-use Rattle.ppc_file.specs.Bytes.{node_bytes, nodes_bytes, head_bytes, params_part, nodes_part, bits_part, bytes_of}
-use Rattle.ppc_file.specs.Adding.{Added}
 
 -- one more part
 pub added_more : {O : Type 0} {seen : O → SinkSeen} {old mid new : Writer O} {whole left : List ℕ} → Added seen old whole mid left → (part behind : List ℕ) → left ≡ part ++ behind → IsAdded seen mid part new

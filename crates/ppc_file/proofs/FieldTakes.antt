@@ -1,25 +1,7 @@
 -- A field that is taken is the spelling of its value, which obeys the rules.
-use Rattle.std.proofs.Common.{◌≡◌, ℕ, suc, ◌-◌, ◌*◌, ◌/◌, ◌<◌, ◌≤◌, Bool, true, false, not, ◌||◌, cond, ltb, leb, eqb, bytes_eq, List, [], ◌∷◌, ◌++◌, length, take, drop, Result, Ok, Err, refl, sym, ap, subst, arith, inl, inr, eqb-true}
-use Rattle.std.specs.Int.{w16, w32, to_be_bytes}
-use Rattle.std.specs.List.{list_any}
-use Rattle.std.proofs.lemmas.Bool.{ltb-false, leb-false, eqb-false, cases_Bool, or_parts, not-false}
-use Rattle.std.proofs.lemmas.List.{length-take}
+use Rattle.ppc_file.proofs.Common.{◌≡◌, ℕ, suc, ◌-◌, ◌*◌, ◌/◌, ◌<◌, ◌≤◌, Bool, true, false, not, ◌||◌, cond, ltb, leb, eqb, bytes_eq, List, [], ◌∷◌, ◌++◌, length, take, drop, Result, Ok, Err, refl, sym, ap, subst, arith, inl, inr, eqb-true, w16, w32, to_be_bytes, list_any, ltb-false, leb-false, eqb-false, cases_Bool, or_parts, not-false, length-take, In, IsClean, IsNormal, is_pair, Lit, Pair, PackParam, MOST_NAME_BYTES, PackErr, Version, One, Two, ◌>>=◌, offset, spelled, unless_over, number_at, magic, version_number, bit_byte, param_bytes, node_bytes, bit_bytes, bytes_at, if_magic, magic_at, version_by, version_at, if_some, name_length_at, is_bad_name, if_good_name, name_at, value_at, with_name, value_behind, name_behind, param_at, pair, higher_behind, lower_behind, fan_ins_at, is_bad_pair, if_new_pair, node_at, if_literal, bit_at}
 use Rattle.std.proofs.lemmas.Slice.Eq.{bytes_eq-Decides}
-use Rattle.list_laws.specs.Members.{In}
-use Rattle.tl_text.specs.Clean.{IsClean}
-use Rattle.aig_core.specs.Aig.{IsNormal}
-use Rattle.aig_core.specs.And.{is_pair}
-use Rattle.aig_core.specs.declared.lit.Lit.{Lit}
-use Rattle.aig_core.specs.declared.lit.Pair.{Pair}
-use Rattle.ppc_pack.specs.declared.pack.PackParam.{PackParam}
-use Rattle.tl_text.specs.declared.limits.TheConstants.{MOST_NAME_BYTES}
-use Rattle.ppc_file.specs.declared.pack_err.PackErr.{PackErr}
 use Rattle.ppc_file.specs.declared.pack_err.PackErr.TheVariants as refused
-use Rattle.ppc_file.specs.declared.version.Version.{Version}
-use Rattle.ppc_file.specs.declared.version.Version.TheVariants.{One, Two}
-use Rattle.ppc_file.specs.Numbers.{◌>>=◌, offset, spelled, unless_over, number_at}
-use Rattle.ppc_file.specs.Bytes.{magic, version_number, bit_byte, param_bytes, node_bytes, bit_bytes}
-use Rattle.ppc_file.specs.Fields.{bytes_at, if_magic, magic_at, version_by, version_at, if_some, name_length_at, is_bad_name, if_good_name, name_at, value_at, with_name, value_behind, name_behind, param_at, pair, higher_behind, lower_behind, fan_ins_at, is_bad_pair, if_new_pair, node_at, if_literal, bit_at}
 use Rattle.ppc_file.proofs.NumberLemmas.{IsBytes, Takes, Takes-then, front_taken, bind_ok, guard_ok, ok_is, not_zero, unless_ok, number_takes, wide16, wide32}
 use Rattle.ppc_file.proofs.NameRules.{clean_name}
 

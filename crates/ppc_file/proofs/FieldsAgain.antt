@@ -1,22 +1,6 @@
 -- What was spelled is taken again, where it obeys the rules.
-use Rattle.std.proofs.Common.{◌≡◌, ℕ, ◌-◌, ◌*◌, ◌/◌, ◌<◌, ◌≤◌, Bool, true, false, ◌||◌, cond, ltb, leb, eqb, List, [], ◌∷◌, ◌++◌, length, Ok, Err, refl, ap, ◌∙◌, append_assoc, arith, length-append}
-use Rattle.std.specs.Int.{w16, w32, to_be_bytes}
-use Rattle.std.specs.List.{list_any}
-use Rattle.std.proofs.lemmas.Bool.{le-ltb, lt-leb, or_from, ne_eqb}
-use Rattle.std.proofs.lemmas.List.{take_at, drop_at}
-use Rattle.aig_core.specs.Aig.{IsNormal}
-use Rattle.aig_core.specs.And.{is_pair}
-use Rattle.aig_core.specs.declared.lit.Lit.{Lit}
-use Rattle.aig_core.specs.declared.lit.Pair.{Pair}
-use Rattle.ppc_pack.specs.declared.pack.PackParam.{PackParam}
-use Rattle.tl_text.specs.declared.limits.TheConstants.{MOST_NAME_BYTES}
-use Rattle.ppc_file.specs.declared.pack_err.PackErr.{PackErr}
+use Rattle.ppc_file.proofs.Common.{◌≡◌, ℕ, ◌-◌, ◌*◌, ◌/◌, ◌<◌, ◌≤◌, Bool, true, false, ◌||◌, cond, ltb, leb, eqb, List, [], ◌∷◌, ◌++◌, length, Ok, Err, refl, ap, ◌∙◌, append_assoc, arith, length-append, w16, w32, to_be_bytes, list_any, le-ltb, lt-leb, or_from, ne_eqb, take_at, drop_at, IsNormal, is_pair, Lit, Pair, PackParam, MOST_NAME_BYTES, PackErr, Version, One, Two, Field, ◌>>=◌, offset, spelled, unless_over, number_at, magic, version_number, bit_byte, param_bytes, node_bytes, bit_bytes, bytes_at, if_magic, magic_at, version_by, version_at, if_some, name_length_at, is_bad_name, if_good_name, name_at, value_at, with_name, value_behind, name_behind, param_at, pair, higher_behind, lower_behind, fan_ins_at, is_bad_pair, if_new_pair, node_at, if_literal, bit_at}
 use Rattle.ppc_file.specs.declared.pack_err.PackErr.TheVariants as refused
-use Rattle.ppc_file.specs.declared.version.Version.{Version}
-use Rattle.ppc_file.specs.declared.version.Version.TheVariants.{One, Two}
-use Rattle.ppc_file.specs.Numbers.{Field, ◌>>=◌, offset, spelled, unless_over, number_at}
-use Rattle.ppc_file.specs.Bytes.{magic, version_number, bit_byte, param_bytes, node_bytes, bit_bytes}
-use Rattle.ppc_file.specs.Fields.{bytes_at, if_magic, magic_at, version_by, version_at, if_some, name_length_at, is_bad_name, if_good_name, name_at, value_at, with_name, value_behind, name_behind, param_at, pair, higher_behind, lower_behind, fan_ins_at, is_bad_pair, if_new_pair, node_at, if_literal, bit_at}
 use Rattle.ppc_file.proofs.NumberLemmas.{unless_again, number_again, wide16, wide32}
 use Rattle.ppc_file.proofs.NameRules.{clean_again}
 use Rattle.ppc_file.proofs.FieldTakes.{IsNextParam, IsNextNode}

@@ -1,18 +1,6 @@
 -- The files of two small packs in both versions, and three files that are refused.
-use Rattle.std.proofs.Common.{◌≡◌, ℕ, ◌≤◌, List, [], ◌∷◌, ◌++◌, length, false, refl, sym, subst, inl, inr, arith, ap, get_or}
-use Rattle.tl_text.specs.Clean.{IsClean}
-use Rattle.aig_core.specs.declared.lit.Kind.TheVariants.{Parameter}
-use Rattle.aig_core.specs.declared.lit.Lit.{Lit}
-use Rattle.aig_core.proofs.Keeping.{AreNormal-push}
-use Rattle.ppc_pack.specs.Pack.{PackValue}
-use Rattle.ppc_pack.specs.declared.pack.PackParam.{PackParam}
-use Rattle.ppc_pack.specs.declared.pack.TheConstants.{MOST_PACK_NODES}
+use Rattle.ppc_file.proofs.Common.{◌≡◌, ℕ, ◌≤◌, List, [], ◌∷◌, ◌++◌, length, false, refl, sym, subst, inl, inr, arith, ap, get_or, IsClean, Parameter, Lit, AreNormal-push, PackValue, PackParam, MOST_PACK_NODES, One, Two, bytes_of, magic, pair, lettered, in_nodes, in_bits, AreParams, AreNodes, IsPackFault}
 use Rattle.ppc_file.specs.declared.pack_err.PackErr.TheVariants as refused
-use Rattle.ppc_file.specs.declared.version.Version.TheVariants.{One, Two}
-use Rattle.ppc_file.specs.Bytes.{bytes_of, magic}
-use Rattle.ppc_file.specs.Fields.{pair}
-use Rattle.ppc_file.specs.Fronts.{lettered, in_nodes, in_bits, AreParams, AreNodes}
-use Rattle.ppc_file.specs.PackFile.{IsPackFault}
 use Rattle.ppc_file.proofs.NameRules.{clean_name}
 
 abbrev p : PackParam

@@ -1,20 +1,6 @@
 -- The pack of a file that was read to its end, and bytes that follow it.
-use Rattle.std.proofs.Common.{◌≡◌, ℕ, ◌+◌, ◌*◌, ◌<◌, ◌≤◌, List, [], ◌∷◌, length, replicate, refl, sym, ap, ◌∙◌, subst, inl, inr, append-nil, arith}
-use Rattle.std.proofs.lemmas.List.{length-replicate}
-use Rattle.aig_core.specs.Aig.{Aig, AreNormal}
-use Rattle.aig_core.specs.declared.lit.Kind.TheVariants.{Parameter}
-use Rattle.aig_core.specs.declared.lit.Lit.{Lit}
-use Rattle.aig_core.specs.declared.lit.Pair.{Pair}
-use Rattle.ppc_pack.specs.Pack.{IsPack}
-use Rattle.ppc_pack.specs.declared.pack.PackParam.{PackParam}
+use Rattle.ppc_file.proofs.Common.{◌≡◌, ℕ, ◌+◌, ◌*◌, ◌<◌, ◌≤◌, List, [], ◌∷◌, length, replicate, refl, sym, ap, ◌∙◌, subst, inl, inr, append-nil, arith, length-replicate, Aig, AreNormal, Parameter, Lit, Pair, IsPack, PackParam, Version, One, Two, offset, bytes_of, in_bits, IsPackFile, IsPackFault, StandsAt}
 use Rattle.ppc_file.specs.declared.pack_err.PackErr.TheVariants as refused
-use Rattle.ppc_file.specs.declared.version.Version.{Version}
-use Rattle.ppc_file.specs.declared.version.Version.TheVariants.{One, Two}
-use Rattle.ppc_file.specs.Numbers.{offset}
-use Rattle.ppc_file.specs.Bytes.{bytes_of}
-use Rattle.ppc_file.specs.Fronts.{in_bits}
-use Rattle.ppc_file.specs.PackFile.{IsPackFile, IsPackFault}
-use Rattle.ppc_file.specs.Reading.{StandsAt}
 use Rattle.ppc_file.proofs.NumberLemmas.{IsBytes}
 use Rattle.ppc_file.proofs.StandLemmas.{no_end}
 

@@ -1,3 +1,4 @@
+mod Common
 mod FieldTakes
 mod FieldsAgain
 mod FileExamples

@@ -1,16 +1,10 @@
 -- The names that the test of a name passes are the clean ones that are new.
-use Rattle.std.proofs.Common.{◌≡◌, ℕ, ◌≤◌, Bool, true, false, not, ◌||◌, ◌&&◌, eqb, ltb, List, [], ◌∷◌, length, None, refl, sym, subst, inl, inr, arith}
-use Rattle.std.specs.List.{list_any}
-use Rattle.std.proofs.lemmas.Bool.{both_ways, or_parts, or_from, cases_Bool, ltb-false, le-ltb, eqb-false, ne_eqb}
-use Rattle.list_laws.specs.Members.{In}
-use Rattle.tl_text.specs.NameIndex.{place_of}
+use Rattle.ppc_file.proofs.Common.{◌≡◌, ℕ, ◌≤◌, Bool, true, false, not, ◌||◌, ◌&&◌, eqb, ltb, List, [], ◌∷◌, length, None, refl, sym, subst, inl, inr, arith, list_any, both_ways, or_parts, or_from, cases_Bool, ltb-false, le-ltb, eqb-false, ne_eqb, In, place_of, IsClean, is_bad_byte, is_bad_name}
 use Rattle.tl_text.specs.NameSets.{has_name}
-use Rattle.tl_text.specs.Clean.{IsClean}
 use Rattle.tl_text.specs.Lines.{is_bad, ends_in}
 use Rattle.tl_text.specs.Tokens.{is_blank}
 use Rattle.tl_text.proofs.NameLemmas.{not_there}
 use Rattle.tl_text.proofs.NameSetLemmas.{has_in, place_none}
-use Rattle.ppc_file.specs.Fields.{is_bad_byte, is_bad_name}
 
 -- a test that no element passes
 none_in : {A : Type 0} (test : A → Bool) (xs : List A) (x : A) → list_any test xs ≡ false → In xs x → test x ≡ false

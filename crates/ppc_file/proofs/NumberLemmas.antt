@@ -1,15 +1,7 @@
 -- A number that is read is the number that was spelled, and what was spelled is read again.
-use Rattle.std.proofs.Common.{◌≡◌, ℕ, zero, suc, ◌+◌, ◌-◌, ◌*◌, ◌/◌, ◌%◌, ◌^◌, ◌<◌, ◌≤◌, Bool, true, false, cond, ltb, eqb, List, [], ◌∷◌, ◌++◌, length, get_or, take, drop, Result, Ok, Err, refl, sym, ap, subst, ◌∙◌, append_assoc, arith, inl, inr}
-use Rattle.std.specs.Int.{Width, w16, w32, byte_len, from_be_bytes, to_be_bytes}
-use Rattle.std.proofs.Math.Nat.{pow-succ'}
-use Rattle.std.proofs.lemmas.Bool.{cases_lt, ltb-false, le-ltb, lt-ltb, eqb-false}
+use Rattle.ppc_file.proofs.Common.{◌≡◌, ℕ, zero, suc, ◌+◌, ◌-◌, ◌*◌, ◌/◌, ◌%◌, ◌^◌, ◌<◌, ◌≤◌, Bool, true, false, cond, ltb, eqb, List, [], ◌∷◌, ◌++◌, length, get_or, take, drop, Result, Ok, Err, refl, sym, ap, subst, ◌∙◌, append_assoc, arith, inl, inr, Width, w16, w32, byte_len, from_be_bytes, to_be_bytes, pow-succ', cases_lt, ltb-false, le-ltb, lt-ltb, eqb-false, PackErr, Truncated, BadNumber, Version, One, Two, Field, ◌>>=◌, offset, sevens, spelled, sevens_at, behind_byte, unless_over, number_at}
 use Rattle.std.proofs.lemmas.List.{take_at, drop_at, take-append-drop, length-append, length-take, get_or-drop, get_or-take, get_or_past}
 use Rattle.std.proofs.lemmas.Nat.{be_bytes_2, be_bytes_4, from_be_bytes-to_be_bytes_2, from_be_bytes-to_be_bytes_4}
-use Rattle.ppc_file.specs.declared.pack_err.PackErr.{PackErr}
-use Rattle.ppc_file.specs.declared.pack_err.PackErr.TheVariants.{Truncated, BadNumber}
-use Rattle.ppc_file.specs.declared.version.Version.{Version}
-use Rattle.ppc_file.specs.declared.version.Version.TheVariants.{One, Two}
-use Rattle.ppc_file.specs.Numbers.{Field, ◌>>=◌, offset, sevens, spelled, sevens_at, behind_byte, unless_over, number_at}
 
 -- numbers below 256
 abbrev pub IsBytes : List ℕ → Type 0

@@ -1,21 +1,6 @@
 -- Bytes are the file of one pack at most, or have one refusal at most, and never both.
-use Rattle.std.proofs.Common.{◌≡◌, ℕ, ◌+◌, ◌*◌, ◌<◌, false, ltb, List, [], length, replicate, Option, Some, None, Ok, Err, refl, sym, ap, subst, ◌∙◌, append-nil, arith, inl, inr}
-use Rattle.std.proofs.lemmas.Bool.{le-ltb}
-use Rattle.std.proofs.lemmas.Option.{none-some}
-use Rattle.aig_core.specs.Aig.{AreNormal}
-use Rattle.aig_core.specs.declared.lit.Kind.TheVariants.{Parameter}
-use Rattle.aig_core.specs.declared.lit.Lit.{Lit}
-use Rattle.aig_core.specs.declared.lit.Pair.{Pair}
-use Rattle.ppc_pack.specs.Pack.{PackValue, IsPack}
+use Rattle.ppc_file.proofs.Common.{◌≡◌, ℕ, ◌+◌, ◌*◌, ◌<◌, false, ltb, List, [], length, replicate, Option, Some, None, Ok, Err, refl, sym, ap, subst, ◌∙◌, append-nil, arith, inl, inr, le-ltb, none-some, AreNormal, Parameter, Lit, Pair, PackValue, IsPack, PackParam, PackErr, Version, One, Two, Field, bytes_of, Front, nothing, in_bits, IsSound, next_at, IsPackFile, IsPackFault, AreSame, HasOneReading}
 use Rattle.ppc_pack.proofs.ConfLemmas.{kinds_count}
-use Rattle.ppc_pack.specs.declared.pack.PackParam.{PackParam}
-use Rattle.ppc_file.specs.declared.pack_err.PackErr.{PackErr}
-use Rattle.ppc_file.specs.declared.version.Version.{Version}
-use Rattle.ppc_file.specs.declared.version.Version.TheVariants.{One, Two}
-use Rattle.ppc_file.specs.Numbers.{Field}
-use Rattle.ppc_file.specs.Bytes.{bytes_of}
-use Rattle.ppc_file.specs.Fronts.{Front, nothing, in_bits, IsSound, next_at}
-use Rattle.ppc_file.specs.PackFile.{IsPackFile, IsPackFault, AreSame, HasOneReading}
 use Rattle.ppc_file.proofs.ReadsLemmas.{Reads, IsEnd, one_end, reads_front}
 
 -- the front that is a whole pack

@@ -1,6 +1,5 @@
 -- Numbers by bytes of seven bits are small.
-use Rattle.std.proofs.Common.{◌≡◌, ℕ, zero, suc, ◌+◌, ◌-◌, ◌*◌, ◌^◌, ◌<◌, ◌≤◌, arith}
-use Rattle.std.proofs.Math.Nat.{pow-succ'}
+use Rattle.ppc_file.proofs.Common.{◌≡◌, ℕ, zero, suc, ◌+◌, ◌-◌, ◌*◌, ◌^◌, ◌<◌, ◌≤◌, arith, pow-succ'}
 
 pub one_at_least : (n b : ℕ) → 1 ≤ n → b < 128 → b < 128 ^ n
 one_at_least zero b some small = absurd (omega arith)

@@ -1,28 +1,8 @@
 -- What the readers of a file's parts are compared with: refusals, new names, and new pairs of a graph.
-use Rattle.std.proofs.Common.{◌≡◌, ℕ, ◌+◌, ◌*◌, ◌/◌, ◌<◌, ◌≤◌, Bool, true, false, ◌||◌, List, [], ◌∷◌, ◌++◌, length, replicate, min, max, Option, Some, None, Ok, Err, refl, sym, ap, subst, ◌∙◌, arith, inl, inr, cond}
-use Rattle.std.specs.List.{list_any, position}
-use Rattle.std.proofs.lemmas.Bool.{cases_Bool, ne_eqb}
-use Rattle.std.proofs.lemmas.List.{length-replicate}
+use Rattle.ppc_file.proofs.Common.{◌≡◌, ℕ, ◌+◌, ◌*◌, ◌/◌, ◌<◌, ◌≤◌, Bool, true, false, ◌||◌, List, [], ◌∷◌, ◌++◌, length, replicate, min, max, Option, Some, None, Ok, Err, refl, sym, ap, subst, ◌∙◌, arith, inl, inr, cond, list_any, position, cases_Bool, ne_eqb, length-replicate, position_none, list_any-position_none, Unless, OrMemory, place_of, Aig, IsNormal, first_and, node_count, Answer, and_of, is_pair, found_or_new, Parameter, Lit, Pair, PackParam, PackErr, Version, Field, ◌>>=◌, offset, param_at, names_of_params, fan_ins_at, is_bad_pair, if_new_pair, node_at, bit_at, in_params, in_nodes, in_bits, IsPackFault, StandsAt, refusal_of}
 use Rattle.std.proofs.lemmas.List.Quantifiers.{position-Some}
-use Rattle.list_laws.proofs.FirstPlace.{position_none, list_any-position_none}
-use Rattle.tl_fault.specs.OrMemory.{Unless, OrMemory}
 use Rattle.tl_fault.specs.RefusalValue.{RefusalValue}
-use Rattle.tl_text.specs.NameIndex.{place_of}
-use Rattle.aig_core.specs.Aig.{Aig, IsNormal, first_and, node_count}
-use Rattle.aig_core.specs.And.{Answer, and_of, is_pair, found_or_new}
-use Rattle.aig_core.specs.declared.lit.Kind.TheVariants.{Parameter}
-use Rattle.aig_core.specs.declared.lit.Lit.{Lit}
-use Rattle.aig_core.specs.declared.lit.Pair.{Pair}
-use Rattle.ppc_pack.specs.declared.pack.PackParam.{PackParam}
-use Rattle.ppc_file.specs.declared.pack_err.PackErr.{PackErr}
 use Rattle.ppc_file.specs.declared.pack_err.PackErr.TheVariants as refused
-use Rattle.ppc_file.specs.declared.version.Version.{Version}
-use Rattle.ppc_file.specs.Numbers.{Field, ◌>>=◌, offset}
-use Rattle.ppc_file.specs.Fields.{param_at, names_of_params, fan_ins_at, is_bad_pair, if_new_pair, node_at, bit_at}
-use Rattle.ppc_file.specs.Fronts.{in_params, in_nodes, in_bits}
-use Rattle.ppc_file.specs.PackFile.{IsPackFault}
-use Rattle.ppc_file.specs.Reading.{StandsAt}
-use Rattle.ppc_file.specs.Refusals.{refusal_of}
 use Rattle.ppc_file.proofs.FieldTakes.{param_takes}
 use Rattle.ppc_file.proofs.NameRules.{new_place}
 use Rattle.ppc_file.proofs.NumberLemmas.{IsBytes}

@@ -1,27 +1,6 @@
 -- A file is read front by front, in one way; and a sound front that a file begins with is met on the way.
-use Rattle.std.proofs.Common.{◌≡◌, ℕ, ◌+◌, ◌*◌, ◌<◌, ◌≤◌, true, false, ltb, eqb, List, [], ◌∷◌, ◌++◌, length, Option, Some, Ok, refl, sym, ap, subst, ◌∙◌, append_assoc, append-nil, arith, inl, inr, length-append, eqb-true}
-use Rattle.std.specs.Prelude.{slice_get}
-use Rattle.std.specs.Int.{w16, w32, to_be_bytes}
-use Rattle.std.specs.List.{flat_map, list_any}
-use Rattle.std.proofs.lemmas.Bool.{le-ltb, lt-ltb, cases_Bool, and_parts}
-use Rattle.std.proofs.lemmas.Option.{slice_get_within}
-use Rattle.list_laws.specs.Members.{In}
-use Rattle.list_laws.proofs.Members.{In-right, In-map, place_in}
-use Rattle.list_laws.proofs.Places.{get_left, get_end}
-use Rattle.tl_text.specs.Once.{AreOnce}
-use Rattle.aig_core.specs.Aig.{AreNormal}
-use Rattle.aig_core.specs.And.{is_pair}
-use Rattle.aig_core.specs.declared.lit.Lit.{Lit}
-use Rattle.aig_core.specs.declared.lit.Pair.{Pair}
-use Rattle.ppc_pack.specs.declared.pack.PackParam.{PackParam}
-use Rattle.ppc_pack.specs.declared.pack.TheConstants.{MOST_PACK_NODES, MOST_PACK_BITS}
-use Rattle.tl_text.specs.declared.limits.TheConstants.{MOST_PARAMETERS}
+use Rattle.ppc_file.proofs.Common.{◌≡◌, ℕ, ◌+◌, ◌*◌, ◌<◌, ◌≤◌, true, false, ltb, eqb, List, [], ◌∷◌, ◌++◌, length, Option, Some, Ok, refl, sym, ap, subst, ◌∙◌, append_assoc, append-nil, arith, inl, inr, length-append, eqb-true, slice_get, w16, w32, to_be_bytes, flat_map, list_any, le-ltb, lt-ltb, cases_Bool, and_parts, slice_get_within, In, In-right, In-map, place_in, get_left, get_end, AreOnce, AreNormal, is_pair, Lit, Pair, PackParam, MOST_PACK_NODES, MOST_PACK_BITS, MOST_PARAMETERS, Version, Field, offset, spelled, magic, version_number, head_bytes, param_bytes, node_bytes, nodes_bytes, bit_bytes, params_part, nodes_part, bits_part, names_of_params, Front, nothing, lettered, versioned, in_params, in_nodes, in_bits, spelling, AreParams, AreNodes, AreBits, AreSome, IsSound, read_into, next_at}
 use Rattle.ppc_file.specs.declared.pack_err.PackErr.TheVariants as refused
-use Rattle.ppc_file.specs.declared.version.Version.{Version}
-use Rattle.ppc_file.specs.Numbers.{Field, offset, spelled}
-use Rattle.ppc_file.specs.Bytes.{magic, version_number, head_bytes, param_bytes, node_bytes, nodes_bytes, bit_bytes, params_part, nodes_part, bits_part}
-use Rattle.ppc_file.specs.Fields.{names_of_params}
-use Rattle.ppc_file.specs.Fronts.{Front, nothing, lettered, versioned, in_params, in_nodes, in_bits, spelling, AreParams, AreNodes, AreBits, AreSome, IsSound, read_into, next_at}
 use Rattle.ppc_file.proofs.NameRules.{none_all}
 use Rattle.ppc_file.proofs.FieldTakes.{IsNextParam, IsNextNode}
 use Rattle.ppc_file.proofs.FieldsAgain.{magic_again, version_again, count16_again, count32_again, param_again, node_again, bit_again}

@@ -1,33 +1,8 @@
 -- A reader that is after a front is after a longer one once the next field is taken.
-use Rattle.std.proofs.Common.{◌≡◌, ℕ, suc, ◌+◌, ◌*◌, ◌<◌, ◌≤◌, List, [], ◌∷◌, ◌++◌, length, Some, Ok, Err, refl, sym, ap, subst, ◌∙◌, append_assoc, append-nil, arith, inl, inr, length-append}
-use Rattle.std.specs.Prelude.{slice_get}
-use Rattle.std.specs.Int.{w16, w32, to_be_bytes}
-use Rattle.std.specs.List.{flat_map}
-use Rattle.std.proofs.lemmas.Bool.{le-ltb, lt-ltb}
-use Rattle.std.proofs.lemmas.List.{map-append}
+use Rattle.ppc_file.proofs.Common.{◌≡◌, ℕ, suc, ◌+◌, ◌*◌, ◌<◌, ◌≤◌, List, [], ◌∷◌, ◌++◌, length, Some, Ok, Err, refl, sym, ap, subst, ◌∙◌, append_assoc, append-nil, arith, inl, inr, length-append, slice_get, w16, w32, to_be_bytes, flat_map, le-ltb, lt-ltb, map-append, none-some, position_none, In-push, IsClean, AreOnce, is_pair, Lit, Pair, AreNormal-push, PackParam, MOST_PACK_NODES, MOST_PACK_BITS, MOST_PARAMETERS, MOST_NAME_BYTES, PackErr, Version, Field, offset, spelled, version_number, head_bytes, param_bytes, node_bytes, nodes_bytes, bit_bytes, params_part, nodes_part, bits_part, magic_at, version_at, param_count_at, node_count_at, bit_count_at, param_at, names_of_params, node_at, bit_at, Front, nothing, lettered, versioned, in_params, in_nodes, in_bits, spelling, AreParams, IsSound, read_into, next_at, IsPackFault, StandsAt}
 use Rattle.std.proofs.lemmas.List.Concat.{flat_map-append}
-use Rattle.std.proofs.lemmas.Option.{none-some}
-use Rattle.list_laws.proofs.FirstPlace.{position_none}
-use Rattle.list_laws.proofs.Members.{In-push}
-use Rattle.tl_text.specs.Clean.{IsClean}
-use Rattle.tl_text.specs.Once.{AreOnce}
 use Rattle.list_laws.proofs.Apart.{pushed_apart}
-use Rattle.aig_core.specs.And.{is_pair}
-use Rattle.aig_core.specs.declared.lit.Lit.{Lit}
-use Rattle.aig_core.specs.declared.lit.Pair.{Pair}
-use Rattle.aig_core.proofs.Keeping.{AreNormal-push}
-use Rattle.ppc_pack.specs.declared.pack.PackParam.{PackParam}
-use Rattle.ppc_pack.specs.declared.pack.TheConstants.{MOST_PACK_NODES, MOST_PACK_BITS}
-use Rattle.tl_text.specs.declared.limits.TheConstants.{MOST_PARAMETERS, MOST_NAME_BYTES}
-use Rattle.ppc_file.specs.declared.pack_err.PackErr.{PackErr}
 use Rattle.ppc_file.specs.declared.pack_err.PackErr.TheVariants as refused
-use Rattle.ppc_file.specs.declared.version.Version.{Version}
-use Rattle.ppc_file.specs.Numbers.{Field, offset, spelled}
-use Rattle.ppc_file.specs.Bytes.{version_number, head_bytes, param_bytes, node_bytes, nodes_bytes, bit_bytes, params_part, nodes_part, bits_part}
-use Rattle.ppc_file.specs.Fields.{magic_at, version_at, param_count_at, node_count_at, bit_count_at, param_at, names_of_params, node_at, bit_at}
-use Rattle.ppc_file.specs.Fronts.{Front, nothing, lettered, versioned, in_params, in_nodes, in_bits, spelling, AreParams, IsSound, read_into, next_at}
-use Rattle.ppc_file.specs.PackFile.{IsPackFault}
-use Rattle.ppc_file.specs.Reading.{StandsAt}
 use Rattle.ppc_file.proofs.NumberLemmas.{IsBytes, Takes}
 use Rattle.ppc_file.proofs.FieldTakes.{IsNextParam, magic_takes, version_takes, count16_takes, count32_takes, param_takes, node_takes, bit_takes}
 

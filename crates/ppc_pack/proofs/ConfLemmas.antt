@@ -1,10 +1,5 @@
 -- A pack has as many sources as parameters, and one configuration under any values of them; and what the loop over the bits keeps.
-use Rattle.std.proofs.Common.{◌≡◌, Bool, List, length, map, refl, ap, ◌∙◌}
-use Rattle.std.proofs.lemmas.List.{length-replicate}
-use Rattle.aig_core.specs.declared.lit.Kind.TheVariants.{Parameter}
-use Rattle.aig_core.specs.Roots.{lits_of}
-use Rattle.aig_core.specs.Value.{value_of, HasOneFit}
-use Rattle.ppc_pack.specs.Pack.{PackValue, IsPack, HasOneConf}
+use Rattle.ppc_pack.proofs.Common.{◌≡◌, Bool, List, length, map, refl, ap, ◌∙◌, length-replicate, Parameter, lits_of, value_of, HasOneFit, PackValue, IsPack, HasOneConf}
 
 -- the sources are the parameters
 pub kinds_count : (pack : PackValue) → IsPack pack.params pack.graph pack.bits → length pack.graph.kinds ≡ length pack.params

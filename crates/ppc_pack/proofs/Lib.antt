@@ -1,2 +1,3 @@
+mod Common
 pub mod ConfLemmas
 pub mod PackExample

@@ -1,18 +1,15 @@
 -- Worked examples: a pack of one parameter with the four functions of it, and one of two parameters with their product.
-use Rattle.std.proofs.Common.{◌≡◌, ℕ, zero, suc, ◌+◌, ◌-◌, ◌<◌, ◌≤◌, true, false, ◌&&◌, eqb, List, [], ◌∷◌, length, Some, refl, sym, ap, ◌∙◌, subst, inl, inr, arith}
+use Rattle.ppc_pack.proofs.Common.{◌≡◌, ℕ, zero, suc, ◌+◌, ◌-◌, ◌<◌, ◌≤◌, true, false, ◌&&◌, eqb, List, [], ◌∷◌, length, Some, refl, sym, ap, ◌∙◌, subst, inl, inr, arith, Parameter, node_value, value_of, FitsGraph, PackValue, IsPack, IsConf, inits_of}
 use Rattle.std.specs.List.{slice_get}
 use Rattle.std.proofs.lemmas.Option.{none-some, same_Some}
 use Rattle.list_laws.specs.Members.{In}
 use Rattle.tl_text.specs.Clean.{IsClean}
 use Rattle.tl_text.specs.Lines.{is_bad}
 use Rattle.tl_text.specs.Tokens.{is_blank}
-use Rattle.aig_core.specs.declared.lit.Kind.TheVariants.{Parameter}
 use Rattle.aig_core.specs.declared.lit.Lit.{Lit}
 use Rattle.aig_core.specs.declared.lit.Pair.{Pair}
 use Rattle.aig_core.specs.Aig.{IsLit}
-use Rattle.aig_core.specs.Value.{node_value, value_of, FitsGraph}
 use Rattle.ppc_pack.specs.declared.pack.PackParam.{PackParam}
-use Rattle.ppc_pack.specs.Pack.{PackValue, IsPack, IsConf, inits_of}
 
 -- one parameter, which is 1 at the start, and the bits 0, p, not p and 1
 abbrev pub one_parameter : PackValue

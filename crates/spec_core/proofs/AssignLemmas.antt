@@ -1,22 +1,5 @@
 -- Parameters get new values: a sweep begins.
-use Rattle.std.proofs.Common.{◌≡◌, ℕ, zero, suc, ◌+◌, ◌-◌, ◌/◌, ◌<◌, ◌≤◌, Bool, false, List, [], ◌∷◌, length, get_or, replicate, slice_set, refl, sym, ap, ◌∙◌, subst, inl, inr, arith}
-use Rattle.std.proofs.lemmas.Bool.{cases_lt, false≢true, or_from}
-use Rattle.std.proofs.lemmas.List.{length-set, get_or-set_same, get_or-set_other, get_or-replicate, get_or_past, length-replicate}
-use Rattle.tl_io.specs.declared.Assign.{Assign}
-use Rattle.tl_io.specs.Assigns.{AreAssigned, assigned}
-use Rattle.list_laws.specs.Members.{In}
-use Rattle.list_laws.proofs.Members.{place_in}
-use Rattle.list_laws.proofs.Places.{same_or}
-use Rattle.aig_core.specs.declared.lit.Pair.{Pair}
-use Rattle.aig_core.specs.Aig.{first_and, node_count}
-use Rattle.aig_core.specs.Value.{xor, node_value, FitsGraph}
-use Rattle.ppc_pack.specs.Pack.{PackValue}
-use Rattle.dirty_idx.specs.Marks.{is_marked}
-use Rattle.dirty_idx.specs.Readers.{ReadersValue}
-use Rattle.dirty_idx.proofs.ReadLemmas.{reads_and}
-use Rattle.spec_core.specs.Touched.{is_changed, is_touched}
-use Rattle.spec_core.specs.Sweep.{Progress, Belong, stored, with_assigned, AreMarked, IsSweeping}
-use Rattle.spec_core.specs.Keeps.{params_in, IsIdle}
+use Rattle.spec_core.proofs.Common.{◌≡◌, ℕ, zero, suc, ◌+◌, ◌-◌, ◌/◌, ◌<◌, ◌≤◌, Bool, false, List, [], ◌∷◌, length, get_or, replicate, slice_set, refl, sym, ap, ◌∙◌, subst, inl, inr, arith, cases_lt, false≢true, or_from, length-set, get_or-set_same, get_or-set_other, get_or-replicate, get_or_past, length-replicate, Assign, AreAssigned, assigned, In, place_in, same_or, Pair, first_and, node_count, xor, node_value, FitsGraph, PackValue, is_marked, ReadersValue, reads_and, is_changed, is_touched, Progress, Belong, stored, with_assigned, AreMarked, IsSweeping, params_in, IsIdle}
 use Rattle.spec_core.proofs.MarkLemmas.{xor-same}
 use Rattle.spec_core.proofs.StoreLemmas.{stored_values, Belong-stored, AreMarked-stored}
 

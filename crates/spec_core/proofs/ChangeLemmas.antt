@@ -1,29 +1,6 @@
 -- A change of parameters as a whole: the addresses that are marked after the sweep are those where the configurations differ.
-use Rattle.std.proofs.Common.{◌≡◌, ℕ, zero, suc, ◌+◌, ◌-◌, ◌/◌, ◌%◌, ◌<◌, Bool, true, false, eqb, List, [], ◌∷◌, length, get_or, map, drop, Some, refl, sym, ap, ◌∙◌, subst, inl, inr, arith}
-use Rattle.std.specs.List.{slice_get, range_with_len}
-use Rattle.std.proofs.lemmas.Bool.{cases_Bool, cases_lt, false≢true}
-use Rattle.std.proofs.lemmas.List.{ext_get_or, length-map, length-replicate, length-take, length-drop, get_or-take, get_or-drop, get_or_past}
-use Rattle.std.proofs.lemmas.List.Elements.{filter_agree}
-use Rattle.std.proofs.lemmas.Option.{none-some, same_Some}
-use Rattle.tl_io.specs.declared.Assign.{Assign}
-use Rattle.tl_io.specs.Assigns.{AreAssigned, assigned}
-use Rattle.tl_io.specs.Writes.{written}
-use Rattle.list_laws.proofs.Places.{at_within}
-use Rattle.aig_core.specs.declared.lit.Lit.{Lit}
-use Rattle.aig_core.specs.Aig.{first_and, node_count, AreNormal}
+use Rattle.spec_core.proofs.Common.{◌≡◌, ℕ, zero, suc, ◌+◌, ◌-◌, ◌/◌, ◌%◌, ◌<◌, Bool, true, false, eqb, List, [], ◌∷◌, length, get_or, map, drop, Some, refl, sym, ap, ◌∙◌, subst, inl, inr, arith, slice_get, range_with_len, cases_Bool, cases_lt, false≢true, ext_get_or, length-map, length-replicate, length-take, length-drop, get_or-take, get_or-drop, get_or_past, filter_agree, none-some, same_Some, Assign, AreAssigned, assigned, written, at_within, Lit, first_and, node_count, AreNormal, xor, node_value, value_of, FitsGraph, HasOneFit, one_fit, PackValue, IsPack, IsConf, kinds_count, has_one_conf, is_marked, ReadersValue, AreReaders, config_bit, differs_at, write_of, differences, IsSet, is_changed, Progress, EvaluationValue, Belong, bits_under, with_assigned, IsSweeping, IsSwept, DeviceValue, IsSent, params_in, IsIdle, IsChange}
 use Rattle.aig_core.specs.Roots.{lits_of}
-use Rattle.aig_core.specs.Value.{xor, node_value, value_of, FitsGraph, HasOneFit}
-use Rattle.aig_core.proofs.FitLemmas.{one_fit}
-use Rattle.ppc_pack.specs.Pack.{PackValue, IsPack, IsConf}
-use Rattle.ppc_pack.proofs.ConfLemmas.{kinds_count, has_one_conf}
-use Rattle.dirty_idx.specs.Marks.{is_marked}
-use Rattle.dirty_idx.specs.Readers.{ReadersValue, AreReaders}
-use Rattle.spec_core.specs.Differences.{config_bit, differs_at, write_of, differences}
-use Rattle.spec_core.specs.Events.{IsSet}
-use Rattle.spec_core.specs.Touched.{is_changed}
-use Rattle.spec_core.specs.Sweep.{Progress, EvaluationValue, Belong, bits_under, with_assigned, IsSweeping, IsSwept}
-use Rattle.spec_core.specs.Device.{DeviceValue, IsSent}
-use Rattle.spec_core.specs.Keeps.{params_in, IsIdle, IsChange}
 use Rattle.spec_core.proofs.AssignLemmas.{length-assigned, none_marked, sweep_begins}
 use Rattle.spec_core.proofs.WriteLemmas.{written_differences}
 

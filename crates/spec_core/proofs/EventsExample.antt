@@ -1,14 +1,6 @@
 -- Worked examples: the events of a multiplexer of two LUTs of two bits, and the nodes of a chain that a change touches.
-use Rattle.std.proofs.Common.{◌≡◌, ◌-◌, Bool, true, false, List, [], ◌∷◌, get_or, refl, sym, subst, arith}
-use Rattle.std.proofs.lemmas.Option.{none-some}
-use Rattle.tl_io.specs.declared.Assign.{Assign}
-use Rattle.tl_io.specs.declared.Write.{Write}
+use Rattle.spec_core.proofs.Common.{◌≡◌, ◌-◌, Bool, true, false, List, [], ◌∷◌, get_or, refl, sym, subst, arith, none-some, Assign, Write, Aig, node_value, FitsGraph, PackValue, IsConf, HostState, IsSet, IsUpset, IsScrub, touched}
 use Rattle.aig_core.specs.declared.lit.Kind.TheVariants.{Parameter}
-use Rattle.aig_core.specs.Aig.{Aig}
-use Rattle.aig_core.specs.Value.{node_value, FitsGraph}
-use Rattle.ppc_pack.specs.Pack.{PackValue, IsConf}
-use Rattle.spec_core.specs.Events.{HostState, IsSet, IsUpset, IsScrub}
-use Rattle.spec_core.specs.Touched.{touched}
 
 -- one parameter p, and the bits 0, p, not p and 1
 abbrev pub multiplexer : PackValue

@@ -1,22 +1,7 @@
 -- What a specialiser keeps: at the start, and after an event.
-use Rattle.std.proofs.Common.{◌≡◌, ℕ, ◌≤◌, Bool, false, List, [], length, replicate, refl, sym, ap, ◌∙◌, subst}
-use Rattle.std.proofs.lemmas.List.{length-map}
-use Rattle.tl_io.specs.declared.Assign.{Assign}
-use Rattle.tl_io.specs.Writes.{AreAscending, AreBitsOf, written}
-use Rattle.aig_core.specs.Aig.{first_and, node_count, AreNormal}
-use Rattle.aig_core.specs.Value.{FitsGraph}
-use Rattle.aig_core.proofs.FitLemmas.{one_fit}
+use Rattle.spec_core.proofs.Common.{◌≡◌, ℕ, ◌≤◌, Bool, false, List, [], length, replicate, refl, sym, ap, ◌∙◌, subst, length-map, Assign, AreAscending, AreBitsOf, written, first_and, node_count, AreNormal, FitsGraph, one_fit, PackValue, IsPack, IsConf, HasOneConf, inits_of, has_one_conf, kinds_count, is_marked, differs_at, IsSet, IsScrub, Progress, EvaluationValue, bits_under, DeviceValue, IsSent, params_in, IsIdle, IsChange, Keeps, length-written}
 use Rattle.ppc_pack.specs.declared.pack.TheConstants.{MOST_PACK_BITS}
 use Rattle.ppc_pack.specs.declared.pack.PackParam.{PackParam}
-use Rattle.ppc_pack.specs.Pack.{PackValue, IsPack, IsConf, HasOneConf, inits_of}
-use Rattle.ppc_pack.proofs.ConfLemmas.{has_one_conf, kinds_count}
-use Rattle.dirty_idx.specs.Marks.{is_marked}
-use Rattle.spec_core.specs.Differences.{differs_at}
-use Rattle.spec_core.specs.Events.{IsSet, IsScrub}
-use Rattle.spec_core.specs.Sweep.{Progress, EvaluationValue, bits_under}
-use Rattle.spec_core.specs.Device.{DeviceValue, IsSent}
-use Rattle.spec_core.specs.Keeps.{params_in, IsIdle, IsChange, Keeps}
-use Rattle.tl_io.proofs.BitLemmas.{length-written}
 use Rattle.spec_core.proofs.WriteLemmas.{writes_ascend, writes_are_bits, written_differences}
 use Rattle.spec_core.proofs.ChangeLemmas.{params_fit, length-bits_under, idle_conf, change_set, change_steady}
 

@@ -1,16 +1,5 @@
 -- How many places there are from the first mark on: fewer after a visit, which marks only later ones.
-use Rattle.std.proofs.Common.{◌≡◌, ℕ, zero, suc, ◌+◌, ◌<◌, ◌≤◌, Bool, true, false, List, [], ◌∷◌, length, slice_set, Some, sym, ap, ◌∙◌, inl, inr, arith}
-use Rattle.std.proofs.lemmas.Bool.{cases_Bool, cases_lt, false≢true}
-use Rattle.std.proofs.lemmas.List.{get_or-set_same, get_or-set_other}
-use Rattle.list_laws.proofs.Choice.{choose}
-use Rattle.list_laws.proofs.Places.{same_or}
-use Rattle.aig_core.specs.Aig.{node_count}
-use Rattle.aig_core.specs.Value.{xor, node_value}
-use Rattle.ppc_pack.specs.Pack.{PackValue}
-use Rattle.dirty_idx.specs.Marks.{is_marked, IsLeast}
-use Rattle.dirty_idx.specs.Readers.{ReadersValue, nodes_of}
-use Rattle.dirty_idx.proofs.ReadLemmas.{reads_above}
-use Rattle.spec_core.specs.Sweep.{Progress, Belong, stored}
+use Rattle.spec_core.proofs.Common.{◌≡◌, ℕ, zero, suc, ◌+◌, ◌<◌, ◌≤◌, Bool, true, false, List, [], ◌∷◌, length, slice_set, Some, sym, ap, ◌∙◌, inl, inr, arith, cases_Bool, cases_lt, false≢true, get_or-set_same, get_or-set_other, choose, same_or, node_count, xor, node_value, PackValue, is_marked, IsLeast, ReadersValue, nodes_of, reads_above, Progress, Belong, stored}
 use Rattle.spec_core.proofs.MarkLemmas.{marks_only}
 use Rattle.spec_core.proofs.StoreLemmas.{Belong-stored, Belong-without}
 

@@ -1,3 +1,4 @@
+mod Common
 pub mod MarkLemmas
 mod StoreLemmas
 mod LeastLemmas

@@ -1,13 +1,5 @@
 -- Marks and values after a write.
-use Rattle.std.proofs.Common.{◌≡◌, ℕ, ◌<◌, Bool, true, false, List, [], ◌∷◌, length, replicate, slice_set, refl, sym, ap, ◌∙◌, subst, inl, inr, ◌⊎◌, arith}
-use Rattle.std.proofs.lemmas.Bool.{cases_lt, false≢true}
-use Rattle.std.proofs.lemmas.List.{length-set, get_or-set_same, get_or-set_other, get_or_past, ext_get_or, length-replicate, get_or-replicate}
-use Rattle.list_laws.specs.Members.{In}
-use Rattle.list_laws.proofs.Places.{same_or}
-use Rattle.aig_core.specs.Value.{xor, node_value}
-use Rattle.dirty_idx.specs.Marks.{is_marked, IsEmpty}
-use Rattle.spec_core.specs.Touched.{is_changed}
-use Rattle.spec_core.specs.Sweep.{with_marks}
+use Rattle.spec_core.proofs.Common.{◌≡◌, ℕ, ◌<◌, Bool, true, false, List, [], ◌∷◌, length, replicate, slice_set, refl, sym, ap, ◌∙◌, subst, inl, inr, ◌⊎◌, arith, cases_lt, false≢true, length-set, get_or-set_same, get_or-set_other, get_or_past, ext_get_or, length-replicate, get_or-replicate, In, same_or, xor, node_value, is_marked, IsEmpty, is_changed, with_marks}
 
 -- two tests that do not differ are equal, and the other way round
 pub xor-false : (a b : Bool) → xor a b ≡ false → a ≡ b

@@ -1,18 +1,5 @@
 -- A node gets a value: the marks stay right.
-use Rattle.std.proofs.Common.{◌≡◌, ℕ, ◌+◌, ◌/◌, ◌<◌, ◌≤◌, Bool, true, false, List, length, slice_set, Option, Some, None, refl, sym, ap, ◌∙◌, inl, inr, arith}
-use Rattle.std.proofs.lemmas.Bool.{cases_lt, false≢true, or_left, or_right, or_cases}
-use Rattle.std.proofs.lemmas.List.{length-set, get_or-set_same, get_or-set_other, set-get_or}
-use Rattle.list_laws.proofs.Choice.{choose}
-use Rattle.list_laws.proofs.Places.{same_or}
-use Rattle.aig_core.specs.declared.lit.Pair.{Pair}
-use Rattle.aig_core.specs.Aig.{node_count, IsAnd}
-use Rattle.aig_core.specs.Value.{xor, node_value}
-use Rattle.ppc_pack.specs.Pack.{PackValue}
-use Rattle.dirty_idx.specs.Marks.{is_marked, IsLeast, without}
-use Rattle.dirty_idx.specs.Readers.{ReadersValue, Reads, IsLitOf, nodes_of, addresses_of}
-use Rattle.dirty_idx.proofs.ReadLemmas.{reads_and, lit_within}
-use Rattle.spec_core.specs.Touched.{is_changed, is_touched}
-use Rattle.spec_core.specs.Sweep.{Progress, Belong, with_marks, stored, IsStale, AreMarked}
+use Rattle.spec_core.proofs.Common.{◌≡◌, ℕ, ◌+◌, ◌/◌, ◌<◌, ◌≤◌, Bool, true, false, List, length, slice_set, Option, Some, None, refl, sym, ap, ◌∙◌, inl, inr, arith, cases_lt, false≢true, or_left, or_right, or_cases, length-set, get_or-set_same, get_or-set_other, set-get_or, choose, same_or, Pair, node_count, IsAnd, xor, node_value, PackValue, is_marked, IsLeast, without, ReadersValue, Reads, IsLitOf, nodes_of, addresses_of, reads_and, lit_within, is_changed, is_touched, Progress, Belong, with_marks, stored, IsStale, AreMarked}
 use Rattle.spec_core.proofs.MarkLemmas.{xor-false, marked_within, marks_kept, marks_set, marks_only, length-with_marks, changed_here, changed_more, changed_back}
 
 -- what a node reads more of is touched as well

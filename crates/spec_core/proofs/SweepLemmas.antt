@@ -1,20 +1,5 @@
 -- A sweep: below the least mark all nodes have their new values, whether they were marked or not.
-use Rattle.std.proofs.Common.{◌≡◌, ℕ, zero, suc, ◌+◌, ◌-◌, ◌/◌, ◌<◌, ◌≤◌, Bool, true, false, ◌&&◌, ◌||◌, List, length, take, slice_set, Some, sym, ap, ◌∙◌, subst, inl, inr, arith, cond}
-use Rattle.std.specs.List.{filter}
-use Rattle.std.proofs.lemmas.Bool.{cases_Bool, cases_lt, false≢true, or_left, or_right}
-use Rattle.std.proofs.lemmas.List.{ext_get_or, get_or_past, get_or-set_same, get_or-set_other, take_all}
-use Rattle.std.proofs.lemmas.List.Filters.{length-filter_more}
-use Rattle.std.proofs.lemmas.Option.{get_or_from_slice_get, same_Some, slice_get_within}
-use Rattle.aig_core.specs.declared.lit.Pair.{Pair}
-use Rattle.aig_core.specs.Aig.{first_and, node_count, IsNode, IsNormal}
-use Rattle.aig_core.specs.Value.{xor, in_phase, node_value, value_of, FitsGraph}
-use Rattle.aig_core.proofs.NodeLemmas.{node_normal, node_at}
-use Rattle.ppc_pack.specs.Pack.{PackValue}
-use Rattle.dirty_idx.specs.Marks.{is_marked, IsLeast, IsEmpty}
-use Rattle.dirty_idx.specs.Readers.{ReadersValue}
-use Rattle.dirty_idx.proofs.ReadLemmas.{reads_above}
-use Rattle.spec_core.specs.Touched.{is_changed, is_touched}
-use Rattle.spec_core.specs.Sweep.{Progress, EvaluationValue, Belong, product_of, stored, IsMoved, IsSweeping, IsSwept}
+use Rattle.spec_core.proofs.Common.{◌≡◌, ℕ, zero, suc, ◌+◌, ◌-◌, ◌/◌, ◌<◌, ◌≤◌, Bool, true, false, ◌&&◌, ◌||◌, List, length, take, slice_set, Some, sym, ap, ◌∙◌, subst, inl, inr, arith, cond, filter, cases_Bool, cases_lt, false≢true, or_left, or_right, ext_get_or, get_or_past, get_or-set_same, get_or-set_other, take_all, length-filter_more, get_or_from_slice_get, same_Some, slice_get_within, Pair, first_and, node_count, IsNode, IsNormal, xor, in_phase, node_value, value_of, FitsGraph, node_normal, node_at, PackValue, is_marked, IsLeast, IsEmpty, ReadersValue, reads_above, is_changed, is_touched, Progress, EvaluationValue, Belong, product_of, stored, IsMoved, IsSweeping, IsSwept}
 use Rattle.spec_core.proofs.MarkLemmas.{xor-false, xor-same, unmarked}
 use Rattle.spec_core.proofs.StoreLemmas.{stored_values, Belong-without, AreMarked-stored, AreMarked-taken}
 

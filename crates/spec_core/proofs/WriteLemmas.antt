@@ -1,26 +1,9 @@
 -- Writes of the bits of a configuration at ascending addresses.
-use Rattle.std.proofs.Common.{◌≡◌, ℕ, zero, suc, ◌+◌, ◌<◌, ◌≤◌, Bool, true, false, not, cond, List, [], ◌∷◌, ◌++◌, length, map, slice_set, Some, refl, sym, ap, ◌∙◌, subst, inl, inr, arith}
+use Rattle.spec_core.proofs.Common.{◌≡◌, ℕ, zero, suc, ◌+◌, ◌<◌, ◌≤◌, Bool, true, false, not, cond, List, [], ◌∷◌, ◌++◌, length, map, slice_set, Some, refl, sym, ap, ◌∙◌, subst, inl, inr, arith, slice_get, filter, range_with_len, cases_Bool, ext_get_or, length-set, length-map, get_or-set_same, get_or-set_other, map-append, filter-append, length-filter_both, slice_get-get_or, Write, address_of, AreAscending, AreBitsOf, written, length-written, In, choose, In-filter, in_filter, from_map, same_or, xor, is_marked, IsLeast, IsEmpty, config_bit, differs_at, write_of, differences, writes_where}
 use mathlib.Core.Bool.{beq}
-use Rattle.std.specs.List.{slice_get, filter, range_with_len}
-use Rattle.std.proofs.lemmas.Bool.{cases_Bool}
-use Rattle.std.proofs.lemmas.List.{ext_get_or, length-set, length-map, get_or-set_same, get_or-set_other, map-append}
-use Rattle.std.proofs.lemmas.List.Elements.{filter-append}
 use Rattle.std.proofs.lemmas.List.FromFn.{length-range_with_len}
-use Rattle.std.proofs.lemmas.List.Filters.{length-filter_both}
-use Rattle.std.proofs.lemmas.Option.{slice_get-get_or}
-use Rattle.tl_io.specs.declared.Write.{Write}
-use Rattle.tl_io.specs.Writes.{address_of, AreAscending, AreBitsOf, written}
-use Rattle.tl_io.proofs.BitLemmas.{length-written}
-use Rattle.list_laws.specs.Members.{In}
 use Rattle.list_laws.specs.Order.{IsAscending}
-use Rattle.list_laws.proofs.Choice.{choose}
-use Rattle.list_laws.proofs.Members.{In-filter, in_filter, from_map}
-use Rattle.list_laws.proofs.Places.{same_or}
 use Rattle.list_laws.proofs.Ranges.{of_range, in_range}
-use Rattle.aig_core.specs.Value.{xor}
-use Rattle.dirty_idx.specs.Marks.{is_marked, IsLeast, IsEmpty}
-use Rattle.spec_core.specs.Differences.{config_bit, differs_at, write_of, differences}
-use Rattle.spec_core.specs.Device.{writes_where}
 use Rattle.spec_core.proofs.MarkLemmas.{xor-false}
 
 -- a range keeps its order through a filter

@@ -5,8 +5,8 @@ use Rattle.tl_io.specs.Causes.{Rose}
 use Rattle.tl_io.specs.Content.{extended}
 use Rattle.tl_io.specs.Shelf.{with_file}
 use Rattle.cover_pick.specs.declared.rule.Rule.TheVariants.{FewestLeaves, LeastCost}
-use Rattle.cmd_stations.specs.Words.{SourceWords}
-use Rattle.cmd_base.specs.Outside.{Outside}
+use Rattle.cmd_stations.specs.Source.{SourceWords}
+use Rattle.cmd_base.specs.Walk.{Outside}
 use Rattle.cmd_base.specs.Writing.{FileText, AreWritten, IsCutInFile, IsCutInLine}
 use Rattle.tlut_cli.specs.Commands.{Spec, Map, Bits, Gen, Repack, Prove, Audit, command_of}
 use Rattle.cmd_run.specs.GenCommand.Verdict.{first_line, last_line}

@@ -24,10 +24,9 @@ use Rattle.cmd_base.specs.declared.outcome.Outcome.TheVariants as outcome
 use Rattle.cmd_base.specs.declared.status.Status.TheVariants as status
 use Rattle.cmd_stations.specs.declared.source.Source.{Source}
 use Rattle.tlut_cli.specs.Call.{fault_word}
-use Rattle.tlut_cli.specs.FaultLine.{line_of}
-use Rattle.cmd_run.specs.Run.Bank.{bank_of}
+use Rattle.tlut_cli.specs.Commands.{line_of}
+use Rattle.cmd_run.specs.Run.Job.{bank_of, RunWords, run_of}
 use Rattle.cover_pick.specs.declared.rule.Rule.TheVariants.{FewestLeaves}
-use Rattle.cmd_run.specs.Run.Words.{RunWords, run_of}
 use Rattle.cmd_stations.specs.Script.{names_of}
 use Rattle.cmd_stations.specs.SourceCircuit.{width_of, shape_of}
 use Rattle.cmd_base.specs.Statuses.{refusal_status, status_of}

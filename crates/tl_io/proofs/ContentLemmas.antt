@@ -1,6 +1,5 @@
 -- What is told of bytes, and texts that come behind them.
-use Rattle.std.proofs.Common.{◌≡◌, List, [], ◌++◌, Option, None, Some, refl, ap, append_assoc, append-nil}
-use Rattle.tl_io.specs.Content.{extended}
+use Rattle.tl_io.proofs.Common.{◌≡◌, List, [], ◌++◌, Option, None, Some, refl, ap, append_assoc, append-nil, extended}
 
 -- an empty text changes nothing
 pub extended_none : {V : Type 0} (told : Option (List V)) → extended told [] ≡ told

@@ -1,20 +1,11 @@
 -- The first file of a name in a list of files, and what a change of it means for the finite map.
-use Rattle.std.proofs.Common.{◌≡◌, ℕ, zero, suc, ◌<◌, ◌≤◌, List, [], ◌∷◌, length, get_or, Bool, true, false, cond, Option, None, Some, is_some, map, refl, sym, ap, ◌∙◌, arith, string_bytes}
-use Rattle.std.proofs.Math.ListN.{set}
-use Rattle.std.specs.Prelude.{position, nat_lt}
+use Rattle.tl_io.proofs.Common.{◌≡◌, ℕ, zero, suc, ◌<◌, ◌≤◌, List, [], ◌∷◌, length, get_or, Bool, true, false, cond, Option, None, Some, is_some, map, refl, sym, ap, ◌∙◌, arith, string_bytes, set, position, nat_lt, length-set, nat_cmp, is_eq, eq_by_cmp, slice_cmp, nat_list_cmp_total, tied_itself, find, get, insert, from_entries, get-from_entries, get-insert, same_map, MemFile, is_named, files_of, rooms_of}
 use Rattle.std.specs.List.{position_or_len}
 use Rattle.std.proofs.lemmas.List.Folds.{position_or_len-set}
-use Rattle.std.proofs.lemmas.List.{length-set}
 use Rattle.std.proofs.lemmas.List.Sums.{fails_before_first}
 use Rattle.std.proofs.lemmas.Bool.Decides.{nat_tests}
 use Rattle.std.proofs.lemmas.List.Quantifiers.{position-Some}
-use Rattle.std.specs.Ordering.{nat_cmp, is_eq, eq_by_cmp}
-use Rattle.std.specs.Cmp.Lexicographic.{slice_cmp, nat_list_cmp_total}
-use Rattle.std.specs.Cmp.{tied_itself}
-use Rattle.std.specs.FinMap.{find, get, insert, from_entries, get-from_entries, get-insert, same_map}
 use Rattle.tl_io.proofs.FilesLemmas.{antisymmetric, is_tied}
-use Rattle.tl_io.specs.declared.mem_file.MemFile.{MemFile}
-use Rattle.tl_io.specs.MemFiles.{is_named, files_of, rooms_of}
 
 -- this is the first file of the name
 pub record IsFirstNamed (name : List ℕ) (files : List MemFile) (i : ℕ) : Type 0 where

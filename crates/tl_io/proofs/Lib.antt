@@ -1,3 +1,4 @@
+mod Common
 pub mod BitLemmas
 pub mod ContentLemmas
 pub mod FilesLemmas

@@ -1,10 +1,8 @@
 -- Texts that are put in a sink one after another.
-use Rattle.std.proofs.Common.{◌≡◌, ℕ, ◌+◌, ◌<◌, ◌≤◌, List, [], ◌++◌, length, take, Option, Result, Ok, Err, IsErrAnd, refl, sym, ap, subst, ◌∙◌, arith, length-append}
+use Rattle.tl_io.proofs.Common.{◌≡◌, ℕ, ◌+◌, ◌<◌, ◌≤◌, List, [], ◌++◌, length, take, Option, Result, Ok, Err, IsErrAnd, refl, sym, ap, subst, ◌∙◌, arith, length-append, take-append-le, extended, Puts}
 use Rattle.std.proofs.Math.Seq.{take-append-add}
-use Rattle.std.proofs.lemmas.List.{take-append-le}
 use Rattle.std.proofs.lemmas.Result.{err_from_is_err_and}
 use Rattle.tl_io.specs.Causes.{Rose, HasCause}
-use Rattle.tl_io.specs.Content.{extended, Puts}
 use Rattle.tl_io.specs.Sink.{SinkSeen, IsPut}
 use Rattle.tl_io.proofs.ContentLemmas.{extended_none, extended_twice}
 

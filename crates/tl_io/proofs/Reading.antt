@@ -1,7 +1,5 @@
 -- A file that is being read.
-use Rattle.std.specs.Prelude.{◌≡◌, List, ℕ, ◌++◌, Option, None, Some}
-use Rattle.std.specs.FinMap.{get}
-use Rattle.tl_io.specs.Shelf.{Files}
+use Rattle.tl_io.proofs.Common.{◌≡◌, List, ℕ, ◌++◌, Option, None, Some, get, Files}
 
 -- what was read so far and what is left are the file, where the files are told
 abbrev pub IsSoFar : Option Files → List ℕ → List ℕ → Option (List ℕ) → Type 0

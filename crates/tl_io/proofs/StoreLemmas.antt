@@ -1,20 +1,8 @@
 -- What a change of the list of files means for the store.
-use Rattle.std.proofs.Common.{◌≡◌, ℕ, ◌<◌, List, [], ◌∷◌, ◌++◌, length, get_or, true, cond, Option, None, Some, is_some, refl, sym, ap, subst, ◌∙◌, arith, string_bytes, slice_get}
-use Rattle.std.proofs.Math.ListN.{set}
-use Rattle.std.specs.Prelude.{position}
-use Rattle.std.specs.Option.{option_map, option_map_or, option_and_then}
-use Rattle.std.specs.FinMap.{get, insert}
-use Rattle.std.specs.Ordering.{nat_cmp, is_eq}
-use Rattle.std.specs.Cmp.Lexicographic.{slice_cmp}
+use Rattle.tl_io.proofs.Common.{◌≡◌, ℕ, ◌<◌, List, [], ◌∷◌, ◌++◌, length, get_or, true, cond, Option, None, Some, is_some, refl, sym, ap, subst, ◌∙◌, arith, string_bytes, slice_get, set, position, option_map, option_map_or, option_and_then, get, insert, nat_cmp, is_eq, slice_cmp, get_or-set_same, length-set, MemFile, extended, Files, files_but, written_at, Store, Rooms, opened, created, appended, written_bytes, written_room, is_named, files_of, rooms_of, store_of, name_at, writing_of, IsFirstWritten}
 use Rattle.std.proofs.lemmas.Option.{slice_get-get_or}
-use Rattle.std.proofs.lemmas.List.{get_or-set_same, length-set}
-use Rattle.tl_io.specs.declared.mem_file.MemFile.{MemFile}
 use Rattle.tl_io.specs.declared.mem_file.Activity.{Activity}
 use Rattle.tl_io.specs.declared.mem_file.Activity.TheVariants.{Reading, Writing}
-use Rattle.tl_io.specs.Content.{extended}
-use Rattle.tl_io.specs.Shelf.{Files, files_but, written_at}
-use Rattle.tl_io.specs.Store.{Store, Rooms, opened, created, appended, written_bytes, written_room}
-use Rattle.tl_io.specs.MemFiles.{is_named, files_of, rooms_of, store_of, name_at, writing_of, IsFirstWritten}
 use Rattle.tl_io.proofs.FilesLemmas.{get-inserted, remove-insert}
 use Rattle.tl_io.proofs.FirstNamed.{IsFirstNamed, first_named, same_text, get-files_of, get-rooms_of, get-files_none, files_of-set, rooms_of-set, position-set}
 

@@ -1,6 +1,5 @@
 -- What stands in front of a list after a piece was copied there.
-use Rattle.std.proofs.Common.{◌≡◌, ℕ, ◌≤◌, List, ◌++◌, length, take, min, arith, ◌∙◌, ap}
-use Rattle.std.proofs.lemmas.List.{take-append-le, take_min, length-take}
+use Rattle.tl_io.proofs.Common.{◌≡◌, ℕ, ◌≤◌, List, ◌++◌, length, take, min, arith, ◌∙◌, ap, take-append-le, take_min, length-take}
 use Rattle.std.proofs.lemmas.Grind.{common_steps}
 
 pub take_front : (m : ℕ) (front rest : List ℕ) → length front ≡ m → take m (front ++ rest) ≡ front

@@ -1,8 +1,5 @@
 -- What a shelf holds once a file of it is written: for callers who write through a `FileSink`.
-use Rattle.std.proofs.Common.{◌≡◌, ℕ, List, [], Option, None, Some, sym, ap, ◌∙◌}
-use Rattle.std.specs.Option.{option_map}
-use Rattle.std.specs.FinMap.{insert, remove}
-use Rattle.tl_io.specs.Content.{extended}
+use Rattle.tl_io.proofs.Common.{◌≡◌, ℕ, List, [], Option, None, Some, sym, ap, ◌∙◌, option_map, insert, remove, extended}
 use Rattle.tl_io.specs.Shelf.{Files, ShelfSeen, apart, written, written_at, files_but, emptied, with_file}
 use Rattle.tl_io.proofs.FilesLemmas.{get-inserted, remove-insert, insert-remove, insert-get}
 

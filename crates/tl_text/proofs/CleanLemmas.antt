@@ -1,17 +1,7 @@
 -- The tokens of the logical lines of a text are clean, and stand in the text.
-use Rattle.std.proofs.Common.{◌≡◌, ℕ, zero, suc, ◌+◌, ◌-◌, ◌<◌, ◌≤◌, Bool, true, false, eqb, ◌&&◌, List, [], ◌∷◌, length, take, drop, get_or, refl, sym, ap, subst, ◌∙◌, inl, inr, arith, length-drop, get_or-drop, min}
-use Rattle.std.specs.List.{list_any, suffix_len, position_or_len, slice_range}
+use Rattle.tl_text.proofs.Common.{◌≡◌, ℕ, zero, suc, ◌+◌, ◌-◌, ◌<◌, ◌≤◌, Bool, true, false, eqb, ◌&&◌, List, [], ◌∷◌, length, take, drop, get_or, refl, sym, ap, subst, ◌∙◌, inl, inr, arith, length-drop, get_or-drop, min, list_any, suffix_len, position_or_len, slice_range, fails_before_first, list_any_at, In, choose_one, Token, IsWithin, token_bytes, is_bad, has_slash_end, words, content, before_comment, without_last, ends_in, goes_on, physical_lines, before_first, without_return, is_blank, tokens_at, IsRunAt, IsClean}
 use Rattle.std.proofs.lemmas.List.{get_or-take, length-take}
-use Rattle.std.proofs.lemmas.List.Sums.{fails_before_first}
-use Rattle.std.proofs.lemmas.List.Folds.{list_any_at}
 use Rattle.std.proofs.lemmas.Bool.{eq-eqb, ne_eqb, cases_Bool, and_from, or_left, or_right}
-use Rattle.list_laws.specs.Members.{In}
-use Rattle.list_laws.proofs.Choice.{choose_one}
-use Rattle.tl_text.specs.declared.token.Token.{Token}
-use Rattle.tl_text.specs.LineValue.{IsWithin, token_bytes}
-use Rattle.tl_text.specs.Lines.{is_bad, has_slash_end, words, content, before_comment, without_last, ends_in, goes_on, physical_lines, before_first, without_return}
-use Rattle.tl_text.specs.Tokens.{is_blank, tokens_at, IsRunAt}
-use Rattle.tl_text.specs.Clean.{IsClean}
 use Rattle.tl_text.proofs.TokenLemmas.{tokens_are}
 
 -- bytes stand in others from a place on

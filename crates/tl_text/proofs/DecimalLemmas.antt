@@ -1,8 +1,5 @@
 -- The number that digits write.
-use Rattle.std.proofs.Common.{◌≡◌, ℕ, ◌+◌, ◌-◌, ◌*◌, ◌<◌, ◌≤◌, Bool, true, false, ◌&&◌, cond, List, [], ◌∷◌, length, get_or, drop, Some, None, refl, sym, ap, ◌∙◌, arith, ltb}
-use Rattle.std.proofs.lemmas.Bool.{le-ltb, and_right, true≢false}
-use Rattle.std.proofs.lemmas.List.{drop_more}
-use Rattle.tl_text.specs.Decimal.{is_decimal, number_from, decimal_of}
+use Rattle.tl_text.proofs.Common.{◌≡◌, ℕ, ◌+◌, ◌-◌, ◌*◌, ◌<◌, ◌≤◌, Bool, true, false, ◌&&◌, cond, List, [], ◌∷◌, length, get_or, drop, Some, None, refl, sym, ap, ◌∙◌, arith, ltb, le-ltb, and_right, true≢false, drop_more, is_decimal, number_from, decimal_of}
 
 -- more digits make no smaller number
 number_from_least : (n : ℕ) (bs : List ℕ) → n ≤ number_from n bs

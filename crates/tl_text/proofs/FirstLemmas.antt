@@ -1,7 +1,5 @@
 -- One line is the first that has a refusal.
-use Rattle.std.proofs.Common.{◌≡◌, ℕ, ◌<◌, Option, None, sym, ap, ◌∙◌, inl, inr, arith}
-use Rattle.std.proofs.lemmas.Bool.{cases_lt}
-use Rattle.std.proofs.lemmas.Option.{none-some, same_Some}
+use Rattle.tl_text.proofs.Common.{◌≡◌, ℕ, ◌<◌, Option, None, sym, ap, ◌∙◌, inl, inr, arith, cases_lt, none-some, same_Some}
 use Rattle.tl_text.specs.FirstRefusal.{IsFirst}
 
 module _ {E : Type 0} (refusal_at : ℕ → Option E) where

@@ -1,15 +1,8 @@
 -- Physical lines are read one by one, and the lines read so far stand before the rest.
-use Rattle.std.proofs.Common.{◌≡◌, ℕ, ◌+◌, ◌-◌, ◌<◌, ◌≤◌, Bool, true, false, cond, eqb, List, [], ◌∷◌, ◌++◌, length, get_or, take, drop, Option, Some, None, Result, Ok, Err, refl, sym, ap, ◌∙◌, arith, length-take, length-drop, get_or-drop, append_assoc}
-use Rattle.std.specs.List.{slice_range, list_any}
+use Rattle.tl_text.proofs.Common.{◌≡◌, ℕ, ◌+◌, ◌-◌, ◌<◌, ◌≤◌, Bool, true, false, cond, eqb, List, [], ◌∷◌, ◌++◌, length, get_or, take, drop, Option, Some, None, Result, Ok, Err, refl, sym, ap, ◌∙◌, arith, length-take, length-drop, get_or-drop, append_assoc, slice_range, list_any, TextErr, BadByte, TrailingSlash, Memory, LineValue, is_bad, has_slash_end, words, goes_on, with_physical, physical_lines, before_first, lines_from, lines_of, closed, put_before, without_return, without_last, ends_in, OrMemory, refusal_of}
 use Rattle.std.proofs.lemmas.List.{drop_more, drop_all, take_more, append-nil}
 use Rattle.std.proofs.lemmas.Bool.{eq-eqb, ne_eqb, cond-true, cond-false}
-use Rattle.tl_text.specs.declared.text_err.TextErr.{TextErr}
-use Rattle.tl_text.specs.declared.text_err.TextErr.TheVariants.{BadByte, TrailingSlash, Memory}
-use Rattle.tl_text.specs.LineValue.{LineValue}
-use Rattle.tl_text.specs.Lines.{is_bad, has_slash_end, words, goes_on, with_physical, physical_lines, before_first, lines_from, lines_of, closed, put_before, without_return, without_last, ends_in}
 use Rattle.tl_text.specs.Reading.{Reading, line_result, with_line, all_lines}
-use Rattle.tl_fault.specs.OrMemory.{OrMemory}
-use Rattle.tl_text.specs.Refusals.{refusal_of}
 
 -- lines before those of a result
 abbrev pub prepended : List LineValue → Result (List LineValue) TextErr → Result (List LineValue) TextErr

@@ -1,17 +1,7 @@
 -- Names seen as plain lists: their places, and one more of them.
-use Rattle.std.proofs.Common.{◌≡◌, ℕ, ◌+◌, Bool, false, not, ◌||◌, cond, inl, inr, bytes_eq, List, [], ◌∷◌, ◌++◌, map, None, refl, sym, subst, ap}
-use Rattle.std.specs.Prelude.{Result, Ok, Err, IfOk, OnErr}
-use Rattle.std.specs.List.{position, position_or_len, list_any}
-use Rattle.std.proofs.lemmas.List.{length-map}
-use Rattle.std.proofs.lemmas.Bool.{cases_Bool, cond-true, cond-false}
-use Rattle.std.proofs.lemmas.Bool.{both_ways, or_parts}
+use Rattle.tl_text.proofs.Common.{◌≡◌, ℕ, ◌+◌, Bool, false, not, ◌||◌, cond, inl, inr, bytes_eq, List, [], ◌∷◌, ◌++◌, map, None, refl, sym, subst, ap, Result, Ok, Err, IfOk, OnErr, position, position_or_len, list_any, length-map, cases_Bool, cond-true, cond-false, both_ways, or_parts, In, list_any-position_none, place_of, has_name, with_name, AreOnce}
 use Rattle.std.proofs.lemmas.Slice.Eq.{bytes_eq-Decides}
-use Rattle.list_laws.specs.Members.{In}
 use Rattle.list_laws.proofs.Apart.{pushed_apart}
-use Rattle.list_laws.proofs.FirstPlace.{list_any-position_none}
-use Rattle.tl_text.specs.NameIndex.{place_of}
-use Rattle.tl_text.specs.NameSets.{has_name, with_name}
-use Rattle.tl_text.specs.Once.{AreOnce}
 
 pub position_or_len-map : {X Y : Type 0} (test : Y → Bool) (f : X → Y) (xs : List X) → position_or_len test (map f xs) ≡ position_or_len (λ x. test (f x)) xs
 position_or_len-map test f [] = refl

@@ -1,18 +1,7 @@
 -- Names as sets: whether a name is among them, its place, and names added one by one.
-use Rattle.std.proofs.Common.{◌≡◌, ℕ, ◌+◌, ◌<◌, ◌≤◌, Bool, true, false, not, ◌||◌, ltb, List, [], ◌∷◌, ◌++◌, length, is_some, Option, Some, None, refl, sym, ap, ◌∙◌, subst, inl, inr, arith, append_assoc, append-nil, length-append}
-use Rattle.std.specs.Prelude.{filter, slice_get, bytes_eq}
-use Rattle.std.specs.List.{position_or_len}
-use Rattle.std.proofs.Common.{find}
-use Rattle.std.proofs.lemmas.Bool.{cases_Bool, or_cases, or_left, or_right, cond-true, cond-false, ltb-true, false≢true}
-use Rattle.std.proofs.lemmas.Option.{none-some, same_Some, cond_some}
-use Rattle.std.proofs.lemmas.List.Folds.{find_at, list_any-append}
+use Rattle.tl_text.proofs.Common.{◌≡◌, ℕ, ◌+◌, ◌<◌, ◌≤◌, Bool, true, false, not, ◌||◌, ltb, List, [], ◌∷◌, ◌++◌, length, is_some, Option, Some, None, refl, sym, ap, ◌∙◌, subst, inl, inr, arith, append_assoc, append-nil, length-append, filter, slice_get, bytes_eq, position_or_len, find, cases_Bool, or_cases, or_left, or_right, cond-true, cond-false, ltb-true, false≢true, none-some, same_Some, cond_some, find_at, list_any-append, In, position_none, list_any-position_none, place_of, has_name, with_name, with_names, AreOnce}
 use lib.Pointwise.{bytes_decides}
-use Rattle.list_laws.specs.Members.{In}
-use Rattle.list_laws.proofs.FirstPlace.{position_none, list_any-position_none}
 use Rattle.list_laws.proofs.Places.{at_within}
-use Rattle.tl_text.specs.NameIndex.{place_of}
-use Rattle.tl_text.specs.NameSets.{has_name, with_name, with_names}
-use Rattle.tl_text.specs.Once.{AreOnce}
 
 -- the test of names says whether a name is a member
 pub has_in : (names : List (List ℕ)) (name : List ℕ) → has_name names name ≡ true → In names name

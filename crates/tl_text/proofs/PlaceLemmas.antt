@@ -1,17 +1,5 @@
 -- The tokens of each logical line stand in the text, and are clean.
-use Rattle.std.proofs.Common.{◌≡◌, ℕ, ◌+◌, ◌<◌, eqb, List, [], ◌∷◌, length, Option, Some, None, Result, Ok, Err, inl, inr, sym, subst, arith}
-use Rattle.std.specs.Prelude.{IfOk}
-use Rattle.std.specs.List.{list_any}
-use Rattle.std.proofs.lemmas.Bool.{eqb-false}
-use Rattle.list_laws.specs.Members.{In}
-use Rattle.list_laws.proofs.Choice.{choose, choose_one}
-use Rattle.list_laws.proofs.Members.{In-append}
-use Rattle.tl_text.specs.declared.token.Token.{Token}
-use Rattle.tl_text.specs.declared.text_err.TextErr.{TextErr}
-use Rattle.tl_text.specs.LineValue.{LineValue, AreLinesIn}
-use Rattle.tl_text.specs.Lines.{is_bad, has_slash_end, words, goes_on, extended, with_physical, physical_lines, lines_from, lines_of, closed, counted, put_before, without_return}
-use Rattle.tl_text.specs.Tokens.{tokens_at}
-use Rattle.tl_text.specs.Clean.{AreCleanIn}
+use Rattle.tl_text.proofs.Common.{◌≡◌, ℕ, ◌+◌, ◌<◌, eqb, List, [], ◌∷◌, length, Option, Some, None, Result, Ok, Err, inl, inr, sym, subst, arith, IfOk, list_any, eqb-false, In, choose, choose_one, In-append, Token, TextErr, LineValue, AreLinesIn, is_bad, has_slash_end, words, goes_on, extended, with_physical, physical_lines, lines_from, lines_of, closed, counted, put_before, without_return, tokens_at, AreCleanIn}
 use Rattle.tl_text.proofs.CleanLemmas.{IsGood, Stand, lines_stand, tokens_good}
 
 module _ (text : List ℕ) where

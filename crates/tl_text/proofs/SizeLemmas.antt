@@ -1,15 +1,6 @@
 -- The words of a text's lines are no more than its bytes.
-use Rattle.std.proofs.Common.{◌≡◌, ℕ, ◌+◌, ◌-◌, ◌≤◌, ◌<◌, cond, eqb, List, [], ◌∷◌, ◌++◌, length, map, take, Option, Some, None, Result, Ok, Err, refl, subst, arith}
-use Rattle.std.specs.List.{list_any, position_or_len, suffix_len}
+use Rattle.tl_text.proofs.Common.{◌≡◌, ℕ, ◌+◌, ◌-◌, ◌≤◌, ◌<◌, cond, eqb, List, [], ◌∷◌, ◌++◌, length, map, take, Option, Some, None, Result, Ok, Err, refl, subst, arith, list_any, position_or_len, suffix_len, choose_one, Token, TextErr, BadByte, TrailingSlash, LineValue, token_bytes, words_line, before_first, physical_lines, is_bad, ends_in, without_last, without_return, before_comment, content, goes_on, words, has_slash_end, extended, with_physical, counted, put_before, closed, lines_from, lines_of, is_blank, tokens_at, spans}
 use Rattle.std.proofs.lemmas.List.{length-take}
-use Rattle.list_laws.proofs.Choice.{choose_one}
-use Rattle.tl_text.specs.declared.token.Token.{Token}
-use Rattle.tl_text.specs.declared.text_err.TextErr.{TextErr}
-use Rattle.tl_text.specs.declared.text_err.TextErr.TheVariants.{BadByte, TrailingSlash}
-use Rattle.tl_text.specs.LineValue.{LineValue, token_bytes, words_line}
-use Rattle.tl_text.specs.Lines.{before_first, physical_lines, is_bad, ends_in, without_last, without_return, before_comment, content, goes_on, words, has_slash_end, extended, with_physical, counted, put_before, closed, lines_from, lines_of}
-use Rattle.tl_text.specs.Tokens.{is_blank, tokens_at}
-use Rattle.tl_text.specs.Spans.{spans}
 use Rattle.tl_text.proofs.SpanLemmas.{spans_tokens}
 
 -- 1 for each word, and its bytes

@@ -1,8 +1,5 @@
 -- The scan for tokens finds the tokens.
-use Rattle.std.proofs.Common.{◌≡◌, ℕ, ◌+◌, Bool, true, false, cond, not, List, [], ◌∷◌, Some, None, refl, sym, ap, ◌∙◌}
-use Rattle.tl_text.specs.declared.token.Token.{Token}
-use Rattle.tl_text.specs.Tokens.{is_blank, begins_run, lengthened, tokens_at}
-use Rattle.tl_text.specs.Spans.{spans}
+use Rattle.tl_text.proofs.Common.{◌≡◌, ℕ, ◌+◌, Bool, true, false, cond, not, List, [], ◌∷◌, Some, None, refl, sym, ap, ◌∙◌, Token, is_blank, begins_run, lengthened, tokens_at, spans}
 
 -- an unfinished token before bytes
 abbrev joined : ℕ → ℕ → Bool → List Token → List Token

@@ -1,9 +1,5 @@
 -- Worked examples: the tokens of bytes, a run of them, and what is a clean name and what isn't.
-use Rattle.std.proofs.Common.{◌≡◌, ℕ, zero, suc, ◌<◌, ◌≤◌, true, false, List, [], ◌∷◌, codes, get_or, refl, inl, inr, subst, sym, arith, Ok, Err}
-use Rattle.tl_text.specs.declared.text_err.TextErr.TheVariants.{BadByte, TrailingSlash}
-use Rattle.tl_text.specs.Lines.{is_bad, lines_of}
-use Rattle.tl_text.specs.Tokens.{is_blank, IsRun, tokens_at}
-use Rattle.tl_text.specs.Clean.{IsClean}
+use Rattle.tl_text.proofs.Common.{◌≡◌, ℕ, zero, suc, ◌<◌, ◌≤◌, true, false, List, [], ◌∷◌, codes, get_or, refl, inl, inr, subst, sym, arith, Ok, Err, BadByte, TrailingSlash, is_bad, lines_of, is_blank, IsRun, tokens_at, IsClean}
 
 -- ` ab` `\t` `c `, which stand at the place 5 of a text
 abbrev blanks : List ℕ

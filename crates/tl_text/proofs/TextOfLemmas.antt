@@ -1,16 +1,10 @@
 -- A text has one meaning at most, or one refusal at most, and never both, where lines have.
-use Rattle.std.proofs.Common.{◌≡◌, ℕ, List, map, Option, None, Ok, Err, refl, sym, subst}
-use Rattle.tl_fault.specs.OrMemory.{Unless, OrMemory}
+use Rattle.tl_text.proofs.Common.{◌≡◌, ℕ, List, map, Option, None, Ok, Err, refl, sym, subst, Unless, OrMemory, LineValue, WordsLine, words_line, lines_of, refusal_of, TextErr, BadByte, TrailingSlash, Memory}
 use Rattle.tl_fault.specs.RefusalValue.{RefusalValue}
 use Rattle.tl_fault.specs.Settled.{IsSettled, IsAfter, IsFaultAfter, passed_on, here}
 use Rattle.tl_fault.proofs.OrMemoryLemmas.{Unless-of}
 use Rattle.tl_fault.proofs.SettledLemmas.{result_settled, after_settled}
-use Rattle.tl_text.specs.LineValue.{LineValue, WordsLine, words_line}
-use Rattle.tl_text.specs.Lines.{lines_of}
-use Rattle.tl_text.specs.Refusals.{refusal_of}
 use Rattle.tl_text.specs.TextOf.{IsTextOf, IsLinesFault, IsTextFault, by_lines, at_line}
-use Rattle.tl_text.specs.declared.text_err.TextErr.{TextErr}
-use Rattle.tl_text.specs.declared.text_err.TextErr.TheVariants.{BadByte, TrailingSlash, Memory}
 
 module _ {V E : Type 0} (own : TextErr → E) (Is : List WordsLine → V → Type 0) (IsFault : List WordsLine → E → Type 0) (text : List ℕ) where
   abbrev HasLines : List LineValue → Type 0

@@ -1,11 +1,5 @@
 -- The tokens of bytes are exactly their runs.
-use Rattle.std.proofs.Common.{◌≡◌, ℕ, zero, suc, ◌+◌, ◌<◌, ◌≤◌, Bool, true, false, List, [], ◌∷◌, length, map, get_or, refl, sym, ap, subst, ◌∙◌, inl, inr, arith}
-use Rattle.std.proofs.lemmas.Bool.{not-true, not-false}
-use Rattle.list_laws.specs.Members.{In}
-use Rattle.list_laws.proofs.Members.{In-map}
-use Rattle.list_laws.proofs.Choice.{choose}
-use Rattle.tl_text.specs.declared.token.Token.{Token}
-use Rattle.tl_text.specs.Tokens.{is_blank, IsRun, begins_run, lengthened, tokens_at, IsRunAt, AreRuns}
+use Rattle.tl_text.proofs.Common.{◌≡◌, ℕ, zero, suc, ◌+◌, ◌<◌, ◌≤◌, Bool, true, false, List, [], ◌∷◌, length, map, get_or, refl, sym, ap, subst, ◌∙◌, inl, inr, arith, not-true, not-false, In, In-map, choose, Token, is_blank, IsRun, begins_run, lengthened, tokens_at, IsRunAt, AreRuns}
 
 abbrev token_of : ℕ → ℕ → Token
 token_of start end = record { start = start; end = end }

@@ -1,15 +1,7 @@
 -- Words of ordinary bytes are clean; numbers are such words, and are read back as they were written.
-use Rattle.std.proofs.Common.{◌≡◌, ◌≢◌, ℕ, zero, suc, ◌+◌, ◌-◌, ◌*◌, ◌/◌, ◌%◌, ◌^◌, ◌<◌, ◌≤◌, Bool, true, false, ◌&&◌, ◌||◌, not, eqb, leb, ltb, List, [], ◌∷◌, ◌++◌, length, get_or, Some, None, decimal, refl, sym, ap, ◌∙◌, subst, inl, inr, arith, length-append}
-use Rattle.std.specs.Prelude.{replicate}
-use Rattle.std.specs.List.{list_all, list_any}
+use Rattle.tl_text.proofs.Common.{◌≡◌, ◌≢◌, ℕ, zero, suc, ◌+◌, ◌-◌, ◌*◌, ◌/◌, ◌%◌, ◌^◌, ◌<◌, ◌≤◌, Bool, true, false, ◌&&◌, ◌||◌, not, eqb, leb, ltb, List, [], ◌∷◌, ◌++◌, length, get_or, Some, None, decimal, refl, sym, ap, ◌∙◌, subst, inl, inr, arith, length-append, replicate, list_all, list_any, In, In-append, In-get_or, IsClean, is_digit, is_decimal, number_from, decimal_of, is_bad, is_blank}
 use Rattle.std.proofs.lemmas.Bool.{and_from, or_from, or_left, or_right, not_from_false, le-leb, le-ltb, lt-ltb, eq-eqb, ne_eqb, cond-true, cases_eq, or_parts}
 use Rattle.std.proofs.lemmas.Fmt.{decimal_by_steps}
-use Rattle.list_laws.specs.Members.{In}
-use Rattle.list_laws.proofs.Members.{In-append, In-get_or}
-use Rattle.tl_text.specs.Clean.{IsClean}
-use Rattle.tl_text.specs.Decimal.{is_digit, is_decimal, number_from, decimal_of}
-use Rattle.tl_text.specs.Lines.{is_bad}
-use Rattle.tl_text.specs.Tokens.{is_blank}
 
 -- a byte that may not stand anywhere in a word: a blank, one that no line has, `#` and `\`
 abbrev pub is_special : ℕ → Bool

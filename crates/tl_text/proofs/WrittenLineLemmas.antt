@@ -1,20 +1,6 @@
 -- Lines of clean words are read as these words.
-use Rattle.std.proofs.Common.{◌≡◌, ℕ, suc, ◌+◌, ◌-◌, ◌<◌, Bool, true, false, cond, not, eqb, ◌&&◌, List, [], ◌∷◌, ◌++◌, length, map, take, get_or, Some, None, Result, Ok, Err, refl, sym, ap, subst, ◌∙◌, inl, inr, arith, append_assoc, append-nil, length-append}
-use Rattle.std.specs.List.{list_any, suffix_len, slice_range, flat_map}
+use Rattle.tl_text.proofs.Common.{◌≡◌, ℕ, suc, ◌+◌, ◌-◌, ◌<◌, Bool, true, false, cond, not, eqb, ◌&&◌, List, [], ◌∷◌, ◌++◌, length, map, take, get_or, Some, None, Result, Ok, Err, refl, sym, ap, subst, ◌∙◌, inl, inr, arith, append_assoc, append-nil, length-append, list_any, suffix_len, slice_range, flat_map, list_any-append, suffix_len-take_no, ne_eqb, or_from, or_parts, In, none_pass, In-get_or, Token, TextErr, BadByte, TrailingSlash, LineValue, WordsLine, words_line, token_bytes, is_bad, has_slash_end, words, content, trimmed, before_comment, ends_in, goes_on, physical_lines, before_first, without_return, put_before, lines_from, lines_of, with_physical, is_blank, begins_run, lengthened, tokens_at, IsClean}
 use Rattle.std.proofs.Math.Seq.{drop-append_seam, take-append_seam, take-length, get_or-append_right}
-use Rattle.std.proofs.lemmas.List.Folds.{list_any-append}
-use Rattle.std.proofs.lemmas.List.Sums.{suffix_len-take_no}
-use Rattle.std.proofs.lemmas.Bool.{ne_eqb, or_from, or_parts}
-use Rattle.list_laws.specs.Members.{In}
-use Rattle.list_laws.proofs.FirstPlace.{none_pass}
-use Rattle.list_laws.proofs.Members.{In-get_or}
-use Rattle.tl_text.specs.declared.token.Token.{Token}
-use Rattle.tl_text.specs.declared.text_err.TextErr.{TextErr}
-use Rattle.tl_text.specs.declared.text_err.TextErr.TheVariants.{BadByte, TrailingSlash}
-use Rattle.tl_text.specs.LineValue.{LineValue, WordsLine, words_line, token_bytes}
-use Rattle.tl_text.specs.Lines.{is_bad, has_slash_end, words, content, trimmed, before_comment, ends_in, goes_on, physical_lines, before_first, without_return, put_before, lines_from, lines_of, with_physical}
-use Rattle.tl_text.specs.Tokens.{is_blank, begins_run, lengthened, tokens_at}
-use Rattle.tl_text.specs.Clean.{IsClean}
 use Rattle.tl_text.specs.WrittenText.{words_text, line_text}
 
 -- a line can be read again: it has words, and each is clean

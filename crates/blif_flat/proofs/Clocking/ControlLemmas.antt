@@ -1,14 +1,9 @@
 -- Where the walks of the clocks and of the data find no fault, every latch control has one main input as its net, and no clock net is data; at a sound library they find none.
-use Rattle.blif_flat.proofs.Common.{◌≡◌, ◌⊎◌, ℕ, List, [], ◌∷◌, Option, Some, None, refl, sym, ap, ◌∙◌, subst, inl, inr, option_and_then, none-some, same_Some, option_and_then_some, In, In-right, ap₂, subst₂, ◌++◌}
+use Rattle.blif_flat.proofs.Common.{◌≡◌, ◌⊎◌, ℕ, List, [], ◌∷◌, Option, Some, None, refl, sym, ap, ◌∙◌, subst, inl, inr, option_and_then, none-some, same_Some, option_and_then_some, In, In-right, ap₂, subst₂, ◌++◌, LibraryValue, CoverValue, one_net, flat_all, not_empty, same_first, same_rest}
 use Rattle.blif_flat.specs.{Latch, Cover, Subckt, LatchValue, ModelValue, Body, Path, model_at, body_at, LatchAt, CoverAt, Net, input_net, Drives, IsClock, IsDriven, Place, is_latch, FlatOrder, cover_in, latch_in, cover_at, latch_at, FlatErr, SecondClock, ClockNotInput, ClockAsData, Clocks, free, no_input, second, same, is_gate, data_of, ClockAmong, ClockData, outputs, here, data_inputs, IsData, cover_data, latch_data, IsSound, IsWritten}
-use Rattle.netlist.specs.LibraryValue.{LibraryValue}
-use Rattle.netlist.specs.CoverValue.{CoverValue}
 use Rattle.blif_flat.specs.ClockFaults.{stop, none, first, later}
-use Rattle.netlist.proofs.NetLemmas.{one_net}
-use Rattle.netlist.proofs.OrderLemmas.{flat_all}
 use Rattle.netlist.proofs.PlaceLemmas.{place_of, one_latch}
 use Rattle.blif_flat.proofs.Hierarchy.PlaceLemmas.{written_once}
-use Rattle.netlist.proofs.NameLemmas.{not_empty, same_first, same_rest}
 use Rattle.netlist.proofs.ControlLemmas.{name_of}
 
 module _ (library : LibraryValue) where

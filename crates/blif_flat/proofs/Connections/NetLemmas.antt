@@ -1,12 +1,7 @@
 -- Each driven name has one net, where no name is driven twice and each connection has a driver.
-use Rattle.blif_flat.proofs.Common.{◌≡◌, ℕ, List, [], ◌∷◌, Option, Some, None, refl, sym, ap, ◌∙◌, subst, inl, inr, IsTrue, none-some, same_Some, zero, suc, ◌+◌, ◌<◌, ◌≤◌, Bool, true, ◌++◌, length, take, arith, slice_get, option_and_then, cases_Bool, cond-true, length-append, slice_get_within, apart_once, place_in, get_left, item_there}
-use Rattle.blif_flat.specs.{Pair, ModelValue, Path, model_at, is_input, is_output, ConnectionAt, Net, input_net, Drives, main_input, from_inside, from_outside, Driver, by_input, IsDriver, input, latch, cover, output, input_actual, model_output, IsDriven, Body, Command, inputs_of, Place, own_places, Instance, FlatNet, itself, model_places, places_at, path_under, path_of, paths_of, IsRow, AreInstances, an_input, IsNetOf, net_places, IsNetFound, AreNetsAt, IsSoundTable, HasOwn, HasOutputs, HasInputs, kind_count, base_of, own_number}
-use Rattle.netlist.specs.LibraryValue.{LibraryValue}
-use Rattle.list_laws.proofs.TwoLists.{get_right}
-use Rattle.netlist.specs.Flat.{Places}
+use Rattle.blif_flat.proofs.Common.{◌≡◌, ℕ, List, [], ◌∷◌, Option, Some, None, refl, sym, ap, ◌∙◌, subst, inl, inr, IsTrue, none-some, same_Some, zero, suc, ◌+◌, ◌<◌, ◌≤◌, Bool, true, ◌++◌, length, take, arith, slice_get, option_and_then, cases_Bool, cond-true, length-append, slice_get_within, apart_once, place_in, get_left, item_there, Pair, ModelValue, Path, model_at, is_input, is_output, ConnectionAt, Net, input_net, Drives, main_input, from_inside, from_outside, Driver, by_input, IsDriver, input, latch, cover, output, input_actual, model_output, IsDriven, Body, Command, inputs_of, Place, own_places, Instance, FlatNet, itself, model_places, places_at, path_under, path_of, paths_of, IsRow, AreInstances, an_input, IsNetOf, net_places, IsNetFound, AreNetsAt, IsSoundTable, HasOwn, HasOutputs, HasInputs, kind_count, base_of, own_number, LibraryValue, get_right, Places, order_all}
 use Rattle.netlist.specs.declared.flat.Net.TheVariants.{Input as InputNumber}
 use Rattle.blif_flat.proofs.Hierarchy.InstanceRowLemmas.{paths_of-length}
-use Rattle.netlist.proofs.OrderLemmas.{order_all}
 use Rattle.blif_flat.proofs.Hierarchy.OrderLemmas.{instances_apart}
 use Rattle.netlist.proofs.PlaceLemmas.{child_at, place_of}
 use Rattle.netlist.proofs.NetLemmas.{driver_of, no_input}

@@ -1,12 +1,8 @@
 -- The slots of the instances one behind the other: each name of each instance has its own, and they are as many as the instances' names.
-use Rattle.blif_flat.proofs.Common.{◌≡◌, ℕ, zero, suc, ◌+◌, ◌<◌, ◌≤◌, true, false, List, [], ◌∷◌, map, replicate, length, Option, Some, None, is_some, refl, sym, ap, ◌∙◌, subst, arith, slice_get, option_map, option_and_then, both_ways, length-replicate, none-some, same_Some, slice_get-map, slice_get_within, at_within}
-use Rattle.blif_flat.specs.{place_of, ModelValue, Path, model_at, has_name, FlatNet, Instance, Start, AreInstances, IsLight, paths_of, NetsValue, name_place, slot_number, slot_at, IsNets, HasSlots, AreEmptyNets, distinct_names, count_in, name_count, starts_from, slot_count, most_weight}
-use Rattle.netlist.specs.LibraryValue.{LibraryValue}
+use Rattle.blif_flat.proofs.Common.{◌≡◌, ℕ, zero, suc, ◌+◌, ◌<◌, ◌≤◌, true, false, List, [], ◌∷◌, map, replicate, length, Option, Some, None, is_some, refl, sym, ap, ◌∙◌, subst, arith, slice_get, option_map, option_and_then, both_ways, length-replicate, none-some, same_Some, slice_get-map, slice_get_within, at_within, place_of, ModelValue, Path, model_at, has_name, FlatNet, Instance, Start, AreInstances, IsLight, paths_of, NetsValue, name_place, slot_number, slot_at, IsNets, HasSlots, AreEmptyNets, distinct_names, count_in, name_count, starts_from, slot_count, most_weight, LibraryValue, name_place_within, place_is, place_some}
 use Rattle.blif_flat.proofs.Hierarchy.InstanceRowLemmas.{AreModelsOf, models_rest, models_of}
 use Rattle.blif_flat.proofs.Hierarchy.InstanceWeightLemmas.{held, held_by, light_held}
 use Rattle.blif_flat.proofs.Models.ModelNameLemmas.{distinct_few, distinct_has}
-use Rattle.tl_text.proofs.NameSetLemmas.{name_place_within, place_is}
-use Rattle.tl_text.proofs.NameSetLemmas.{place_some}
 
 -- a slot by the names of its model and the place of its name among them
 record IsSlotOf (names : List (List (List ℕ))) (s : Start) (name : List ℕ) (k : ℕ) : Type 0 where

@@ -1,11 +1,7 @@
 -- A library has at most one fault, and none where it is sound and not too large.
-use Rattle.blif_flat.proofs.Common.{cases_lt, inl, inr, ◌≡◌, ℕ, ◌<◌, List, [], ◌∷◌, Option, Some, None, refl, sym, ap, ap₂, ◌∙◌, subst, ◌≤◌, arith, none-some, same_Some, Result, Ok, Err, IfOk, IfErr, Bool, OrMemory-map}
-use Rattle.blif_flat.specs.{ModelValue, model_at, cover_net, IsDriven, Place, is_latch, FlatOrder, IsWellFormed, FlatErr, TooLarge, Walked, refused, walked, WalksMain, most_weight, Weighs, IsLight, models_fault, Clocks, is_gate, ClockData, Repeat, from_node, AreWritten, IsLoop, LoopWalk, IsWalked, IsConnected, IsClocked, IsFault, HasOneFault, in_walk, too_large, in_drivers, in_controls, in_data, in_loops, HasNoFault, IsSound, OrMemory, Body, refusal_of, IsChecked, Tells, models_at, HasWeight, Instance, ClockNets, AreInstances, paths_of, places_at, AreClockNets}
-use Rattle.netlist.specs.LibraryValue.{LibraryValue}
+use Rattle.blif_flat.proofs.Common.{cases_lt, inl, inr, ◌≡◌, ℕ, ◌<◌, List, [], ◌∷◌, Option, Some, None, refl, sym, ap, ap₂, ◌∙◌, subst, ◌≤◌, arith, none-some, same_Some, Result, Ok, Err, IfOk, IfErr, Bool, OrMemory-map, ModelValue, model_at, cover_net, IsDriven, Place, is_latch, FlatOrder, IsWellFormed, FlatErr, TooLarge, Walked, refused, walked, WalksMain, most_weight, Weighs, IsLight, models_fault, Clocks, is_gate, ClockData, Repeat, from_node, AreWritten, IsLoop, LoopWalk, IsWalked, IsConnected, IsClocked, IsFault, HasOneFault, in_walk, too_large, in_drivers, in_controls, in_data, in_loops, HasNoFault, IsSound, OrMemory, Body, refusal_of, IsChecked, Tells, models_at, HasWeight, Instance, ClockNets, AreInstances, paths_of, places_at, AreClockNets, LibraryValue, Loop, order_once}
 use Rattle.blif_flat.specs.LoopFault.{none, more}
-use Rattle.blif_flat.specs.declared.flat_err.FlatErr.TheVariants.{Loop}
 use Rattle.blif_flat.proofs.Clocking.ControlLemmas.{clocks_once, data_once, sound-clocks, sound-data}
-use Rattle.netlist.proofs.OrderLemmas.{order_once}
 use Rattle.blif_flat.proofs.Fields.LoopOnceLemmas.{loop_once, sound-loops}
 use Rattle.blif_flat.proofs.Hierarchy.OrderLemmas.{order_places}
 use Rattle.blif_flat.proofs.Hierarchy.PlaceLemmas.{written_once}

@@ -1,20 +1,11 @@
 -- The parts of a flat circuit make its fields.
-use Rattle.blif_flat.proofs.Common.{◌≡◌, ℕ, ◌≤◌, List, [], ◌++◌, map, length, reverse, filter, Some, refl, sym, ap, ◌∙◌, subst, subst₂, arith, Bool, not, slice_get, same_Some, length-map, ◌<◌, inl, inr, is_some, option_map, slice_get_within, slice_get-map, In, In-get, at_within, apart_once, reversed_in, in_reversed, nodes_done}
+use Rattle.blif_flat.proofs.Common.{◌≡◌, ℕ, ◌≤◌, List, [], ◌++◌, map, length, reverse, filter, Some, refl, sym, ap, ◌∙◌, subst, subst₂, arith, Bool, not, slice_get, same_Some, length-map, ◌<◌, inl, inr, is_some, option_map, slice_get_within, slice_get-map, In, In-get, at_within, apart_once, reversed_in, in_reversed, nodes_done, LibraryValue, CoverValue, Places, none, more, FlatCoverValue, FlatValue, behind_is, nodes_only, nodes_after, reversed_forward, reversed_apart, reads_earlier, filtered_apart, length-filter_le}
 use Rattle.blif_flat.specs.{ModelValue, Path, model_at, inputs_of, is_cover, is_latch, Circuit, ClockNets, Instance, FlatNet, OutPort, FlatLatch, paths_of, IsLight, places_at, is_gate, input_name, clock_test, cover_reads, PostsAll, most_weight, own_weight, AreNetsOf, IsControl, with_control_net, most_underscores, IsFlat, regular_numbers, IsRegular, regular_places, AreFlatCovers, AreFlatLatches, AreCounted, root_numbers, IsCircuit, AreClockNets, input_ports, Place, AreOnce, IsWellFormed, FlatNet as Net, IsNumbered, an_input, a_latch, a_cover, reads_at, IsFlatCover, IsFlatLatch, cover_behind, IsThere, StandsBefore, IsWithinBounds}
-use Rattle.netlist.specs.LibraryValue.{LibraryValue}
-use Rattle.netlist.specs.CoverValue.{CoverValue}
-use Rattle.netlist.specs.Flat.{Places, none, more}
-use Rattle.netlist.specs.FlatCoverValue.{FlatCoverValue}
-use Rattle.netlist.specs.FlatValue.{FlatValue}
 use Rattle.blif_flat.proofs.Clocking.ControlLemmas.{data-output, data-clock}
 use Rattle.blif_flat.proofs.Faults.FaultOnceLemmas.{rows_order}
 use Rattle.blif_flat.proofs.Fields.NumberWalkLemmas.{flat_walked, in_range, root_below}
 use Rattle.blif_flat.proofs.Hierarchy.InstanceWeightLemmas.{few_inputs, places_few, inputs_few, ports_few}
-use Rattle.netlist.proofs.EvaluateLemmas.{behind_is}
-use Rattle.netlist.proofs.PostLemmas.{nodes_only, nodes_after, reversed_forward, reversed_apart, reads_earlier}
 use Rattle.blif_flat.specs.declared.circuit.instances.GateKind.TheVariants as kinds
-use Rattle.list_laws.proofs.Apart.{filtered_apart}
-use Rattle.list_laws.proofs.Members.{length-filter_le}
 
 module _ (library : LibraryValue) (main : ModelValue) (at : model_at library [] ≡ Some main) (circuit : Circuit) (is : IsCircuit library circuit) (clocks : ClockNets)
     (known : AreClockNets library main circuit.instances.items clocks) where

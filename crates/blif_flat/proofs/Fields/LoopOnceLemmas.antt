@@ -1,13 +1,6 @@
 -- What a walk meets again leads to itself, so a sound library has no loop; and a walk has one result.
-use Rattle.blif_flat.proofs.Common.{◌≡◌, List, [], ◌∷◌, ◌++◌, Option, Some, refl, sym, ◌∙◌, subst, inl, inr, none-some, In, ℕ, ap, ap₂, same_Some}
-use Rattle.netlist.specs.LibraryValue.{LibraryValue}
-use Rattle.blif_flat.specs.{Place, reads_of, roots_of, LoopWalk, IsSound, Repeat, Meets, met, goes, MeetsAll, ModelValue, Path, Net, is_cover, is_latch, FlatOrder}
+use Rattle.blif_flat.proofs.Common.{◌≡◌, List, [], ◌∷◌, ◌++◌, Option, Some, refl, sym, ◌∙◌, subst, inl, inr, none-some, In, ℕ, ap, ap₂, same_Some, LibraryValue, Place, reads_of, roots_of, LoopWalk, IsSound, Repeat, Meets, met, goes, MeetsAll, ModelValue, Path, Net, is_cover, is_latch, FlatOrder, same_nets, not_empty, same_first, same_rest, reaches_depends, HasCover, read_cover, start_cover, Reaches, at_once, one_more, order_once}
 use Rattle.netlist.specs.DepthFirst.{none, first, later}
-use Rattle.netlist.proofs.NetLemmas.{same_nets}
-use Rattle.netlist.proofs.NameLemmas.{not_empty, same_first, same_rest}
-use Rattle.netlist.proofs.LoopLemmas.{reaches_depends, HasCover, read_cover, start_cover}
-use Rattle.netlist.proofs.PostLemmas.{Reaches, at_once, one_more}
-use Rattle.netlist.proofs.OrderLemmas.{order_once}
 
 module _ {N : Type 0} (next : N → List N) where
   module _ (P : N → Type 0) (closed : (n m : N) → P n → In (next n) m → P m) where

@@ -1,17 +1,10 @@
 -- A loop of covers by their numbers is written by their gates, and the order of the numbers is one of the covers.
-use Rattle.blif_flat.proofs.Common.{◌≡◌, ℕ, ◌+◌, ◌<◌, List, [], ◌∷◌, ◌++◌, map, length, take, get_or, Some, None, refl, sym, ap, ap₂, ◌∙◌, subst, arith, slice_get, All, map-append, take_more, slice_get_within, slice_get-get_or, In, In-get, at_within}
-use Rattle.netlist.specs.CoverValue.{CoverValue}
-use Rattle.netlist.specs.LibraryValue.{LibraryValue}
-use Rattle.blif_flat.specs.{Path, CoverAt, cover_net, IsDriven, Place, is_cover, FlatLatch, FlatNet, Gate, Instance, places_at, paths_of, AreInstances, IsGateAt, AreGatesAt, InRange, IsNumberLoop, all_starts, IsOrder, IsWritten, AreWritten, LoopWalk, IsLoop, AreCounted, root_numbers, IsWrittenAt, AreWrittenAt}
-use Rattle.netlist.specs.FlatCoverValue.{FlatCoverValue}
+use Rattle.blif_flat.proofs.Common.{◌≡◌, ℕ, ◌+◌, ◌<◌, List, [], ◌∷◌, ◌++◌, map, length, take, get_or, Some, None, refl, sym, ap, ap₂, ◌∙◌, subst, arith, slice_get, All, map-append, take_more, slice_get_within, slice_get-get_or, In, In-get, at_within, CoverValue, LibraryValue, Path, CoverAt, cover_net, IsDriven, Place, is_cover, FlatLatch, FlatNet, Gate, Instance, places_at, paths_of, AreInstances, IsGateAt, AreGatesAt, InRange, IsNumberLoop, all_starts, IsOrder, IsWritten, AreWritten, LoopWalk, IsLoop, AreCounted, root_numbers, IsWrittenAt, AreWrittenAt, FlatCoverValue, Loop, nets, are_nets, all_members}
 use Rattle.blif_flat.specs.LoopFault.{none}
-use Rattle.blif_flat.specs.declared.flat_err.FlatErr.TheVariants.{Loop}
-use Rattle.netlist.proofs.NetLemmas.{nets, are_nets}
 use Rattle.blif_flat.proofs.Fields.NumberWalkLemmas.{place_or, place_at, in_range, root_below, order_mapped, loop_mapped, loop_fault}
 use Rattle.blif_flat.proofs.Fields.RegularNetLemmas.{cover_there}
 use Rattle.blif_flat.proofs.Hierarchy.GateLemmas.{row_within}
 use Rattle.blif_flat.proofs.Hierarchy.PlaceLemmas.{written_more}
-use Rattle.netlist.proofs.NameLemmas.{all_members}
 
 module _ (library : LibraryValue) where
   module _ (instances : List Instance) (are : AreInstances library instances) (gates : List Gate) (w : AreGatesAt (paths_of instances) gates (places_at library is_cover (paths_of instances))) where

@@ -1,23 +1,11 @@
 -- The covers as a graph: a walk along its edges is one of the covers that are read, and what the walks of the roots and of all covers find.
-use Rattle.blif_flat.proofs.Common.{◌≡◌, ℕ, ◌+◌, ◌<◌, List, [], ◌∷◌, ◌++◌, map, length, get_or, reverse, Some, None, refl, sym, ap, ◌∙◌, subst, subst₂, arith, slice_get, zero, suc, Bool, true, false, Option, ap₂, inl, inr, eqb, if◌then◌else◌, both_ways, cases_Bool, map-append, slice_get_within, In, In-append, at_within, apart_once}
-use Rattle.blif_flat.specs.{leads, PostsAll, WalkValue, FlatNet, cover_numbers, inputs_at, cover_reads, edge_of, cover_edges, InRange, IsReady, IsClear, IsNumberLoop, all_starts, IsOrder, MeetsAll, ModelValue, Path, Net, Place, same_place, latch_at, is_cover, OutPort, FlatLatch, AreNets, with_cover, covers_among, reads_in, reads_of, latch_covers, all_latch_covers, roots_of, from_node, AreWritten, LoopWalk, IsLoop, IsNumbered, an_input, a_latch, a_cover, IsNetOf, AreNetsOf, IsFlatCover, IsFlatLatch, IsFlat, AreWalked, latch_nets, root_numbers, Repeat}
-use Rattle.netlist.specs.LibraryValue.{LibraryValue}
+use Rattle.blif_flat.proofs.Common.{◌≡◌, ℕ, ◌+◌, ◌<◌, List, [], ◌∷◌, ◌++◌, map, length, get_or, reverse, Some, None, refl, sym, ap, ◌∙◌, subst, subst₂, arith, slice_get, zero, suc, Bool, true, false, Option, ap₂, inl, inr, eqb, if◌then◌else◌, both_ways, cases_Bool, map-append, slice_get_within, In, In-append, at_within, apart_once, leads, PostsAll, WalkValue, FlatNet, cover_numbers, inputs_at, cover_reads, edge_of, cover_edges, InRange, IsReady, IsClear, IsNumberLoop, all_starts, IsOrder, MeetsAll, ModelValue, Path, Net, Place, same_place, latch_at, is_cover, OutPort, FlatLatch, AreNets, with_cover, covers_among, reads_in, reads_of, latch_covers, all_latch_covers, roots_of, from_node, AreWritten, LoopWalk, IsLoop, IsNumbered, an_input, a_latch, a_cover, IsNetOf, AreNetsOf, IsFlatCover, IsFlatLatch, IsFlat, AreWalked, latch_nets, root_numbers, Repeat, LibraryValue, range_with_len, nodes_of, ways_of, ways_from, successors, AreNodes, Places, none, more, FlatCoverValue, FlatValue, Loop, latch_at-some, places_apart, same_place-is, same_place-refl, cover_at-is}
 use Rattle.std.proofs.Common.{eqb-true, eq-eqb}
 use Rattle.std.proofs.Math.Path.{fun_ext}
 use Rattle.std.proofs.lemmas.List.FromFn.{length-range_with_len, get_or-range_with_len}
-use Rattle.std.specs.List.{range_with_len}
-use Rattle.depth_first.specs.DepthFirst.{nodes_of}
-use Rattle.depth_first.specs.Edges.{ways_of, ways_from, successors, AreNodes}
 use Rattle.depth_first.specs.Walk.{leads_to, from_node as from_number, VisitedAll}
 use Rattle.depth_first.specs.declared.edge.End.TheVariants.{Loop, Stop}
-use Rattle.netlist.specs.Flat.{Places, none, more}
-use Rattle.netlist.specs.FlatCoverValue.{FlatCoverValue}
-use Rattle.netlist.specs.FlatValue.{FlatValue}
 use Rattle.netlist.specs.declared.flat.Net.TheVariants.{Input, Latch, Cover}
-use Rattle.blif_flat.specs.declared.flat_err.FlatErr.TheVariants.{Loop}
-use Rattle.netlist.proofs.PlaceLemmas.{latch_at-some}
-use Rattle.netlist.proofs.OrderLemmas.{places_apart}
-use Rattle.netlist.proofs.PlaceLemmas.{same_place-is, same_place-refl, cover_at-is}
 use Rattle.netlist.proofs.MeetLemmas.{meets_append, found_append, nodes_met, result_mapped, repeat_mapped, IsInside, nodes_inside, nodes_mapped}
 
 pub range_below : (ns : List ℕ) (count : ℕ) → ns ≡ range_with_len 0 count → (k d : ℕ) → k < length ns → get_or ns k d < count

@@ -1,20 +1,10 @@
 -- Nets by the numbers of the regular inputs: an input that is no clock net stands among the regular ones at its number.
-use Rattle.blif_flat.proofs.Common.{◌≡◌, ℕ, zero, suc, ◌+◌, Bool, true, false, not, cond, List, [], ◌∷◌, ◌++◌, map, Option, Some, None, refl, sym, ap, ◌∙◌, subst, inl, inr, arith, filter, slice_get, cases_Bool, both_ways, none-some, same_Some, In, length, drop, drop_of_length-le, ◌≤◌, option_and_then, length-map, In-get, ◌<◌, max, get_or, ap₂, append_assoc, and_from, slice_get_read}
-use Rattle.netlist.specs.LibraryValue.{LibraryValue}
-use Rattle.blif_flat.specs.{Path, has_name, inputs_of, Net, input_net, Drives, IsClock, listed, FlatNet, Instance, number_or_zero, paths_of, IsNumbered, an_input, a_latch, a_cover, IsNetOf, AreNetsOf, net_places, IsNetFound, NetsValue, table_of, AreAllNets, regular_numbers, renumbered, IsRegular, regular_places, renumbered_or, regular_net, regular_nets, Body, Cover, Latch, LatchValue, ModelValue, body_at, model_at, CoverAt, LatchAt, IsDriven, cover_input, latch_input, Place, cover_in, latch_in, is_cover, is_latch, Gate, cover_data, latch_data, places_at, AreInstances, IsGateAt, AreGatesAt, body_in, gate_body, IsFlatCover, IsFlatLatch, AreFlatCovers, AreFlatLatches, row_model, inputs_or, flat_cover, made_latch, latch_or, flat_latch, is_input, is_output, main_input, model_output, OutPort, underscores, most_underscores, out_port, outputs_or, with_unmarked, unmarked_after}
-use Rattle.netlist.specs.CoverValue.{CoverValue}
+use Rattle.blif_flat.proofs.Common.{◌≡◌, ℕ, zero, suc, ◌+◌, Bool, true, false, not, cond, List, [], ◌∷◌, ◌++◌, map, Option, Some, None, refl, sym, ap, ◌∙◌, subst, inl, inr, arith, filter, slice_get, cases_Bool, both_ways, none-some, same_Some, In, length, drop, drop_of_length-le, ◌≤◌, option_and_then, length-map, In-get, ◌<◌, max, get_or, ap₂, append_assoc, and_from, slice_get_read, LibraryValue, Path, has_name, inputs_of, Net, input_net, Drives, IsClock, listed, FlatNet, Instance, number_or_zero, paths_of, IsNumbered, an_input, a_latch, a_cover, IsNetOf, AreNetsOf, net_places, IsNetFound, NetsValue, table_of, AreAllNets, regular_numbers, renumbered, IsRegular, regular_places, renumbered_or, regular_net, regular_nets, Body, Cover, Latch, LatchValue, ModelValue, body_at, model_at, CoverAt, LatchAt, IsDriven, cover_input, latch_input, Place, cover_in, latch_in, is_cover, is_latch, Gate, cover_data, latch_data, places_at, AreInstances, IsGateAt, AreGatesAt, body_in, gate_body, IsFlatCover, IsFlatLatch, AreFlatCovers, AreFlatLatches, row_model, inputs_or, flat_cover, made_latch, latch_or, flat_latch, is_input, is_output, main_input, model_output, OutPort, underscores, most_underscores, out_port, outputs_or, with_unmarked, unmarked_after, CoverValue, Places, none, more, Input, net_of_driver, In-filter, mapped_at, IsOfKind, flat_only, in_has}
 use Rattle.std.proofs.Common.{append-nil}
 use Rattle.std.proofs.lemmas.List.Elements.{filter-append}
-use Rattle.netlist.specs.Flat.{Places, none, more}
-use Rattle.netlist.specs.declared.flat.Net.TheVariants.{Input}
-use Rattle.netlist.proofs.NetLemmas.{net_of_driver}
-use Rattle.list_laws.proofs.Members.{In-filter}
-use Rattle.list_laws.proofs.Places.{mapped_at}
 use Rattle.blif_flat.proofs.Hierarchy.GateLemmas.{place_model, gate_row, gate_place}
-use Rattle.netlist.proofs.OrderLemmas.{IsOfKind, flat_only}
 use Rattle.netlist.proofs.UnderscoreLemmas.{most-append}
 use Rattle.blif_flat.proofs.Hierarchy.OrderLemmas.{is_cover-some, is_latch-some, order_places, order_first}
-use Rattle.tl_text.proofs.NameSetLemmas.{in_has}
 
 -- an element that isn't marked has a number, counted on from n, and stands there among those that aren't marked
 record IsKept {A : Type 0} (test : A → Bool) (n : ℕ) (xs : List A) (j : ℕ) (x : A) : Type 0 where

@@ -1,14 +1,9 @@
 -- Gates: what stands at one stands at its place, and those that are listed row by row stand at the places of all instances in flat order.
-use Rattle.blif_flat.proofs.Common.{◌≡◌, ℕ, ◌<◌, List, length, Option, Some, None, refl, sym, ap, ap₂, ◌∙◌, arith, suc, ◌+◌, ◌≤◌, ◌^◌, Bool, [], ◌∷◌, ◌++◌, drop, subst, subst₂, inl, inr, append_assoc, slice_get, MatchOption, option_map, option_and_then, same_Some, slice_get_within, none-some, at_within, drop_past, cases_Bool, length-append, append-nil, In-get}
-use Rattle.blif_flat.specs.{LatchValue, ModelValue, Body, Command, Path, model_at, LatchAt, Place, latch_at, own_places, is_latch, FlatOrder, latch_net, Gate, Instance, AreInstances, IsRow, paths_of, IsLight, IsGateAt, kind_test, AreGatesAt, body_in, numbered_body, place_body, gate_body, GateKind, model_places, places_at, with_commands, with_model, with_rows, most_weight, path_text, IsWritten, of_latch}
-use Rattle.netlist.specs.LibraryValue.{LibraryValue}
-use Rattle.list_laws.proofs.TwoLists.{pushed_pair}
+use Rattle.blif_flat.proofs.Common.{◌≡◌, ℕ, ◌<◌, List, length, Option, Some, None, refl, sym, ap, ap₂, ◌∙◌, arith, suc, ◌+◌, ◌≤◌, ◌^◌, Bool, [], ◌∷◌, ◌++◌, drop, subst, subst₂, inl, inr, append_assoc, slice_get, MatchOption, option_map, option_and_then, same_Some, slice_get_within, none-some, at_within, drop_past, cases_Bool, length-append, append-nil, In-get, LatchValue, ModelValue, Body, Command, Path, model_at, LatchAt, Place, latch_at, own_places, is_latch, FlatOrder, latch_net, Gate, Instance, AreInstances, IsRow, paths_of, IsLight, IsGateAt, kind_test, AreGatesAt, body_in, numbered_body, place_body, gate_body, GateKind, model_places, places_at, with_commands, with_model, with_rows, most_weight, path_text, IsWritten, of_latch, LibraryValue, pushed_pair, IsOfKind, flat_only, latch_at-some}
 use Rattle.blif_flat.proofs.Clocking.ControlLemmas.{is_latch_at}
 use Rattle.blif_flat.proofs.Hierarchy.InstanceRowLemmas.{paths_of-length, AreModelsOf, models_rest, models_of}
 use Rattle.blif_flat.proofs.Hierarchy.InstanceWeightLemmas.{light_commands, light_places}
 use Rattle.blif_flat.proofs.Hierarchy.OrderLemmas.{order_places, is_latch-some}
-use Rattle.netlist.proofs.OrderLemmas.{IsOfKind, flat_only}
-use Rattle.netlist.proofs.PlaceLemmas.{latch_at-some}
 
 -- a row that has a path is there
 pub row_within : (instances : List Instance) (i : ℕ) (path : Path) → slice_get (paths_of instances) i ≡ Some path → i < length instances

@@ -1,11 +1,5 @@
 -- The drivers and the reads of an instance are those of its model's commands, and its ports.
-use Rattle.blif_flat.proofs.Common.{◌≡◌, ℕ, true, not, List, [], ◌∷◌, Option, Some, None, refl, sym, ap, ap₂, ◌∙◌, subst, inl, inr, ◌⊎◌, slice_get, cases_Bool, and_from, and_parts, not_from_false, cond-true, cond-false, none-some, same_Some, In, In-left, In-right, In-append, In-get, place_in}
-use Rattle.blif_flat.specs.{Body, Cover, Latch, Subckt, Command, Pair, ModelValue, Path, body_at, with_subckt, subckts_of, model_named, model_at, has_name, is_input, is_output, inputs_of, LatchAt, Driver, by_input, IsDriver, input, latch, cover, output, IsRead, cover_input, latch_input, latch_control, input_actual, model_output, input_actuals, read_pairs, control_names, reads, all_drives, driven_names}
-use Rattle.netlist.specs.SubcktValue.{SubcktValue}
-use Rattle.netlist.specs.LibraryValue.{LibraryValue}
-use Rattle.netlist.proofs.PlaceLemmas.{command_of, body_of}
-use Rattle.tl_text.proofs.NameSetLemmas.{has_in, in_has}
-use Rattle.netlist.proofs.NameLemmas.{input_in, in_input}
+use Rattle.blif_flat.proofs.Common.{◌≡◌, ℕ, true, not, List, [], ◌∷◌, Option, Some, None, refl, sym, ap, ap₂, ◌∙◌, subst, inl, inr, ◌⊎◌, slice_get, cases_Bool, and_from, and_parts, not_from_false, cond-true, cond-false, none-some, same_Some, In, In-left, In-right, In-append, In-get, place_in, Body, Cover, Latch, Subckt, Command, Pair, ModelValue, Path, body_at, with_subckt, subckts_of, model_named, model_at, has_name, is_input, is_output, inputs_of, LatchAt, Driver, by_input, IsDriver, input, latch, cover, output, IsRead, cover_input, latch_input, latch_control, input_actual, model_output, input_actuals, read_pairs, control_names, reads, all_drives, driven_names, SubcktValue, LibraryValue, command_of, body_of, has_in, in_has, input_in, in_input}
 use Rattle.blif_flat.proofs.Models.TagLemmas.{Tag, tag, tags, tag_names, In-names, names_in, Source, from_cover, from_latch, from_subckt, tag_in, tag_source, AreNew, new_apart, new_once, IsClean}
 
 -- the command of a subcircuit

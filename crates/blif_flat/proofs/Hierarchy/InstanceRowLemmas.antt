@@ -1,14 +1,9 @@
 -- The instances of instances: those that wait are put behind the others one by one, and in the end they are all instances in flat order.
-use Rattle.blif_flat.proofs.Common.{◌≡◌, ℕ, suc, List, ◌∷◌, length, Some, sym, ap, ◌∙◌, arith, ◌+◌, ◌<◌, ◌≤◌, [], ◌++◌, Option, None, refl, subst, inl, inr, append_assoc, reverse, slice_get, option_and_then, same_Some, none-some, slice_get_within, length-append, append-nil, reverse-append, reverse-reverse, get_before, get_end, get_pushed}
-use Rattle.netlist.specs.LibraryValue.{LibraryValue}
-use Rattle.blif_flat.specs.{ModelValue, Body, Cover, Latch, Subckt, Command, Path, model_at, subckts_of, with_subckt, model_named, Instance, AreInstances, IsRow, paths_of, path_under, path_of, paths_from, IsLight, number_or_zero, entry_of, with_entry, entries_from, entries_at, IsWaiting, Waits, Listed, place_of, model_names, Finds, most_weight, own_weight, Weighs, weighs, WeighAll, flat, InstanceOrder, InstancesUnder, itself}
-use Rattle.netlist.specs.SubcktValue.{SubcktValue}
+use Rattle.blif_flat.proofs.Common.{◌≡◌, ℕ, suc, List, ◌∷◌, length, Some, sym, ap, ◌∙◌, arith, ◌+◌, ◌<◌, ◌≤◌, [], ◌++◌, Option, None, refl, subst, inl, inr, append_assoc, reverse, slice_get, option_and_then, same_Some, none-some, slice_get_within, length-append, append-nil, reverse-append, reverse-reverse, get_before, get_end, get_pushed, LibraryValue, ModelValue, Body, Cover, Latch, Subckt, Command, Path, model_at, subckts_of, with_subckt, model_named, Instance, AreInstances, IsRow, paths_of, path_under, path_of, paths_from, IsLight, number_or_zero, entry_of, with_entry, entries_from, entries_at, IsWaiting, Waits, Listed, place_of, model_names, Finds, most_weight, own_weight, Weighs, weighs, WeighAll, flat, InstanceOrder, InstancesUnder, itself, SubcktValue, AreFrom, from_start, from_first, from_rest, placed_at, cons_first, cons_rest}
 use Rattle.netlist.specs.Places.{none as under_none, more as under_more}
 use Rattle.blif_flat.specs.Bodies.InstanceRows.{none, more}
 use Rattle.netlist.specs.Weight.{none as weigh_none, more as weigh_more}
 use Rattle.blif_flat.proofs.Hierarchy.InstanceWeightLemmas.{order_few}
-use Rattle.netlist.proofs.OrderLemmas.{AreFrom, from_start, from_first, from_rest, placed_at}
-use Rattle.netlist.proofs.NameLemmas.{cons_first, cons_rest}
 use Rattle.blif_flat.proofs.Models.NameSetLemmas.{finds}
 
 -- the instances of the subcircuits of some commands

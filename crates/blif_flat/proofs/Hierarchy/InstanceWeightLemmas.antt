@@ -1,17 +1,10 @@
 -- The instances hold together what the main model weighs: so the covers and latches of all instances are few, and so are the commands of each.
-use Rattle.blif_flat.proofs.Common.{◌≡◌, Bool, not, filter, if◌then◌else◌, ℕ, zero, suc, ◌+◌, ◌≤◌, true, false, List, [], ◌∷◌, ◌++◌, length, Option, Some, None, refl, sym, ap, ◌∙◌, subst, inl, inr, arith, slice_get, cases_Bool, both_ways, length-append, none-some, same_Some}
+use Rattle.blif_flat.proofs.Common.{◌≡◌, Bool, not, filter, if◌then◌else◌, ℕ, zero, suc, ◌+◌, ◌≤◌, true, false, List, [], ◌∷◌, ◌++◌, length, Option, Some, None, refl, sym, ap, ◌∙◌, subst, inl, inr, arith, slice_get, cases_Bool, both_ways, length-append, none-some, same_Some, SubcktValue, LibraryValue, CoverValue, AreFrom, from_start, from_first, from_rest, placed_at, inside, command_of, not_empty, same_first, same_rest, length-filter_le}
 use Rattle.blif_flat.specs.{Body, Command, ModelValue, Path, subckts_of, with_subckt, model_named, model_at, has_name, inputs_of, CoverAt, Place, own_places, own_of, InFlatOrder, InFlatOrderUnder, FlatOrder, Cover as CoverBody, Latch as LatchBody, Subckt as SubcktBody, GateKind, kind_test, most_weight, body_weight, commands_weight, own_weight, Weighs, weighs, WeighAll, flat, InstanceOrder, InstancesUnder, places_at, IsLight}
-use Rattle.netlist.specs.SubcktValue.{SubcktValue}
-use Rattle.netlist.specs.LibraryValue.{LibraryValue}
-use Rattle.netlist.specs.CoverValue.{CoverValue}
 use Rattle.netlist.specs.Places.{none, more}
 use Rattle.netlist.specs.Weight.{none as weigh_none, more as weigh_more}
 use Rattle.blif_flat.specs.declared.circuit.instances.GateKind.TheVariants.{Cover, Latch, Either}
-use Rattle.netlist.proofs.OrderLemmas.{AreFrom, from_start, from_first, from_rest, placed_at}
 use Rattle.blif_flat.proofs.Hierarchy.OrderLemmas.{order_places}
-use Rattle.netlist.proofs.PlaceLemmas.{inside, command_of}
-use Rattle.netlist.proofs.NameLemmas.{not_empty, same_first, same_rest}
-use Rattle.list_laws.proofs.Members.{length-filter_le}
 
 pub own_below : (library : LibraryValue) (m : ModelValue) (w : ℕ) → Weighs library m w → own_weight m ≤ w
 own_below library m w (weighs inner all e) = omega arith

@@ -1,11 +1,6 @@
 -- Flat order, of whatever the instances have of their own: an instance whose hierarchy ends has one, and one only; all that the instances within it have stands there, and nothing else.
-use Rattle.blif_flat.proofs.Common.{◌≡◌, ℕ, ◌+◌, ◌≤◌, Bool, true, ◌⊎◌, List, [], ◌∷◌, ◌++◌, Some, refl, sym, ap, ◌∙◌, inl, inr, append_assoc, slice_get, if◌then◌else◌, In, AreApart}
-use Rattle.blif_flat.specs.{Body, Cover, Latch, Subckt, LatchValue, ModelValue, Path, model_at, is_cover, is_latch, FlatOrder, flat, FlatUnder, InstanceOrder, InstancesUnder, itself, model_places, places_at}
-use Rattle.netlist.specs.CoverValue.{CoverValue}
-use Rattle.netlist.specs.SubcktValue.{SubcktValue}
-use Rattle.netlist.specs.LibraryValue.{LibraryValue}
+use Rattle.blif_flat.proofs.Common.{◌≡◌, ℕ, ◌+◌, ◌≤◌, Bool, true, ◌⊎◌, List, [], ◌∷◌, ◌++◌, Some, refl, sym, ap, ◌∙◌, inl, inr, append_assoc, slice_get, if◌then◌else◌, In, AreApart, Body, Cover, Latch, Subckt, LatchValue, ModelValue, Path, model_at, is_cover, is_latch, FlatOrder, flat, FlatUnder, InstanceOrder, InstancesUnder, itself, model_places, places_at, CoverValue, SubcktValue, LibraryValue, AreFrom, from_first, from_rest, from_start, order_apart, placed_at}
 use Rattle.netlist.specs.Places.{none, more}
-use Rattle.netlist.proofs.OrderLemmas.{AreFrom, from_first, from_rest, from_start, order_apart, placed_at}
 
 -- the instances in flat order: each once, and the first is the main model's own
 module _ (library : LibraryValue) where

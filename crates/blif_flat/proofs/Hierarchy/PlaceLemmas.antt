@@ -1,11 +1,7 @@
 -- Places, and what stands at them: a place has one cover or latch, and a connection leads to the model that it places.
-use Rattle.blif_flat.proofs.Common.{◌≡◌, ℕ, ◌∷◌, Some, None, refl, sym, ap, ◌∙◌, slice_get, option_and_then, same_Some, List, ◌++◌, subst, [], append_assoc, decimal}
-use Rattle.blif_flat.specs.{LatchValue, Path, body_at, model_at, CoverAt, LatchAt, Place, Net, input_net, latch_net, cover_net, cover_in, path_text, IsWritten, of_input, of_latch, of_cover, Instance, AreWritten, path_of, paths_of, AreInstances, AreUnder, output_or, output_in, output_at}
-use Rattle.netlist.specs.CoverValue.{CoverValue}
-use Rattle.netlist.specs.LibraryValue.{LibraryValue}
+use Rattle.blif_flat.proofs.Common.{◌≡◌, ℕ, ◌∷◌, Some, None, refl, sym, ap, ◌∙◌, slice_get, option_and_then, same_Some, List, ◌++◌, subst, [], append_assoc, decimal, LatchValue, Path, body_at, model_at, CoverAt, LatchAt, Place, Net, input_net, latch_net, cover_net, cover_in, path_text, IsWritten, of_input, of_latch, of_cover, Instance, AreWritten, path_of, paths_of, AreInstances, AreUnder, output_or, output_in, output_at, CoverValue, LibraryValue, cover_at-is, one_latch}
 use Rattle.std.proofs.Common.{append-nil}
 use Rattle.blif_flat.specs.LoopFault.{none, more}
-use Rattle.netlist.proofs.PlaceLemmas.{cover_at-is, one_latch}
 
 -- How nets are written: the paths of rows, and that each net has one text.
 module _ (library : LibraryValue) where

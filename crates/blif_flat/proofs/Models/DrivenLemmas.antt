@@ -1,14 +1,9 @@
 -- Steps of a search for faults of drivers, and the search as far as it has come.
-use Rattle.blif_flat.proofs.Common.{◌≡◌, ℕ, suc, ◌+◌, ◌<◌, List, [], ◌∷◌, ◌++◌, length, get_or, drop, Option, Some, None, refl, sym, ap, ◌∙◌, subst, inl, inr, arith, append_assoc, drop-cons, slice_get, cases_Bool, drop_at, OrMemory-map, ◌⊎◌, IsTrue, none-some, same_Some, In, cond-true, cond-false, In-append, In-get}
-use Rattle.blif_flat.specs.{Pair, ModelValue, has_name, is_input, is_output, FlatErr, refusal_of, IsTold, or_later, output_actuals, input_actuals, twice_in, undriven_in, models_fault, fault_of, with_numbered, models_at, Command, Body, Cover, Latch, Subckt, Path, model_at, inputs_of, subckts_of, model_named, by_input, IsDriver, input, IsDriven, Driver, by_latch, by_cover, by_subckt, InstanceAt, latch, cover, output, IsRead, cover_input, latch_input, latch_control, input_actual, model_output, ConnectionAt, IsWellFormed, walked, WalksMain, unknown_formal, open_input, AreOnce, formals}
-use Rattle.netlist.specs.LibraryValue.{LibraryValue}
-use Rattle.netlist.specs.SubcktValue.{SubcktValue}
+use Rattle.blif_flat.proofs.Common.{◌≡◌, ℕ, suc, ◌+◌, ◌<◌, List, [], ◌∷◌, ◌++◌, length, get_or, drop, Option, Some, None, refl, sym, ap, ◌∙◌, subst, inl, inr, arith, append_assoc, drop-cons, slice_get, cases_Bool, drop_at, OrMemory-map, ◌⊎◌, IsTrue, none-some, same_Some, In, cond-true, cond-false, In-append, In-get, Pair, ModelValue, has_name, is_input, is_output, FlatErr, refusal_of, IsTold, or_later, output_actuals, input_actuals, twice_in, undriven_in, models_fault, fault_of, with_numbered, models_at, Command, Body, Cover, Latch, Subckt, Path, model_at, inputs_of, subckts_of, model_named, by_input, IsDriver, input, IsDriven, Driver, by_latch, by_cover, by_subckt, InstanceAt, latch, cover, output, IsRead, cover_input, latch_input, latch_control, input_actual, model_output, ConnectionAt, IsWellFormed, walked, WalksMain, unknown_formal, open_input, AreOnce, formals, LibraryValue, SubcktValue, inside, in_input, input_in}
 use Rattle.std.proofs.Common.{append-nil}
 use Rattle.netlist.specs.WellFormed.{IsWellFormedBody}
 use Rattle.blif_flat.proofs.Hierarchy.InstanceLemmas.{own_tags, tag_driver, driver_name, command_reads, output_driven, subckt_in, subckt_more, subckt_command, clean_once, clean_driven}
-use Rattle.netlist.proofs.PlaceLemmas.{inside}
 use Rattle.blif_flat.proofs.Models.LineLemmas.{formal_is, input_connected}
-use Rattle.netlist.proofs.NameLemmas.{in_input, input_in}
 use Rattle.blif_flat.proofs.Models.TagLemmas.{Tag, tag_names, Source, from_cover, from_latch, from_subckt, tag_source, tag, pair_tags, subckt_tags, body_tags, behind, tags, of_pair, AreNew, HaveNamesApart, apart_new, IsClean, no_models_fault, models_clean}
 use Rattle.blif_flat.proofs.Models.WalkedLemmas.{walked_at, line_of, named_in, Fine, main_fine, fine_ends, fine_holds, fine_placed, fine_at}
 

@@ -1,24 +1,19 @@
 -- The walk of the models by their numbers is that of the definition, and its order puts each model behind those that it places.
-use Rattle.blif_flat.proofs.Common.{◌≡◌, ℕ, ◌<◌, true, false, List, Vec, Global, [], ◌∷◌, ◌++◌, map, reverse, length, Option, Some, None, refl, sym, ap, ◌∙◌, subst, subst₂, inl, inr, slice_get, option_map, unwrap_or, both_ways, length-map, none-some, same_Some, slice_get_within, slice_get-map, In, In-map, at_within, in_reversed, OrMemory-map}
+use Rattle.blif_flat.proofs.Common.{◌≡◌, ℕ, ◌<◌, true, false, List, Vec, Global, [], ◌∷◌, ◌++◌, map, reverse, length, Option, Some, None, refl, sym, ap, ◌∙◌, subst, subst₂, inl, inr, slice_get, option_map, unwrap_or, both_ways, length-map, none-some, same_Some, slice_get_within, slice_get-map, In, In-map, at_within, in_reversed, OrMemory-map, LibraryValue, ways_of, ways_from, successors, AreNodes, ending_of, Visited, stop, reached_only}
 use Rattle.blif_flat.specs.{leads, WalkValue, OrMemory, place_of, Body, Cover, Latch, Subckt, Command, ModelValue, has_name, model_named, AreOnce, FlatErr, or_later, SubcktLine, with_line, subckt_lines, line_fault, is_walked, Walked, refused, walked, Walks, refuse, again, inside, onward, WalksMain, refusal_of, IsTold, model_names, IsModelOf, Finds, models_at, IsBehind, AreChildrenFirst, edge_by, line_edge, body_edge, commands_edges, edge_rows, edges_at, with_model_name, names_at, lines_fault, model_lines_fault, path_fault}
-use Rattle.netlist.specs.LibraryValue.{LibraryValue}
 use Rattle.depth_first.specs.DepthFirst.{Way, stops, Ending, repeats, halts, nodes_of, Outcome, ends_at, goes_through, Enters, ended, stopped_at, back, again as enters_again, inside as enters_inside, onward as enters_onward}
-use Rattle.depth_first.specs.Edges.{ways_of, ways_from, successors, AreNodes}
 use Rattle.depth_first.specs.Order.{LeadsInto, IsSettled}
 use Rattle.depth_first.specs.Reach.{here}
-use Rattle.depth_first.specs.Walk.{ending_of, Visited}
 use Rattle.depth_first.specs.declared.edge.Edge.{Edge}
 use Rattle.depth_first.specs.declared.edge.Edge.TheVariants.{Node, Stop, Pass}
 use Rattle.depth_first.specs.declared.edge.End.{End}
 use Rattle.depth_first.specs.declared.edge.End.TheVariants.{Loop, Stop as stopped}
-use Rattle.blif_flat.specs.Walk.{stop}
 use Rattle.blif_flat.proofs.Hierarchy.InstanceLemmas.{subckt_command}
 use Rattle.blif_flat.proofs.Models.LineLemmas.{IsPlaced, free_line, no_line_fault}
 use Rattle.blif_flat.proofs.Models.ModelPathLemmas.{reverse_more, models_at-push, on_path, off_path, was_walked, not_walked}
 use Rattle.blif_flat.proofs.Models.NameSetLemmas.{finds}
 use Rattle.blif_flat.proofs.Models.WalkedLemmas.{named_is}
 use Rattle.blif_flat.proofs.Models.WeightLemmas.{children_first_push, children_first_none}
-use Rattle.netlist.proofs.PostLemmas.{reached_only}
 
 -- an edge of a line is no edge that is passed over
 no_pass : (o : Option FlatErr) (k : Option ℕ) → edge_by o k ≡ Pass → ⊥

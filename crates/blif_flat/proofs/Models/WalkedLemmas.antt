@@ -1,12 +1,7 @@
 -- The walk of the models has one result; one that refuses nothing has been through models without F1 to F4, and the hierarchy ends.
-use Rattle.blif_flat.proofs.Common.{◌≡◌, ℕ, List, [], ◌∷◌, ◌++◌, Some, sym, ◌∙◌, subst, subst₂, Bool, true, false, cond, Option, refl, ap, inl, inr, ◌⊎◌, bytes_eq, slice_get, same_Some, none-some, option_and_then_some, both_ways, or_left, or_right, or_cases, false≢true, bytes_decides, In, In-left, In-right, In-append, In-get, ◌||◌, None, not, and_parts, false_from_ne_true, place_in}
+use Rattle.blif_flat.proofs.Common.{◌≡◌, ℕ, List, [], ◌∷◌, ◌++◌, Some, sym, ◌∙◌, subst, subst₂, Bool, true, false, cond, Option, refl, ap, inl, inr, ◌⊎◌, bytes_eq, slice_get, same_Some, none-some, option_and_then_some, both_ways, or_left, or_right, or_cases, false≢true, bytes_decides, In, In-left, In-right, In-append, In-get, ◌||◌, None, not, and_parts, false_from_ne_true, place_in, LibraryValue, SubcktValue, stop, placed-is, in_input}
 use Rattle.blif_flat.specs.{ModelValue, Body, Cover, Latch, Subckt, Command, model_named, Path, with_subckt, subckts_of, placed, model_at, has_name, Ends, ends, SubcktLine, subckt_lines, Walked, refused, walked, Walks, refuse, again, inside, onward, WalksMain, with_line, is_walked, Pair, is_input, inputs_of, ConnectionAt, IsDriven, FlatErr, line_fault}
-use Rattle.netlist.specs.LibraryValue.{LibraryValue}
-use Rattle.netlist.specs.SubcktValue.{SubcktValue}
-use Rattle.blif_flat.specs.Walk.{stop}
-use Rattle.netlist.proofs.PlaceLemmas.{placed-is}
 use Rattle.blif_flat.proofs.Models.LineLemmas.{IsPlaced, free_line, Connected, no_unknown_formal, no_open_input, no_line_fault}
-use Rattle.netlist.proofs.NameLemmas.{in_input}
 
 first_line : (lines : List SubcktLine) (l k : SubcktLine) (rest more : List SubcktLine) → lines ≡ l ∷ rest → lines ≡ k ∷ more → l ≡ k
 first_line lines l k rest more e f = cc

@@ -1,15 +1,10 @@
 -- A model has one weight, which exists where those of the placed models do, and sums of capped weights are as good as sums of weights.
-use Rattle.blif_flat.proofs.Common.{◌≡◌, ℕ, List, Some, sym, ap, ◌∙◌, arith, zero, suc, ◌+◌, ◌<◌, ◌≤◌, Bool, true, false, cond, ltb, eqb, [], ◌∷◌, ◌++◌, length, get_or, take, set, None, refl, subst, inl, inr, ◌⊎◌, bytes_eq, Result, Ok, Err, MatchResult, same_Some, none-some, get_or_from_slice_get, slice_get-get_or, slice_get_within, get_or-set_same, get_or-set_other, cases_Bool, both_ways, eq-eqb, eqb-true, In, get_pushed, slice_get, find_at}
-use Rattle.netlist.specs.SubcktValue.{SubcktValue}
-use Rattle.blif_flat.specs.{ModelValue, Body, Cover, Latch, Subckt, Command, subckts_of, model_named, with_subckt, own_weight, Weighs, weighs, WeighAll, most_weight, place_of, OrMemory, FlatErr, TooLarge, refusal_of, model_names, HasWeight, capped, kept_at, body_kept, commands_kept, model_kept, IsAmong, IsBehind, AreChildrenFirst, IsKeptWeight}
-use Rattle.netlist.specs.LibraryValue.{LibraryValue}
+use Rattle.blif_flat.proofs.Common.{◌≡◌, ℕ, List, Some, sym, ap, ◌∙◌, arith, zero, suc, ◌+◌, ◌<◌, ◌≤◌, Bool, true, false, cond, ltb, eqb, [], ◌∷◌, ◌++◌, length, get_or, take, set, None, refl, subst, inl, inr, ◌⊎◌, bytes_eq, Result, Ok, Err, MatchResult, same_Some, none-some, get_or_from_slice_get, slice_get-get_or, slice_get_within, get_or-set_same, get_or-set_other, cases_Bool, both_ways, eq-eqb, eqb-true, In, get_pushed, slice_get, find_at, SubcktValue, ModelValue, Body, Cover, Latch, Subckt, Command, subckts_of, model_named, with_subckt, own_weight, Weighs, weighs, WeighAll, most_weight, place_of, OrMemory, FlatErr, TooLarge, refusal_of, model_names, HasWeight, capped, kept_at, body_kept, commands_kept, model_kept, IsAmong, IsBehind, AreChildrenFirst, IsKeptWeight, LibraryValue, position, position_or_len, find, not_empty, same_first, same_rest}
 use Rattle.std.proofs.Common.{length-set}
 use Rattle.std.proofs.Math.Seq.{take-append_seam}
-use Rattle.std.specs.List.{position, position_or_len, find}
 use Rattle.tl_text.proofs.NameLemmas.{position-map}
 use Rattle.netlist.specs.Weight.{none, more}
 use Rattle.blif_flat.proofs.Hierarchy.InstanceLemmas.{subckt_more}
-use Rattle.netlist.proofs.NameLemmas.{not_empty, same_first, same_rest}
 
 same_child : (library : LibraryValue) (s t : SubcktValue) (a b : ModelValue) → s ≡ t → model_named library.models s.model ≡ Some a → model_named library.models t.model ≡ Some b → a ≡ b
 same_child library s t a b e p q = same_Some a b (sym p ∙ ap (λ (r : SubcktValue). model_named library.models r.model) e ∙ q)

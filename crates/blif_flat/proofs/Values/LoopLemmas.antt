@@ -1,13 +1,7 @@
 -- Loops of covers: none depends on itself exactly where the walk meets none again, and then they have an order in which each comes after those that it reads.
-use Rattle.blif_flat.proofs.Common.{◌≡◌, ℕ, List, [], ◌∷◌, Option, Some, None, refl, sym, ap, ◌∙◌, subst, inl, inr, ◌⊎◌, ◌++◌, In}
-use Rattle.netlist.specs.CoverValue.{CoverValue}
-use Rattle.netlist.specs.LibraryValue.{LibraryValue}
-use Rattle.blif_flat.specs.{ModelValue, Path, model_at, CoverAt, Net, input_net, latch_net, cover_net, Place, is_latch, FlatOrder, IsDriven, AreNets, with_cover, covers_among, reads_in, reads_of, ReadsCover, Depends, direct, through, LoopWalk, IsWellFormed, Clocks, is_gate, ClockData, IsSound, IsClocked}
+use Rattle.blif_flat.proofs.Common.{◌≡◌, ℕ, List, [], ◌∷◌, Option, Some, None, refl, sym, ap, ◌∙◌, subst, inl, inr, ◌⊎◌, ◌++◌, In, CoverValue, LibraryValue, ModelValue, Path, model_at, CoverAt, Net, input_net, latch_net, cover_net, Place, is_latch, FlatOrder, IsDriven, AreNets, with_cover, covers_among, reads_in, reads_of, ReadsCover, Depends, direct, through, LoopWalk, IsWellFormed, Clocks, is_gate, ClockData, IsSound, IsClocked, cover_at-is, Reaches, at_once, further, acyclic, HasCover, walk_ordered}
 use Rattle.blif_flat.proofs.Clocking.ControlLemmas.{clocks-input, clocks-one, data-output, data-clock}
-use Rattle.netlist.proofs.PlaceLemmas.{cover_at-is}
 use Rattle.blif_flat.proofs.Models.DrivenLemmas.{walked_driven}
-use Rattle.netlist.proofs.PostLemmas.{Reaches, at_once, further, acyclic}
-use Rattle.netlist.proofs.LoopLemmas.{HasCover, walk_ordered}
 use Rattle.netlist.proofs.LawLemmas.{in_rest}
 
 module _ (library : LibraryValue) (net : Path → List ℕ → Option Net) (nets : AreNets library net) where

@@ -1,9 +1,5 @@
 -- A worked example of the definitions: a main model that places an inverter.
-use Rattle.blif_flat.proofs.Common.{◌≡◌, ℕ, Bool, true, List, [], ◌∷◌, codes, Some, None, refl, sym, ap, ◌∙◌, inl, inr}
-use Rattle.blif_flat.specs.{Zero, Cover, Subckt, Pair, cover_value, ModelValue, Path, CoverAt, ConnectionAt, cover_net, Drives, cover_output, from_inside, UnknownModel, RecursiveModel, UnknownFormal, Unconnected, DoublyDriven, Undriven, Fits, SubcktLine, line_fault, Weighs, model_fault}
-use Rattle.netlist.specs.CoverValue.{CoverValue}
-use Rattle.netlist.specs.SubcktValue.{SubcktValue}
-use Rattle.netlist.specs.LibraryValue.{LibraryValue}
+use Rattle.blif_flat.proofs.Common.{◌≡◌, ℕ, Bool, true, List, [], ◌∷◌, codes, Some, None, refl, sym, ap, ◌∙◌, inl, inr, Zero, Cover, Subckt, Pair, cover_value, ModelValue, Path, CoverAt, ConnectionAt, cover_net, Drives, cover_output, from_inside, UnknownModel, RecursiveModel, UnknownFormal, Unconnected, DoublyDriven, Undriven, Fits, SubcktLine, line_fault, Weighs, model_fault, CoverValue, SubcktValue, LibraryValue}
 use Rattle.netlist.specs.Weight as weight
 
 -- .model top / .inputs a / .outputs y / .subckt inv i=a o=y / .model inv / .inputs i / .outputs o / .names i o / 0 1

@@ -1,9 +1,5 @@
 -- A worked example of loops: two covers that read each other through two instances.
-use Rattle.netlist.proofs.Common.{ℕ, true, List, [], ◌∷◌, codes, refl, inl, inr}
-use Rattle.netlist.specs.{Cover, Subckt, Pair, ModelValue, CoverAt, ConnectionAt, cover_output, from_inside, from_outside, Place, ReadsCover, Depends, direct, through, IsSound}
-use Rattle.netlist.specs.CoverValue.{CoverValue}
-use Rattle.netlist.specs.SubcktValue.{SubcktValue}
-use Rattle.netlist.specs.LibraryValue.{LibraryValue}
+use Rattle.netlist.proofs.Common.{ℕ, true, List, [], ◌∷◌, codes, refl, inl, inr, Cover, Subckt, Pair, ModelValue, CoverAt, ConnectionAt, cover_output, from_inside, from_outside, Place, ReadsCover, Depends, direct, through, IsSound, CoverValue, SubcktValue, LibraryValue}
 use Rattle.netlist.specs.declared.cell.Cell.TheVariants.{One}
 
 -- .model top / .inputs a / .outputs y / .subckt g i=a f=y o=x / .subckt g i=a f=x o=y / .model g / .inputs i f / .outputs o / .names i f o / 11 1

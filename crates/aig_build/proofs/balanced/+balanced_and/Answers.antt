@@ -1,10 +1,4 @@
-use Rattle.std.proofs.Common.{◌≡◌, ◌≤◌, ◌∙◌, ap, arith, drop, length, List, refl, rules, take}
-use Rattle.std.proofs.lemmas.List.Elements.{All-drop}
-use Rattle.aig_core.specs.declared.lit.Lit.{Lit}
-use Rattle.aig_core.specs.Aig.{Aig, first_and}
-use Rattle.aig_core.specs.And.{and_of, Answer, with_pairs}
-use Rattle.aig_build.specs.Balanced.{back_half, front_half}
-use Rattle.aig_build.specs.BalancedMade.{balanced_and}
+use Rattle.aig_build.proofs.Common.{◌≡◌, ◌≤◌, ◌∙◌, ap, arith, drop, length, List, refl, rules, take, All-drop, Lit, Aig, first_and, and_of, Answer, with_pairs, back_half, front_half, balanced_and}
 use Rattle.aig_build.proofs.BalancedLemmas.{and_of-halves, AreBelow, AreBelow-more, balanced-grows, balanced_and-back_length, balanced_and-front_length, full_weaker, Halves, Halves-split, IsBelow, IsLit-more, max-halves, with_pairs-halves}
 use Rattle.aig_build.proofs.balanced.+balanced_and.Goals as goal
 

@@ -1,16 +1,5 @@
-use Rattle.std.proofs.Common.{◌≡◌, ◌≤◌, List, Some, length, refl, rules, sym, ap, ◌∙◌, subst, arith}
-use Rattle.std.specs.Prelude.{slice_get}
+use Rattle.aig_build.proofs.Common.{◌≡◌, ◌≤◌, List, Some, length, refl, rules, sym, ap, ◌∙◌, subst, arith, slice_get, length-map, In, Net, FlatCoverValue, FlatValue, Lit, Aig, IsLit, first_and, Answer, with_pairs, cover_of, NetLitsValue, net_lit, net_lits, with_cover, gate_of, HoldsNets}
 use Rattle.std.specs.List.{All}
-use Rattle.std.proofs.lemmas.List.{length-map}
-use Rattle.list_laws.specs.Members.{In}
-use Rattle.netlist.specs.declared.flat.Net.{Net}
-use Rattle.netlist.specs.FlatCoverValue.{FlatCoverValue}
-use Rattle.netlist.specs.FlatValue.{FlatValue}
-use Rattle.aig_core.specs.declared.lit.Lit.{Lit}
-use Rattle.aig_core.specs.Aig.{Aig, IsLit, first_and}
-use Rattle.aig_core.specs.And.{Answer, with_pairs}
-use Rattle.aig_build.specs.CoverMade.{cover_of}
-use Rattle.aig_build.specs.Walked.{NetLitsValue, net_lit, net_lits, with_cover, gate_of, HoldsNets}
 use Rattle.aig_build.proofs.BalancedLemmas.{full_weaker}
 use Rattle.aig_build.proofs.CoverLemmas.{cover_made-grows}
 use Rattle.aig_build.proofs.NetValueLemmas.{behind_width}

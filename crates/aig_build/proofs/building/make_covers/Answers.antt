@@ -1,9 +1,4 @@
-use Rattle.std.proofs.Common.{◌≡◌, ◌≤◌, ℕ, List, length, drop, get_or, ap, ◌∙◌, subst, rules}
-use Rattle.list_laws.specs.Members.{In}
-use Rattle.list_laws.proofs.Members.{In-get_or}
-use Rattle.netlist.specs.FlatValue.{FlatValue}
-use Rattle.aig_core.specs.Aig.{Aig}
-use Rattle.aig_build.specs.Walked.{NetLitsValue, Built, gate_of, order_of}
+use Rattle.aig_build.proofs.Common.{◌≡◌, ◌≤◌, ℕ, List, length, drop, get_or, ap, ◌∙◌, subst, rules, In, In-get_or, FlatValue, Aig, NetLitsValue, Built, gate_of, order_of}
 use Rattle.aig_build.proofs.BalancedLemmas.{full_weaker}
 use Rattle.aig_build.proofs.HoldLemmas.{order_gate_length}
 use Rattle.aig_build.proofs.building.make_covers.Goals as goal

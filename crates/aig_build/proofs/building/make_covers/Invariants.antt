@@ -1,6 +1,4 @@
-use Rattle.std.proofs.Common.{◌≡◌, drop}
-use Rattle.aig_core.specs.And.{with_pairs}
-use Rattle.aig_build.specs.Walked.{order_of, HoldsNets}
+use Rattle.aig_build.proofs.Common.{◌≡◌, drop, with_pairs, order_of, HoldsNets}
 use Rattle.aig_build.proofs.building.make_covers.Given as goal
 
 abbrev pub invariant-loop-k : goal.invariant-loop-k

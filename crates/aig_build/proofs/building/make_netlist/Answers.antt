@@ -1,12 +1,5 @@
-use Rattle.std.proofs.Common.{◌≡◌, ◌<◌, List, Err, length, ap, ap₂, ◌∙◌, sym, subst, subst₂, rules}
-use Rattle.netlist.specs.FlatValue.{FlatValue}
-use Rattle.param_list.specs.declared.params.Param.{Param}
+use Rattle.aig_build.proofs.Common.{◌≡◌, ◌<◌, List, Err, length, ap, ap₂, ◌∙◌, sym, subst, subst₂, rules, FlatValue, Param, Aig, with_pairs, RootsValue, roots_of, AreRoots, MOST_NODES, NetLitsValue, Built, start_nets, source_aig, order_of, root_lits, HoldsNets}
 use Rattle.aig_core.specs.declared.graph.AigErr.TheVariants.{Full}
-use Rattle.aig_core.specs.Aig.{Aig}
-use Rattle.aig_core.specs.And.{with_pairs}
-use Rattle.aig_core.specs.Roots.{RootsValue, roots_of, AreRoots}
-use Rattle.aig_build.specs.declared.TheConstants.{MOST_NODES}
-use Rattle.aig_build.specs.Walked.{NetLitsValue, Built, start_nets, source_aig, order_of, root_lits, HoldsNets}
 use Rattle.aig_build.proofs.HoldLemmas.{held}
 use Rattle.aig_build.proofs.NetlistLemmas.{output_there, latch_there, are_roots, start_holds, too_many, is_graph, has_cycles}
 use Rattle.aig_build.proofs.building.make_netlist.Goals as goal

@@ -1,6 +1,4 @@
-use Rattle.std.proofs.Common.{◌≡◌, ◌++◌, drop, map}
-use Rattle.netlist.specs.declared.flat.FlatLatch.{FlatLatch}
-use Rattle.aig_build.specs.Walked.{net_lit}
+use Rattle.aig_build.proofs.Common.{◌≡◌, ◌++◌, drop, map, FlatLatch, net_lit}
 use Rattle.aig_build.proofs.building.next_lits.Given as goal
 
 abbrev pub invariant-loop-latch : goal.invariant-loop-latch

@@ -1,6 +1,4 @@
-use Rattle.std.proofs.Common.{◌≡◌, ◌++◌, drop, map}
-use Rattle.netlist.specs.declared.flat.OutPort.{OutPort}
-use Rattle.aig_build.specs.Walked.{net_lit}
+use Rattle.aig_build.proofs.Common.{◌≡◌, ◌++◌, drop, map, OutPort, net_lit}
 use Rattle.aig_build.proofs.building.output_lits.Given as goal
 
 abbrev pub invariant-loop-port : goal.invariant-loop-port

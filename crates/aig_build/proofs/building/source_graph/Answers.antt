@@ -1,13 +1,5 @@
-use Rattle.std.proofs.Common.{◌≡◌, ◌+◌, ◌-◌, ◌≤◌, ℕ, List, [], ◌++◌, IfOk, length, replicate, vec_len, ap, ◌∙◌, subst, arith}
+use Rattle.aig_build.proofs.Common.{◌≡◌, ◌+◌, ◌-◌, ◌≤◌, ℕ, List, [], ◌++◌, IfOk, length, replicate, vec_len, ap, ◌∙◌, subst, arith, FlatValue, Param, ParamsValue, param_names, regular_names, Kind, Regular, Parameter, MOST_NODES, input_names, source_kinds, NetLitsValue}
 use Rattle.std.proofs.lemmas.List.{length-map, length-append, length-replicate}
-use Rattle.netlist.specs.FlatValue.{FlatValue}
-use Rattle.param_list.specs.declared.params.Param.{Param}
-use Rattle.param_list.specs.Parameters.{ParamsValue, param_names, regular_names}
-use Rattle.aig_core.specs.declared.lit.Kind.{Kind}
-use Rattle.aig_core.specs.declared.lit.Kind.TheVariants.{Regular, Parameter}
-use Rattle.aig_build.specs.declared.TheConstants.{MOST_NODES}
-use Rattle.aig_build.specs.NetlistGraph.{input_names, source_kinds}
-use Rattle.aig_build.specs.Walked.{NetLitsValue}
 use Rattle.aig_build.proofs.SourceLemmas.{start_latches, few_regular}
 use Rattle.aig_build.proofs.building.source_graph.Goals as goal
 

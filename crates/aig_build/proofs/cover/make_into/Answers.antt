@@ -1,9 +1,4 @@
-use Rattle.std.proofs.Common.{◌≤◌, length, refl, rules}
-use Rattle.aig_core.specs.Aig.{Aig, first_and}
-use Rattle.aig_build.specs.BalancedMade.{balanced_and}
-use Rattle.aig_build.specs.CoverGraph.{Literals}
-use Rattle.aig_build.specs.CoverMade.{rows_made}
-use Rattle.aig_core.proofs.GrowthLemmas.{length-Extends}
+use Rattle.aig_build.proofs.Common.{◌≤◌, length, refl, rules, Aig, first_and, balanced_and, Literals, rows_made, length-Extends}
 use Rattle.aig_build.proofs.BalancedLemmas.{balanced-grows, full_weaker}
 use Rattle.aig_build.proofs.cover.make_into.Goals as goal
 

@@ -1,12 +1,4 @@
-use Rattle.std.proofs.Common.{◌≡◌, ◌≤◌, ◌∙◌, ap, drop, length, rules, subst, List}
-use Rattle.netlist.specs.CoverValue.{RowValue}
-use Rattle.aig_core.specs.declared.lit.Lit.{Lit}
-use Rattle.aig_core.specs.Aig.{Aig, first_and}
-use Rattle.aig_core.specs.And.{Answer, with_pairs}
-use Rattle.aig_core.proofs.GrowthLemmas.{Extends}
-use Rattle.aig_build.specs.CoverGraph.{Literals}
-use Rattle.aig_build.specs.CoverMade.{row_made, rows_made}
-use Rattle.aig_build.specs.RowsOnto.{rows_onto}
+use Rattle.aig_build.proofs.Common.{◌≡◌, ◌≤◌, ◌∙◌, ap, drop, length, rules, subst, List, RowValue, Lit, Aig, first_and, Answer, with_pairs, Extends, Literals, row_made, rows_made, rows_onto}
 use Rattle.aig_build.proofs.BalancedLemmas.{full_weaker}
 use Rattle.aig_build.proofs.CoverLemmas.{rows_alone, rows_done, AreLits-more, AreLits-next, row_made-grows, rows_onto-next, rows_onto-row_length, with_pairs-again}
 use Rattle.aig_build.proofs.cover.make_rows.Goals as goal

@@ -1,8 +1,4 @@
-use Rattle.std.proofs.Common.{◌≡◌, [], drop, All}
-use Rattle.aig_core.specs.declared.lit.Lit.{Lit}
-use Rattle.aig_core.specs.Aig.{IsLit, first_and}
-use Rattle.aig_core.specs.And.{with_pairs}
-use Rattle.aig_build.specs.RowsOnto.{rows_onto}
+use Rattle.aig_build.proofs.Common.{◌≡◌, [], drop, All, Lit, IsLit, first_and, with_pairs, rows_onto}
 use Rattle.aig_build.proofs.cover.make_rows.Given as goal
 
 abbrev pub invariant-loop-row : goal.invariant-loop-row

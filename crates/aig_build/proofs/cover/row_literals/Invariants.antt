@@ -1,5 +1,4 @@
-use Rattle.std.proofs.Common.{◌≡◌, ◌++◌, drop}
-use Rattle.aig_build.specs.CoverGraph.{row_literals}
+use Rattle.aig_build.proofs.Common.{◌≡◌, ◌++◌, drop, row_literals}
 use Rattle.aig_build.proofs.cover.row_literals.Given as goal
 
 abbrev pub invariant-loop-i : goal.invariant-loop-i

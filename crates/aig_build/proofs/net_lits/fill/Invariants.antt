@@ -1,5 +1,4 @@
-use Rattle.std.proofs.Common.{◌≡◌, ◌++◌, drop}
-use Rattle.aig_build.specs.Walked.{net_lits}
+use Rattle.aig_build.proofs.Common.{◌≡◌, ◌++◌, drop, net_lits}
 use Rattle.aig_build.proofs.net_lits.fill.Given as goal
 
 abbrev pub invariant-loop-net : goal.invariant-loop-net

@@ -1,6 +1,4 @@
-use Rattle.std.proofs.Common.{◌≡◌, ◌<◌, length, vec_len, arith}
-use Rattle.list_laws.proofs.Items.{member_at}
-use Rattle.param_list.specs.declared.params.Param.{Param}
+use Rattle.aig_build.proofs.Common.{◌≡◌, ◌<◌, length, vec_len, arith, member_at, Param}
 use Rattle.aig_build.proofs.net_lits.marks.Goals as goal
 
 pub index_mut-requires : goal.index_mut-requires

@@ -1,5 +1,4 @@
-use Rattle.std.proofs.Common.{◌≡◌, drop, false, length, replicate}
-use Rattle.aig_build.specs.Walked.{marked}
+use Rattle.aig_build.proofs.Common.{◌≡◌, drop, false, length, replicate, marked}
 use Rattle.aig_build.proofs.net_lits.marks.Given as goal
 
 abbrev pub invariant-loop-param : goal.invariant-loop-param

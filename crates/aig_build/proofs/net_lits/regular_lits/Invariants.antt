@@ -1,5 +1,4 @@
-use Rattle.std.proofs.Common.{◌≡◌, ◌+◌, ◌≤◌, ◌++◌, drop}
-use Rattle.aig_build.specs.Walked.{regular_lits, regular_next}
+use Rattle.aig_build.proofs.Common.{◌≡◌, ◌+◌, ◌≤◌, ◌++◌, drop, regular_lits, regular_next}
 use Rattle.aig_build.proofs.net_lits.regular_lits.Given as goal
 
 abbrev pub invariant-loop-mark : goal.invariant-loop-mark

@@ -1,6 +1,4 @@
-use Rattle.std.proofs.Common.{◌<◌, length, arith}
-use Rattle.list_laws.proofs.Items.{member_at}
-use Rattle.param_list.specs.declared.params.Param.{Param}
+use Rattle.aig_build.proofs.Common.{◌<◌, length, arith, member_at, Param}
 use Rattle.aig_build.proofs.net_lits.set_param_lits.Goals as goal
 
 pub bounds-lits-param : goal.bounds-lits-param

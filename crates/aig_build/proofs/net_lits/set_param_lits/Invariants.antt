@@ -1,5 +1,4 @@
-use Rattle.std.proofs.Common.{◌≡◌, ◌+◌, drop, length}
-use Rattle.aig_build.specs.Walked.{with_param_lits}
+use Rattle.aig_build.proofs.Common.{◌≡◌, ◌+◌, drop, length, with_param_lits}
 use Rattle.aig_build.proofs.net_lits.set_param_lits.Given as goal
 
 abbrev pub invariant-loop-param : goal.invariant-loop-param

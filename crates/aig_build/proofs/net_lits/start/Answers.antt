@@ -1,10 +1,4 @@
-use Rattle.std.proofs.Common.{◌≡◌, ◌+◌, ◌<◌, ◌≤◌, List, length, replicate, false, ap, ◌∙◌, subst, arith}
-use Rattle.std.proofs.lemmas.List.{length-replicate}
-use Rattle.list_laws.specs.Members.{In}
-use Rattle.netlist.specs.FlatValue.{FlatValue}
-use Rattle.param_list.specs.declared.params.Param.{Param}
-use Rattle.param_list.specs.Parameters.{ParamsValue}
-use Rattle.aig_build.specs.Walked.{regular_next}
+use Rattle.aig_build.proofs.Common.{◌≡◌, ◌+◌, ◌<◌, ◌≤◌, List, length, replicate, false, ap, ◌∙◌, subst, arith, length-replicate, In, FlatValue, Param, ParamsValue, regular_next}
 use Rattle.aig_build.proofs.SourceLemmas.{length-marked, length-regular, regular_next-le}
 use Rattle.aig_build.proofs.net_lits.start.Goals as goal
 

@@ -1,7 +1,4 @@
-use Rattle.std.proofs.Common.{◌∙◌, ◌++◌, [], ◌∷◌}
-use Rattle.std.proofs.lemmas.Bool.{cond-false}
-use Rattle.aig_core.specs.And.{is_pair}
-use Rattle.list_laws.proofs.FirstPlace.{list_any-position_none}
+use Rattle.aig_core.proofs.Common.{◌∙◌, ◌++◌, [], ◌∷◌, cond-false, is_pair, list_any-position_none}
 use Rattle.aig_core.proofs.graph.push_new.Goals as goal
 
 pub returns-clause-keys : goal.returns-clause-keys

@@ -1,7 +1,6 @@
-use Rattle.bit_fun.proofs.Common.{◌≡◌, ◌∙◌, ◌<◌, ◌≤◌, ℕ, List, length, subst, sym, ap, arith, In, node_count}
+use Rattle.bit_fun.proofs.Common.{◌≡◌, ◌∙◌, ◌<◌, ◌≤◌, ℕ, List, length, subst, sym, ap, arith, In, node_count, with_leaves, AreLits}
 use Rattle.cut_enum.specs.declared.limits.TheConstants.{MOST_LEAVES}
 use Rattle.list_laws.proofs.Reversed.{in_reversed}
-use Rattle.bit_fun.specs.ConeFunctions.{with_leaves, AreLits}
 use Rattle.bit_fun.proofs.ConeFunctionLemmas.{lits_stay}
 use Rattle.bit_fun.proofs.BitMadeLemmas.{leaf_inside, bit_made}
 use Rattle.bit_fun.proofs.cone_functions.make_bit.Goals as goal

@@ -1,5 +1,4 @@
-use Rattle.bit_fun.proofs.Common.{take, reverse}
-use Rattle.bit_fun.specs.ConeFunctions.{IsMadeOver}
+use Rattle.bit_fun.proofs.Common.{take, reverse, IsMadeOver}
 use Rattle.bit_fun.proofs.cone_functions.make_nodes.Given as goal
 
 abbrev pub invariant-loop-n : goal.invariant-loop-n

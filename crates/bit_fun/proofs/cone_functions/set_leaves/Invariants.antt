@@ -1,5 +1,4 @@
-use Rattle.bit_fun.proofs.Common.{◌≡◌, drop}
-use Rattle.bit_fun.specs.ConeFunctions.{with_leaves}
+use Rattle.bit_fun.proofs.Common.{◌≡◌, drop, with_leaves}
 use Rattle.bit_fun.proofs.cone_functions.set_leaves.Given as goal
 
 abbrev pub invariant-loop-leaf : goal.invariant-loop-leaf

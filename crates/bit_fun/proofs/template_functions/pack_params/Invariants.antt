@@ -1,5 +1,4 @@
-use Rattle.bit_fun.proofs.Common.{◌≡◌, map, take}
-use Rattle.bit_fun.specs.PackOf.{pack_param}
+use Rattle.bit_fun.proofs.Common.{◌≡◌, map, take, pack_param}
 use Rattle.bit_fun.proofs.template_functions.pack_params.Given as goal
 
 abbrev pub invariant-loop-param : goal.invariant-loop-param

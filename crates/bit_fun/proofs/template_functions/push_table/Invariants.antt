@@ -1,5 +1,4 @@
-use Rattle.bit_fun.proofs.Common.{reverse}
-use Rattle.bit_fun.specs.ConeFunctions.{AreBitsMade}
+use Rattle.bit_fun.proofs.Common.{reverse, AreBitsMade}
 use Rattle.bit_fun.proofs.template_functions.push_table.Given as goal
 
 abbrev pub invariant-loop-v : goal.invariant-loop-v

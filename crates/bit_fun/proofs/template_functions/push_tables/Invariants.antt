@@ -1,5 +1,4 @@
-use Rattle.bit_fun.proofs.Common.{◌≡◌, drop, node_count}
-use Rattle.bit_fun.specs.ConeFunctions.{AreTablesMadeTo}
+use Rattle.bit_fun.proofs.Common.{◌≡◌, drop, node_count, AreTablesMadeTo}
 use Rattle.bit_fun.proofs.template_functions.push_tables.Given as goal
 
 abbrev pub invariant-loop-table : goal.invariant-loop-table

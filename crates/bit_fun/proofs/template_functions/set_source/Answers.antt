@@ -1,5 +1,4 @@
-use Rattle.bit_fun.proofs.Common.{◌≡◌, ◌∙◌, ◌≤◌, ap, take, Some, arith}
-use Rattle.bit_fun.specs.Parameters.{param_count}
+use Rattle.bit_fun.proofs.Common.{◌≡◌, ◌∙◌, ◌≤◌, ap, take, Some, arith, param_count}
 use Rattle.bit_fun.proofs.SourceLitLemmas.{count_within, regular_source, parameter_source}
 use Rattle.bit_fun.proofs.template_functions.set_source.Goals as goal
 

@@ -1,10 +1,6 @@
-use Rattle.std.proofs.Common.{List, sym, ap, ◌∙◌, slice_get, option_map}
-use Rattle.std.proofs.lemmas.Option.{same_Some, slice_get-map}
-use Rattle.tl_fault.proofs.PassedOn.{passed_on}
+use Rattle.blif_flat.proofs.Common.{List, sym, ap, ◌∙◌, slice_get, option_map, same_Some, slice_get-map, passed_on, flat_evaluates, flat_cycles, LibraryValue}
 use Rattle.blif_flat.proofs.Faults.FaultOnceLemmas.{loop_refused, all_sound, none_stands}
 use Rattle.blif_flat.proofs.Fields.AssembleLemmas.{flat_bounds}
-use Rattle.netlist.proofs.EvaluateLemmas.{flat_evaluates, flat_cycles}
-use Rattle.netlist.specs.LibraryValue.{LibraryValue}
 use Rattle.blif_flat.specs.Bodies.NameSets.{ports_value}
 use Rattle.blif_flat.specs.declared.model.ports.Ports.{Ports}
 use Rattle.blif_flat.proofs.call.flatten.Goals as goal

@@ -1,6 +1,4 @@
-use Rattle.blif_write.proofs.Common.{◌∷◌, ap, arith, ◌∙◌, flat_map, take_all, Lut, codes, added_as, added_none, added_part}
-use Rattle.blif_write.specs.PlainNetlist.{line_text}
-use Rattle.blif_write.specs.Netlists.{bit_names}
+use Rattle.blif_write.proofs.Common.{◌∷◌, ap, arith, ◌∙◌, flat_map, take_all, Lut, codes, added_as, added_none, added_part, line_text, bit_names}
 use Rattle.blif_write.proofs.TableLemmas.{input_lines}
 use Rattle.blif_write.proofs.tables.add_bit_lines.Goals as goal
 

@@ -1,6 +1,4 @@
-use Rattle.blif_write.proofs.Common.{◌∷◌, take, flat_map, IsAdded, codes}
-use Rattle.blif_write.specs.PlainNetlist.{line_text}
-use Rattle.blif_write.specs.Netlists.{bit_names}
+use Rattle.blif_write.proofs.Common.{◌∷◌, take, flat_map, IsAdded, codes, line_text, bit_names}
 use Rattle.blif_write.proofs.tables.add_bit_lines.Given as goal
 
 abbrev pub invariant-loop-table : goal.invariant-loop-table

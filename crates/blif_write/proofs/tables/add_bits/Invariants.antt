@@ -1,5 +1,4 @@
-use Rattle.blif_write.proofs.Common.{◌-◌, ◌∷◌, flat_map, range_with_len, IsAdded}
-use Rattle.blif_write.specs.OwnNames.{bit_name}
+use Rattle.blif_write.proofs.Common.{◌-◌, ◌∷◌, flat_map, range_with_len, IsAdded, bit_name}
 use Rattle.blif_write.proofs.tables.add_bits.Given as goal
 
 abbrev pub invariant-loop-address : goal.invariant-loop-address

@@ -1,6 +1,4 @@
-use Rattle.blif_write.proofs.Common.{ap, arith, ◌∙◌, flat_map, take_all, Lut, added_as, added_none, added_part}
-use Rattle.blif_write.specs.PlainNetlist.{line_text, cover_lines}
-use Rattle.blif_write.specs.Netlists.{fixed_table}
+use Rattle.blif_write.proofs.Common.{ap, arith, ◌∙◌, flat_map, take_all, Lut, added_as, added_none, added_part, line_text, cover_lines, fixed_table}
 use Rattle.blif_write.proofs.TableLemmas.{tables_text}
 use Rattle.blif_write.proofs.tables.add_fixed_tables.Goals as goal
 

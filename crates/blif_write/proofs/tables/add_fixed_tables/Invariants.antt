@@ -1,6 +1,4 @@
-use Rattle.blif_write.proofs.Common.{take, flat_map, IsAdded}
-use Rattle.blif_write.specs.PlainNetlist.{line_text, cover_lines}
-use Rattle.blif_write.specs.Netlists.{fixed_table}
+use Rattle.blif_write.proofs.Common.{take, flat_map, IsAdded, line_text, cover_lines, fixed_table}
 use Rattle.blif_write.proofs.tables.add_fixed_tables.Given as goal
 
 abbrev pub invariant-loop-table : goal.invariant-loop-table

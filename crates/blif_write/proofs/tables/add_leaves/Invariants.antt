@@ -1,5 +1,4 @@
-use Rattle.blif_write.proofs.Common.{◌*◌, ◌∷◌, take, flat_map, IsAdded}
-use Rattle.blif_write.specs.OwnNames.{literal_name}
+use Rattle.blif_write.proofs.Common.{◌*◌, ◌∷◌, take, flat_map, IsAdded, literal_name}
 use Rattle.blif_write.proofs.tables.add_leaves.Given as goal
 
 abbrev pub invariant-loop-leaf : goal.invariant-loop-leaf

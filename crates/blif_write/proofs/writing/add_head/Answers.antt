@@ -1,5 +1,4 @@
-use Rattle.blif_write.proofs.Common.{added_as, added_twice}
-use Rattle.blif_write.specs.Netlists.{control_names}
+use Rattle.blif_write.proofs.Common.{added_as, added_twice, control_names}
 use Rattle.blif_write.proofs.TableLemmas.{head_text}
 use Rattle.blif_write.proofs.writing.add_head.Goals as goal
 

@@ -1,5 +1,4 @@
-use Rattle.std.proofs.Common.{List, ◌∷◌, [], ◌++◌, length, length-append, ap, ◌∙◌, arith}
-use Rattle.cert_check.specs.CertificateValue.{StepValue}
+use Rattle.cert_check.proofs.Common.{List, ◌∷◌, [], ◌++◌, length, length-append, ap, ◌∙◌, arith, StepValue}
 use Rattle.cert_check.proofs.LineLemmas.{path_pushed}
 use Rattle.cert_check.proofs.cert_lines.add_path.Goals as goal
 

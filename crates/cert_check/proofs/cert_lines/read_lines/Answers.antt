@@ -1,16 +1,4 @@
-use Rattle.std.proofs.Common.{◌≡◌, ◌-◌, false, List, length, map, take, drop, ◌∙◌, subst, sym}
-use Rattle.std.proofs.lemmas.List.{take_rest, take-append-drop}
-use Rattle.list_laws.specs.Members.{In}
-use Rattle.list_laws.proofs.Items.{member_at}
-use Rattle.list_laws.proofs.Members.{In-right}
-use Rattle.tl_fault.specs.OrMemory.{OrMemory}
-use Rattle.tl_fault.proofs.OrMemoryLemmas.{OrMemory-map}
-use Rattle.tl_text.specs.LineValue.{LineValue, WordsLine, words_line}
-use Rattle.cert_check.specs.CertText.{said_of, steps_said, fits_at, AreSaid, IsMalformed}
-use Rattle.cert_check.specs.Reading.{IsMisfit}
-use Rattle.cert_check.specs.Refusals.{refusal_of}
-use Rattle.cert_check.specs.declared.cert_err.CertErr.TheVariants.{Malformed}
-use Rattle.tl_fault.proofs.PassedOn.{passed_err}
+use Rattle.cert_check.proofs.Common.{◌≡◌, ◌-◌, false, List, length, map, take, drop, ◌∙◌, subst, sym, take_rest, take-append-drop, In, member_at, In-right, OrMemory, OrMemory-map, LineValue, WordsLine, words_line, said_of, steps_said, fits_at, AreSaid, IsMalformed, IsMisfit, refusal_of, Malformed, passed_err}
 use Rattle.cert_check.proofs.LineLemmas.{all_lines, first_wrong, later_wrong, some_lines}
 use Rattle.cert_check.proofs.cert_lines.read_lines.Goals as goal
 

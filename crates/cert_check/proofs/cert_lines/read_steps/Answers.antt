@@ -1,14 +1,4 @@
-use Rattle.std.proofs.Common.{◌≡◌, ℕ, ◌+◌, false, List, [], ◌∷◌, ◌++◌, length, map, ap, ◌∙◌, Some, None, arith}
-use Rattle.std.proofs.lemmas.List.{length-map}
-use Rattle.list_laws.proofs.Items.{member_at}
-use Rattle.tl_fault.specs.OrMemory.{OrMemory}
-use Rattle.tl_fault.proofs.OrMemoryLemmas.{OrMemory-map}
-use Rattle.tl_text.specs.LineValue.{LineValue, WordsLine, words_line}
-use Rattle.cert_check.specs.CertText.{said_of, steps_said, fits_at}
-use Rattle.cert_check.specs.Reading.{saying_value, IsMisfit}
-use Rattle.cert_check.specs.Refusals.{refusal_of}
-use Rattle.cert_check.specs.declared.cert_err.CertErr.TheVariants.{Malformed}
-use Rattle.tl_fault.proofs.PassedOn.{passed_err}
+use Rattle.cert_check.proofs.Common.{◌≡◌, ℕ, ◌+◌, false, List, [], ◌∷◌, ◌++◌, length, map, ap, ◌∙◌, Some, None, arith, length-map, member_at, OrMemory, OrMemory-map, LineValue, WordsLine, words_line, said_of, steps_said, fits_at, saying_value, IsMisfit, refusal_of, Malformed, passed_err}
 use Rattle.cert_check.proofs.LineLemmas.{nothing_said, wrong_place, one_more, all_read, line_at}
 use Rattle.cert_check.proofs.cert_lines.read_steps.Goals as goal
 

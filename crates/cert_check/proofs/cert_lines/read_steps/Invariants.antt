@@ -1,5 +1,4 @@
-use Rattle.std.proofs.Common.{map}
-use Rattle.tl_text.specs.LineValue.{words_line}
+use Rattle.cert_check.proofs.Common.{map, words_line}
 use Rattle.cert_check.proofs.LineLemmas.{AreRead}
 use Rattle.cert_check.proofs.cert_lines.read_steps.Given as goal
 

@@ -1,11 +1,5 @@
-use Rattle.std.proofs.Common.{List, map, Ok, sym, ap, ◌∙◌}
-use Rattle.tl_fault.proofs.OrMemoryLemmas.{OrMemory-map}
-use Rattle.tl_fault.specs.OrMemory.{OrMemory}
-use Rattle.tl_text.specs.LineValue.{LineValue, words_line}
+use Rattle.cert_check.proofs.Common.{List, map, Ok, sym, ap, ◌∙◌, OrMemory-map, OrMemory, LineValue, words_line, cert_err, IsMalformed, IsCertTextFault, refusal_of, passed_err}
 use Rattle.tl_text.specs.TextOf.{IsLinesFault, by_lines, at_line}
-use Rattle.cert_check.specs.CertText.{cert_err, IsMalformed, IsCertTextFault}
-use Rattle.cert_check.specs.Refusals.{refusal_of}
-use Rattle.tl_fault.proofs.PassedOn.{passed_err}
 use Rattle.cert_check.proofs.FormedLemmas.{text_writable}
 use Rattle.cert_check.proofs.OnceLemmas.{one_reading}
 use Rattle.cert_check.proofs.cert_text.read_cert.Goals as goal

@@ -1,7 +1,4 @@
-use Rattle.std.proofs.Common.{refl}
-use Rattle.tl_text.proofs.TextOfLemmas.{lines_fault}
-use Rattle.cert_check.specs.CertText.{cert_err}
-use Rattle.cert_check.specs.Refusals.{refusal_of}
+use Rattle.cert_check.proofs.Common.{refl, lines_fault, cert_err, refusal_of}
 use Rattle.cert_check.proofs.cert_text.text_lines.Goals as goal
 
 pub returns-in-Err-clause-fault : goal.returns-in-Err-clause-fault

@@ -1,13 +1,4 @@
-use Rattle.std.proofs.Common.{◌≡◌, ℕ, [], List, get_or, ap, ◌∙◌, subst}
-use Rattle.aig_core.specs.Roots.{roots_of}
-use Rattle.tl_fault.specs.OrMemory.{OrMemory}
-use Rattle.tl_fault.proofs.OrMemoryLemmas.{OrMemory-map}
-use Rattle.cert_check.specs.CertificateValue.{StepValue, CertificateValue}
-use Rattle.cert_check.specs.Faults.{StepsFault, IsFault}
-use Rattle.cert_check.specs.InTurn.{AreInTurn}
-use Rattle.cert_check.specs.Refusals.{refusal_of}
-use Rattle.cert_check.specs.Valid.{claim_of, IsReached, IsValid}
-use Rattle.tl_fault.proofs.PassedOn.{passed_err}
+use Rattle.cert_check.proofs.Common.{◌≡◌, ℕ, [], List, get_or, ap, ◌∙◌, subst, roots_of, OrMemory, OrMemory-map, StepValue, CertificateValue, StepsFault, IsFault, AreInTurn, refusal_of, claim_of, IsReached, IsValid, passed_err}
 use Rattle.cert_check.proofs.InTurnLemmas.{turn_valid}
 use Rattle.cert_check.proofs.LeastLemmas.{valid_bound, valid_claims}
 use Rattle.cert_check.proofs.CheckLemmas.{one_verdict, fault_of_steps, fault_of_depth, reached_all, reached_back, passed_on_ok}

@@ -1,7 +1,4 @@
-use Rattle.std.proofs.Common.{◌≡◌, ℕ, List, get_or, sym, ap, ◌∙◌, subst, inl, inr}
-use Rattle.aig_core.specs.Roots.{RootsValue, lits_of}
-use Rattle.aig_core.specs.declared.lit.Lit.{Lit}
-use Rattle.cert_check.specs.Valid.{SomeNeeds}
+use Rattle.cert_check.proofs.Common.{◌≡◌, ℕ, List, get_or, sym, ap, ◌∙◌, subst, inl, inr, RootsValue, lits_of, Lit, SomeNeeds}
 use Rattle.cert_check.proofs.CheckLemmas.{some_left, some_right, neither}
 use Rattle.cert_check.proofs.checking.is_reached.Goals as goal
 

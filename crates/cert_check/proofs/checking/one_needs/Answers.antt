@@ -1,7 +1,4 @@
-use Rattle.std.proofs.Common.{ℕ, List, get_or, sym, ap, subst, inl, inr, arith}
-use Rattle.aig_core.specs.Roots.{lits_of}
-use Rattle.list_laws.proofs.Places.{drop_past}
-use Rattle.cert_check.specs.Valid.{SomeNeeds}
+use Rattle.cert_check.proofs.Common.{ℕ, List, get_or, sym, ap, subst, inl, inr, arith, lits_of, drop_past, SomeNeeds}
 use Rattle.cert_check.proofs.CheckLemmas.{lits_drop}
 use Rattle.cert_check.proofs.checking.one_needs.Goals as goal
 

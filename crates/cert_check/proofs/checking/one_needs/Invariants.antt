@@ -1,6 +1,4 @@
-use Rattle.std.proofs.Common.{ℕ, drop, get_or}
-use Rattle.aig_core.specs.Roots.{lits_of}
-use Rattle.cert_check.specs.Valid.{SomeNeeds}
+use Rattle.cert_check.proofs.Common.{ℕ, drop, get_or, lits_of, SomeNeeds}
 use Rattle.cert_check.proofs.FaultLemmas.{Same}
 use Rattle.cert_check.proofs.checking.one_needs.Given as goal
 

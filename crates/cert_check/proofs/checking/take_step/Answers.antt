@@ -1,9 +1,4 @@
-use Rattle.std.proofs.Common.{◌≡◌, ℕ, ◌<◌, List, get_or, ap, subst, inr, arith}
-use Rattle.aig_core.specs.Aig.{IsAnd}
-use Rattle.cert_check.specs.CertificateValue.{StepValue}
-use Rattle.cert_check.specs.Faults.{First, StepFault}
-use Rattle.cert_check.specs.declared.cert_err.CertErr.TheVariants.{BadClaim}
-use Rattle.tl_fault.proofs.PassedOn.{passed_err}
+use Rattle.cert_check.proofs.Common.{◌≡◌, ℕ, ◌<◌, List, get_or, ap, subst, inr, arith, IsAnd, StepValue, First, StepFault, BadClaim, passed_err}
 use Rattle.cert_check.proofs.checking.take_step.Goals as goal
 
 pub returns-in_err-check_step-clause-fault : goal.returns-in_err-check_step-clause-fault

@@ -1,10 +1,4 @@
-use Rattle.std.proofs.Common.{◌≡◌, [], ap, ◌∙◌}
-use Rattle.tl_fault.specs.OrMemory.{OrMemory}
-use Rattle.cert_check.specs.CertificateValue.{StepValue}
-use Rattle.cert_check.specs.Faults.{StepsFault}
-use Rattle.cert_check.specs.Refusals.{refusal_of}
-use Rattle.tl_fault.proofs.PassedOn.{passed_err}
-use Rattle.tl_fault.proofs.OrMemoryLemmas.{Unless-of}
+use Rattle.cert_check.proofs.Common.{◌≡◌, [], ap, ◌∙◌, OrMemory, StepValue, StepsFault, refusal_of, passed_err, Unless-of}
 use Rattle.cert_check.proofs.CheckLemmas.{no_steps, next_stops, next_taken, all_turn, all_claims, passed_ok, passed_on_ok}
 use Rattle.cert_check.proofs.checking.take_steps.Goals as goal
 

@@ -1,6 +1,4 @@
-use Rattle.std.proofs.Common.{sym}
-use Rattle.std.proofs.lemmas.Bool.{eqb-true}
-use Rattle.cert_check.specs.Paths.{first, second}
+use Rattle.cert_check.proofs.Common.{sym, eqb-true, first, second}
 use Rattle.cert_check.proofs.path_check.is_fan_in.Goals as goal
 
 pub returns-then-pair-m-clause-yes : goal.returns-then-pair-m-clause-yes

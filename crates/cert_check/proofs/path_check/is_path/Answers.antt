@@ -1,6 +1,4 @@
-use Rattle.std.proofs.Common.{◌≡◌, ◌+◌, ◌-◌, subst, arith, get_or, inl, inr}
-use Rattle.std.proofs.lemmas.Bool.{eqb-true, eqb-false, cases_lt}
-use Rattle.cert_check.specs.Paths.{IsFanIn}
+use Rattle.cert_check.proofs.Common.{◌≡◌, ◌+◌, ◌-◌, subst, arith, get_or, inl, inr, eqb-true, eqb-false, cases_lt, IsFanIn}
 use Rattle.cert_check.proofs.PathPlaces.{path_made, path_edge, path_end}
 use Rattle.cert_check.proofs.PathLemmas.{path_below}
 use Rattle.cert_check.proofs.path_check.is_path.Goals as goal

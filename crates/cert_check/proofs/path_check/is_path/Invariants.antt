@@ -1,7 +1,4 @@
-use Rattle.std.proofs.Common.{ℕ, ◌+◌, ◌<◌, get_or, length}
-use Rattle.aig_core.specs.Aig.{IsSource}
-use Rattle.aig_core.specs.declared.lit.Kind.TheVariants.{Regular}
-use Rattle.cert_check.specs.Paths.{IsFanIn}
+use Rattle.cert_check.proofs.Common.{ℕ, ◌+◌, ◌<◌, get_or, length, IsSource, Regular, IsFanIn}
 use Rattle.cert_check.proofs.path_check.is_path.Given as goal
 
 abbrev pub invariant-loop-i : goal.invariant-loop-i

@@ -1,7 +1,4 @@
-use Rattle.std.proofs.Common.{sym, ◌∙◌, ap, refl}
-use Rattle.std.proofs.lemmas.Option.{slice_get-get_or}
-use Rattle.list_laws.proofs.Members.{In-get}
-use Rattle.cert_check.specs.CertText.{number_of}
+use Rattle.cert_check.proofs.Common.{sym, ◌∙◌, ap, refl, slice_get-get_or, In-get, number_of}
 use Rattle.cert_check.proofs.ReadLemmas.{numbers_next, numbers_stop}
 use Rattle.cert_check.proofs.saying.read_numbers.Goals as goal
 

@@ -1,6 +1,4 @@
-use Rattle.std.proofs.Common.{◌≡◌, Some, map, take}
-use Rattle.tl_text.specs.LineValue.{token_bytes}
-use Rattle.cert_check.specs.CertText.{numbers_of}
+use Rattle.cert_check.proofs.Common.{◌≡◌, Some, map, take, token_bytes, numbers_of}
 use Rattle.cert_check.proofs.saying.read_numbers.Given as goal
 
 abbrev pub invariant-loop-token : goal.invariant-loop-token

@@ -1,9 +1,4 @@
-use Rattle.std.proofs.Common.{◌≡◌, List, take, drop, length, get_or, ap, ◌∙◌, subst, arith}
-use Rattle.std.proofs.lemmas.List.{take_rest, take-append-drop}
-use Rattle.list_laws.specs.Members.{In}
-use Rattle.list_laws.proofs.Members.{In-get_or, In-right}
-use Rattle.tl_text.specs.LineValue.{LineValue}
-use Rattle.tl_text.specs.declared.token.Token.{Token}
+use Rattle.cert_check.proofs.Common.{◌≡◌, List, take, drop, length, get_or, ap, ◌∙◌, subst, arith, take_rest, take-append-drop, In, In-get_or, In-right, LineValue, Token}
 use Rattle.cert_check.proofs.saying.read_saying.Goals as goal
 
 pub bytes-word-requires : goal.bytes-word-requires

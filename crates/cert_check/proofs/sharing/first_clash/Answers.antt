@@ -1,7 +1,4 @@
-use Rattle.std.proofs.Common.{ℕ, List, Some, None, get_or, refl, sym, subst, inl, inr, arith}
-use Rattle.list_laws.proofs.Members.{In-get_or}
-use Rattle.list_laws.proofs.Places.{drop_past}
-use Rattle.cert_check.specs.Stamps.{IsFirstClash}
+use Rattle.cert_check.proofs.Common.{ℕ, List, Some, None, get_or, refl, sym, subst, inl, inr, arith, In-get_or, drop_past, IsFirstClash}
 use Rattle.cert_check.proofs.StampLemmas.{drop_here}
 use Rattle.cert_check.proofs.sharing.first_clash.Goals as goal
 

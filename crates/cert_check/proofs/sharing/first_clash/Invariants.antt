@@ -1,5 +1,4 @@
-use Rattle.std.proofs.Common.{ℕ, Option, drop}
-use Rattle.cert_check.specs.Stamps.{IsFirstClash}
+use Rattle.cert_check.proofs.Common.{ℕ, Option, drop, IsFirstClash}
 use Rattle.cert_check.proofs.sharing.first_clash.Given as goal
 
 abbrev pub invariant-loop-m : goal.invariant-loop-m

@@ -1,5 +1,4 @@
-use Rattle.std.proofs.Common.{◌≡◌, length, arith}
-use Rattle.list_laws.proofs.Members.{In-get_or}
+use Rattle.cert_check.proofs.Common.{◌≡◌, length, arith, In-get_or}
 use Rattle.cert_check.proofs.StampLemmas.{stamped_more}
 use Rattle.cert_check.proofs.sharing.stamp.Goals as goal
 

@@ -1,5 +1,4 @@
-use Rattle.std.proofs.Common.{take}
-use Rattle.cert_check.specs.Stamps.{AreStamped}
+use Rattle.cert_check.proofs.Common.{take, AreStamped}
 use Rattle.cert_check.proofs.sharing.stamp.Given as goal
 
 abbrev pub invariant-loop-m : goal.invariant-loop-m

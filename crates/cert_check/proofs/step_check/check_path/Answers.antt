@@ -1,7 +1,4 @@
-use Rattle.std.proofs.Common.{◌≡◌, ℕ, ◌≤◌, List, length, ap, ◌∙◌, sym, subst, arith}
-use Rattle.list_laws.specs.Members.{In}
-use Rattle.cert_check.specs.CertificateValue.{PathValue, StepValue}
-use Rattle.cert_check.specs.Paths.{IsPath}
+use Rattle.cert_check.proofs.Common.{◌≡◌, ℕ, ◌≤◌, List, length, ap, ◌∙◌, sym, subst, arith, In, PathValue, StepValue, IsPath}
 use Rattle.cert_check.proofs.StampLemmas.{clash_as}
 use Rattle.cert_check.proofs.step_check.check_path.Goals as goal
 

@@ -1,8 +1,4 @@
-use Rattle.std.proofs.Common.{◌≡◌, ◌<◌, List, length, get_or, ap, ◌∙◌, subst, inr, arith}
-use Rattle.cert_check.specs.CertificateValue.{PathValue, StepValue}
-use Rattle.cert_check.specs.Faults.{StepFault}
-use Rattle.cert_check.specs.Valid.{path_count}
-use Rattle.tl_fault.proofs.PassedOn.{passed_err}
+use Rattle.cert_check.proofs.Common.{◌≡◌, ◌<◌, List, length, get_or, ap, ◌∙◌, subst, inr, arith, PathValue, StepValue, StepFault, path_count, passed_err}
 use Rattle.cert_check.proofs.StepLemmas.{next_stops, next_taken, all_taken}
 use Rattle.cert_check.proofs.step_check.check_step.Goals as goal
 

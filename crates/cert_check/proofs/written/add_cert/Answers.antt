@@ -1,7 +1,5 @@
-use Rattle.std.proofs.Common.{ap, ◌∙◌}
-use Rattle.cert_check.specs.CertificateValue.{CertificateValue}
+use Rattle.cert_check.proofs.Common.{ap, ◌∙◌, CertificateValue, added_as, added_twice}
 use Rattle.cert_check.proofs.WriteLemmas.{whole_text}
-use Rattle.tl_piece.proofs.AddedLemmas.{added_as, added_twice}
 use Rattle.cert_check.proofs.written.add_cert.Goals as goal
 
 pub returns : goal.returns

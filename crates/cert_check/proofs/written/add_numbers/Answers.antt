@@ -1,7 +1,4 @@
-use Rattle.std.proofs.Common.{arith}
-use Rattle.cert_check.specs.Writing.{number_text}
-use Rattle.tl_piece.proofs.PartLemmas.{added_part}
-use Rattle.tl_piece.proofs.AddedLemmas.{added_none}
+use Rattle.cert_check.proofs.Common.{arith, number_text, added_part, added_none}
 use Rattle.cert_check.proofs.written.add_numbers.Goals as goal
 
 pub loop-number-init : goal.loop-number-init

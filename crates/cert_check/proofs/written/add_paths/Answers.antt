@@ -1,7 +1,4 @@
-use Rattle.std.proofs.Common.{arith}
-use Rattle.cert_check.specs.Writing.{path_text}
-use Rattle.tl_piece.proofs.PartLemmas.{added_item}
-use Rattle.tl_piece.proofs.AddedLemmas.{added_none}
+use Rattle.cert_check.proofs.Common.{arith, path_text, added_item, added_none}
 use Rattle.cert_check.proofs.written.add_paths.Goals as goal
 
 pub loop-path-init : goal.loop-path-init

@@ -1,7 +1,4 @@
-use Rattle.std.proofs.Common.{take}
-use Rattle.std.specs.List.{flat_map}
-use Rattle.tl_piece.specs.Added.{IsAdded}
-use Rattle.cert_check.specs.Writing.{path_text}
+use Rattle.cert_check.proofs.Common.{take, flat_map, IsAdded, path_text}
 use Rattle.cert_check.proofs.written.add_paths.Given as goal
 
 abbrev pub invariant-loop-path : goal.invariant-loop-path

@@ -1,7 +1,5 @@
-use Rattle.std.proofs.Common.{ap, ◌∙◌}
-use Rattle.cert_check.specs.CertificateValue.{StepValue}
+use Rattle.cert_check.proofs.Common.{ap, ◌∙◌, StepValue, added_as, added_twice}
 use Rattle.cert_check.proofs.WriteLemmas.{step_line}
-use Rattle.tl_piece.proofs.AddedLemmas.{added_as, added_twice}
 use Rattle.cert_check.proofs.written.add_step.Goals as goal
 
 pub returns : goal.returns

@@ -1,7 +1,4 @@
-use Rattle.std.proofs.Common.{arith}
-use Rattle.cert_check.specs.Writing.{step_text}
-use Rattle.tl_piece.proofs.PartLemmas.{added_item}
-use Rattle.tl_piece.proofs.AddedLemmas.{added_none}
+use Rattle.cert_check.proofs.Common.{arith, step_text, added_item, added_none}
 use Rattle.cert_check.proofs.written.add_steps.Goals as goal
 
 pub loop-step-init : goal.loop-step-init

@@ -1,6 +1,5 @@
 use Rattle.cert_check.proofs.RoundTrip.{reads_back}
-use Rattle.std.proofs.Common.{rules}
-use Rattle.tl_piece.proofs.AddedLemmas.{put_over}
+use Rattle.cert_check.proofs.Common.{rules, put_over}
 use Rattle.cert_check.proofs.written.put_cert.Goals as goal
 
 pub returns-clause-put : goal.returns-clause-put

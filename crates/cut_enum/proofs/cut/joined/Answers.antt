@@ -1,7 +1,4 @@
-use Rattle.std.proofs.Common.{◌≡◌, ◌∙◌, arith, ap, sym, subst, bit_or}
-use Rattle.list_laws.specs.Order.{IsAscending}
-use Rattle.cut_enum.specs.Merging.{union}
-use Rattle.cut_enum.specs.Signature.{signature_of}
+use Rattle.cut_enum.proofs.Common.{◌≡◌, ◌∙◌, arith, ap, sym, subst, bit_or, IsAscending, union, signature_of}
 use Rattle.cut_enum.proofs.SetLemmas.{IsAscending-union}
 use Rattle.cut_enum.proofs.SignatureLemmas.{signature-union, union_over_bits}
 use Rattle.cut_enum.proofs.PutLemmas.{union_over, union_end}

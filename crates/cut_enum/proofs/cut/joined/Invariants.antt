@@ -1,6 +1,4 @@
-use Rattle.std.proofs.Common.{◌≡◌, drop}
-use Rattle.cut_enum.specs.Merging.{union}
-use Rattle.cut_enum.specs.declared.limits.TheConstants.{MOST_LEAVES}
+use Rattle.cut_enum.proofs.Common.{◌≡◌, drop, union, MOST_LEAVES}
 use Rattle.cut_enum.proofs.cut.joined.Given as goal
 
 abbrev pub invariant-loop-x : goal.invariant-loop-x

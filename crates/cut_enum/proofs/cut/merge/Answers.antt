@@ -1,5 +1,4 @@
-use Rattle.std.proofs.Common.{subst}
-use Rattle.list_laws.specs.Order.{IsAscending}
+use Rattle.cut_enum.proofs.Common.{subst, IsAscending}
 use Rattle.cut_enum.proofs.UnionLemmas.{merge_some, merge_none}
 use Rattle.cut_enum.proofs.cut.merge.Goals as goal
 

@@ -1,13 +1,8 @@
-use Rattle.std.proofs.Common.{◌≡◌, ◌≤◌, ◌∙◌, length, take, arith, subst, sym, ap, bit_or}
-use Rattle.std.proofs.lemmas.List.{length-take-le}
-use Rattle.list_laws.specs.Order.{IsAscending}
+use Rattle.cut_enum.proofs.Common.{◌≡◌, ◌≤◌, ◌∙◌, length, take, arith, subst, sym, ap, bit_or, length-take-le, IsAscending, union, signature_of, MOST_LEAVES}
 use Rattle.list_laws.proofs.Places.{set_length}
-use Rattle.cut_enum.specs.Merging.{union}
-use Rattle.cut_enum.specs.Signature.{signature_of}
 use Rattle.cut_enum.proofs.SetLemmas.{IsAscending-union}
 use Rattle.cut_enum.proofs.SignatureLemmas.{signature-union}
 use Rattle.cut_enum.proofs.HeadLemmas.{joined_step, joined_all, joined_more}
-use Rattle.cut_enum.specs.declared.limits.TheConstants.{MOST_LEAVES}
 use Rattle.cut_enum.proofs.flat.joined.Goals as goal
 
 pub loop-n-preserved : goal.loop-n-preserved

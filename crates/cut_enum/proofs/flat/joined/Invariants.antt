@@ -1,7 +1,4 @@
-use Rattle.std.proofs.Common.{◌≡◌, ◌++◌, length, take}
-use Rattle.list_laws.specs.Order.{IsAscending}
-use Rattle.cut_enum.specs.Merging.{union}
-use Rattle.cut_enum.specs.declared.limits.TheConstants.{MOST_LEAVES}
+use Rattle.cut_enum.proofs.Common.{◌≡◌, ◌++◌, length, take, IsAscending, union, MOST_LEAVES}
 use Rattle.cut_enum.proofs.flat.joined.Given as goal
 
 abbrev pub invariant-loop-n : goal.invariant-loop-n

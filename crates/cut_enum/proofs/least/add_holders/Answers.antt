@@ -1,8 +1,4 @@
-use Rattle.std.proofs.Common.{◌++◌, ℕ, List, sym, subst}
-use Rattle.std.proofs.lemmas.Result.{err_from_is_err_and}
-use Rattle.list_laws.specs.Members.{In}
-use Rattle.list_laws.proofs.Members.{In-get_or}
-use Rattle.cut_enum.specs.Merging.{add_holder, add_holders}
+use Rattle.cut_enum.proofs.Common.{◌++◌, ℕ, List, sym, subst, err_from_is_err_and, In, In-get_or, add_holder, add_holders}
 use Rattle.cut_enum.proofs.RowLemmas.{too_many_more}
 use Rattle.cut_enum.proofs.StepLemmas.{holders_step}
 use Rattle.cut_enum.proofs.least.add_holders.Goals as goal

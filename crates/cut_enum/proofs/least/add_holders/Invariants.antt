@@ -1,6 +1,4 @@
-use Rattle.std.proofs.Common.{◌≡◌, ◌+◌, ◌≤◌, drop, length}
-use Rattle.cut_enum.specs.declared.limits.TheConstants.{MOST_OF_A_NODE}
-use Rattle.cut_enum.specs.Merging.{add_holders}
+use Rattle.cut_enum.proofs.Common.{◌≡◌, ◌+◌, ◌≤◌, drop, length, MOST_OF_A_NODE, add_holders}
 use Rattle.cut_enum.proofs.least.add_holders.Given as goal
 
 abbrev pub invariant-loop-cut : goal.invariant-loop-cut

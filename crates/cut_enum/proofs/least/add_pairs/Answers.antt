@@ -1,6 +1,4 @@
-use Rattle.std.proofs.Common.{◌++◌}
-use Rattle.std.proofs.lemmas.Result.{err_from_is_err_and}
-use Rattle.cut_enum.specs.Merging.{add_unions, add_pairs}
+use Rattle.cut_enum.proofs.Common.{◌++◌, err_from_is_err_and, add_unions, add_pairs}
 use Rattle.cut_enum.proofs.RowLemmas.{too_many_more}
 use Rattle.cut_enum.proofs.StepLemmas.{pairs_step}
 use Rattle.cut_enum.proofs.least.add_pairs.Goals as goal

@@ -1,7 +1,4 @@
-use Rattle.std.proofs.Common.{◌≡◌, ◌<◌, ◌++◌, ◌∙◌, ℕ, List, length, map, get_or, ap, subst, arith, bit_or, count_ones}
-use Rattle.std.proofs.lemmas.Result.{err_from_is_err_and}
-use Rattle.cut_enum.specs.Merging.{add_union, add_unions}
-use Rattle.cut_enum.specs.Signature.{signature_of}
+use Rattle.cut_enum.proofs.Common.{◌≡◌, ◌<◌, ◌++◌, ◌∙◌, ℕ, List, length, map, get_or, ap, subst, arith, bit_or, count_ones, err_from_is_err_and, add_union, add_unions, signature_of}
 use Rattle.cut_enum.proofs.RowLemmas.{too_many_more}
 use Rattle.cut_enum.proofs.SignedLemmas.{signed_length}
 use Rattle.cut_enum.proofs.StepLemmas.{unions_pass, unions_step}

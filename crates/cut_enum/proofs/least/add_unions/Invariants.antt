@@ -1,6 +1,4 @@
-use Rattle.std.proofs.Common.{◌≡◌, ◌+◌, ◌≤◌, drop, length}
-use Rattle.cut_enum.specs.declared.limits.TheConstants.{MOST_OF_A_NODE}
-use Rattle.cut_enum.specs.Merging.{add_unions}
+use Rattle.cut_enum.proofs.Common.{◌≡◌, ◌+◌, ◌≤◌, drop, length, MOST_OF_A_NODE, add_unions}
 use Rattle.cut_enum.proofs.least.add_unions.Given as goal
 
 abbrev pub invariant-loop-i : goal.invariant-loop-i

@@ -1,6 +1,4 @@
-use Rattle.std.proofs.Common.{◌++◌, ◌∙◌, ◌≡◌, ◌≤◌, ℕ, suc, List, length, ap, arith}
-use Rattle.std.proofs.lemmas.Result.{err_from_is_err_and}
-use Rattle.cut_enum.specs.Merging.{unions_at, unions_below, merged}
+use Rattle.cut_enum.proofs.Common.{◌++◌, ◌∙◌, ◌≡◌, ◌≤◌, ℕ, suc, List, length, ap, arith, err_from_is_err_and, unions_at, unions_below, merged}
 use Rattle.cut_enum.proofs.LeastLemmas.{sizes_step}
 use Rattle.cut_enum.proofs.RowLemmas.{too_many_more}
 use Rattle.cut_enum.proofs.least.merged.Goals as goal

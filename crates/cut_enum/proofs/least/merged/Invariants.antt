@@ -1,6 +1,4 @@
-use Rattle.std.proofs.Common.{◌≡◌, ◌≤◌, length}
-use Rattle.cut_enum.specs.declared.limits.TheConstants.{MOST_OF_A_NODE}
-use Rattle.cut_enum.specs.Merging.{unions_below}
+use Rattle.cut_enum.proofs.Common.{◌≡◌, ◌≤◌, length, MOST_OF_A_NODE, unions_below}
 use Rattle.cut_enum.proofs.least.merged.Given as goal
 
 abbrev pub invariant-loop-size : goal.invariant-loop-size

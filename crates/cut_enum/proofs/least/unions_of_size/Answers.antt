@@ -1,6 +1,4 @@
-use Rattle.std.proofs.Common.{◌++◌, ◌∙◌, ℕ, List, ap, ◌≡◌, ◌+◌, []}
-use Rattle.std.proofs.lemmas.Result.{err_from_is_err_and}
-use Rattle.cut_enum.specs.Merging.{add_holders, leading, unions_at}
+use Rattle.cut_enum.proofs.Common.{◌++◌, ◌∙◌, ℕ, List, ap, ◌≡◌, ◌+◌, [], err_from_is_err_and, add_holders, leading, unions_at}
 use Rattle.cut_enum.proofs.LeastLemmas.{left_clear_at, right_clear_at}
 use Rattle.cut_enum.proofs.RowLemmas.{too_many_more}
 use Rattle.cut_enum.proofs.StepLemmas.{holders_at, left_holders_at}

@@ -1,5 +1,4 @@
-use Rattle.std.proofs.Common.{◌+◌, ◌-◌, ◌/◌, ◌<◌, ◌≤◌, ℕ, List, length, sym, ap, ◌∙◌, arith}
-use Rattle.cut_sets.specs.Sets.{before}
+use Rattle.cut_enum.proofs.Common.{◌+◌, ◌-◌, ◌/◌, ◌<◌, ◌≤◌, ℕ, List, length, sym, ap, ◌∙◌, arith, before}
 use Rattle.cut_enum.proofs.PlaceLemmas.{upper_half, lower_half}
 use Rattle.cut_enum.proofs.level.half.Goals as goal
 

@@ -1,5 +1,4 @@
-use Rattle.std.proofs.Common.{◌-◌}
-use Rattle.cut_enum.specs.Merging.{IsAround}
+use Rattle.cut_enum.proofs.Common.{◌-◌, IsAround}
 use Rattle.cut_enum.proofs.level.halved_place.Given as goal
 
 abbrev pub invariant-loop-low : goal.invariant-loop-low

@@ -1,6 +1,4 @@
-use Rattle.std.proofs.Common.{arith}
-use Rattle.std.proofs.lemmas.Result.{err_from_is_err_and}
-use Rattle.cut_enum.specs.Merging.{unions_of}
+use Rattle.cut_enum.proofs.Common.{arith, err_from_is_err_and, unions_of}
 use Rattle.cut_enum.proofs.RowLemmas.{IsRow-node, limit_node, too_many_limit}
 use Rattle.cut_enum.proofs.row.row_of.Goals as goal
 

@@ -1,5 +1,4 @@
-use Rattle.std.proofs.Common.{◌≡◌, drop, bit_or}
-use Rattle.cut_enum.specs.Signature.{signature_of}
+use Rattle.cut_enum.proofs.Common.{◌≡◌, drop, bit_or, signature_of}
 use Rattle.cut_enum.proofs.signature.signature.Given as goal
 
 abbrev pub invariant-loop-leaf : goal.invariant-loop-leaf

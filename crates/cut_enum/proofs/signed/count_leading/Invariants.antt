@@ -1,5 +1,4 @@
-use Rattle.std.proofs.Common.{◌≡◌, ◌++◌, take, drop}
-use Rattle.cut_enum.specs.Merging.{leading}
+use Rattle.cut_enum.proofs.Common.{◌≡◌, ◌++◌, take, drop, leading}
 use Rattle.cut_enum.proofs.signed.count_leading.Given as goal
 
 abbrev pub invariant-loop-i : goal.invariant-loop-i

@@ -1,5 +1,4 @@
-use Rattle.std.proofs.Common.{◌<◌, ◌^◌, ℕ, List, length, get_or, arith, subst}
-use Rattle.cut_enum.specs.Keeps.{AllHave, NoneClear}
+use Rattle.cut_enum.proofs.Common.{◌<◌, ◌^◌, ℕ, List, length, get_or, arith, subst, AllHave, NoneClear}
 use Rattle.cut_enum.proofs.GroupLemmas.{none_clear}
 use Rattle.cut_enum.proofs.SharedLemmas.{none_have}
 use Rattle.cut_enum.proofs.signed.has_grouped_part.Goals as goal

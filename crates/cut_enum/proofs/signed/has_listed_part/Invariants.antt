@@ -1,6 +1,4 @@
-use Rattle.std.proofs.Common.{◌≡◌, drop}
-use Rattle.std.specs.List.{list_any}
-use Rattle.cut_enum.specs.Merging.{subset}
+use Rattle.cut_enum.proofs.Common.{◌≡◌, drop, list_any, subset}
 use Rattle.cut_enum.proofs.signed.has_listed_part.Given as goal
 
 abbrev pub invariant-loop-i : goal.invariant-loop-i

@@ -1,7 +1,4 @@
-use Rattle.std.proofs.Common.{◌≡◌, ◌+◌, ◌*◌, ◌≤◌, ◌∙◌, ℕ, List, false, length, slice_range, ap, sym, arith}
-use Rattle.std.specs.List.{list_any}
-use Rattle.cut_enum.specs.declared.limits.TheConstants.{GROUP}
-use Rattle.cut_enum.specs.Merging.{subset}
+use Rattle.cut_enum.proofs.Common.{◌≡◌, ◌+◌, ◌*◌, ◌≤◌, ◌∙◌, ℕ, List, false, length, slice_range, ap, sym, arith, list_any, GROUP, subset}
 use Rattle.cut_enum.proofs.GroupLemmas.{group_passed, group_length}
 use Rattle.cut_enum.proofs.SignedLemmas.{signed_range, signed_rest}
 use Rattle.cut_enum.proofs.signed.has_part_in_groups.Goals as goal

@@ -1,5 +1,4 @@
-use Rattle.std.proofs.Common.{◌≡◌, ◌<◌, ℕ, false, get_or}
-use Rattle.std.specs.Int.Bits.{bit_and}
+use Rattle.cut_enum.proofs.Common.{◌≡◌, ◌<◌, ℕ, false, get_or, bit_and}
 use Rattle.cut_enum.proofs.signed.is_one_clear.Given as goal
 
 abbrev pub invariant-loop-word : goal.invariant-loop-word

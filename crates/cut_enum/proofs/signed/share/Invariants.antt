@@ -1,5 +1,4 @@
-use Rattle.std.proofs.Common.{◌≡◌, length}
-use Rattle.cut_enum.specs.Keeps.{AreShared}
+use Rattle.cut_enum.proofs.Common.{◌≡◌, length, AreShared}
 use Rattle.cut_enum.proofs.signed.share.Given as goal
 
 abbrev pub invariant-loop-n : goal.invariant-loop-n

@@ -1,5 +1,4 @@
-use Rattle.std.proofs.Common.{◌≡◌, ◌++◌, map, take}
-use Rattle.cut_enum.specs.Signature.{signature_of}
+use Rattle.cut_enum.proofs.Common.{◌≡◌, ◌++◌, map, take, signature_of}
 use Rattle.cut_enum.proofs.signed.sign.Given as goal
 
 abbrev pub invariant-loop-cut : goal.invariant-loop-cut

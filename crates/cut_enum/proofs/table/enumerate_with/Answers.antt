@@ -1,6 +1,4 @@
-use Rattle.std.proofs.Common.{arith}
-use Rattle.cut_enum.specs.Table.{row_at}
-use Rattle.cut_sets.proofs.BlockLemmas.{contains_one}
+use Rattle.cut_enum.proofs.Common.{arith, row_at, contains_one}
 use Rattle.cut_enum.proofs.RowLemmas.{AreRows-push}
 use Rattle.cut_enum.proofs.table.enumerate_with.Goals as goal
 

@@ -1,5 +1,4 @@
-use Rattle.std.proofs.Common.{◌<◌, length, sym, ap, ◌∙◌, subst}
-use Rattle.depth_first.specs.Frames.{FramesValue, renewed}
+use Rattle.depth_first.proofs.Common.{◌<◌, length, sym, ap, ◌∙◌, subst, FramesValue, renewed}
 use Rattle.depth_first.proofs.ClearLemmas.{first_within, forget_step}
 use Rattle.depth_first.proofs.frames.forget.Goals as goal
 

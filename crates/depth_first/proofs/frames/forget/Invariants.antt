@@ -1,5 +1,4 @@
-use Rattle.std.proofs.Common.{length}
-use Rattle.depth_first.specs.Frames.{AreForgettable}
+use Rattle.depth_first.proofs.Common.{length, AreForgettable}
 use Rattle.depth_first.proofs.frames.forget.Given as goal
 
 abbrev pub invariant-loop-n : goal.invariant-loop-n

@@ -1,6 +1,4 @@
-use Rattle.std.proofs.Common.{◌<◌, length, refl, sym, ap, ◌∙◌, subst, inl}
-use Rattle.list_laws.specs.Members.{In}
-use Rattle.depth_first.specs.Frames.{FramesValue, renewed, renewed_since}
+use Rattle.depth_first.proofs.Common.{◌<◌, length, refl, sym, ap, ◌∙◌, subst, inl, In, FramesValue, renewed, renewed_since}
 use Rattle.depth_first.proofs.ClearLemmas.{first_others}
 use Rattle.depth_first.proofs.BackLemmas.{renew_within, renew_step}
 use Rattle.depth_first.proofs.frames.renew_since.Goals as goal

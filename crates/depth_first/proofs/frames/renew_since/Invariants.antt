@@ -1,6 +1,4 @@
-use Rattle.std.proofs.Common.{◌≡◌, ℕ, ◌<◌, length}
-use Rattle.list_laws.specs.Members.{In}
-use Rattle.depth_first.specs.Frames.{renewed_since}
+use Rattle.depth_first.proofs.Common.{◌≡◌, ℕ, ◌<◌, length, In, renewed_since}
 use Rattle.depth_first.proofs.frames.renew_since.Given as goal
 
 abbrev pub invariant-loop-frames : goal.invariant-loop-frames

@@ -1,5 +1,4 @@
-use Rattle.std.proofs.Common.{Some, refl, ap, ◌∙◌}
-use Rattle.depth_first.specs.Steps.{stops_at, enters, hits, skips_over}
+use Rattle.depth_first.proofs.Common.{Some, refl, ap, ◌∙◌, stops_at, enters, hits, skips_over}
 use Rattle.depth_first.proofs.run.follow.Goals as goal
 
 pub returns-in-Stop-clause-ok : goal.returns-in-Stop-clause-ok

@@ -1,7 +1,4 @@
-use Rattle.std.proofs.Common.{◌+◌, drop, get_or, sym, ap, ◌∙◌}
-use Rattle.list_laws.proofs.Places.{drop_past}
-use Rattle.depth_first.specs.Frames.{path_of}
-use Rattle.depth_first.specs.Steps.{seen}
+use Rattle.depth_first.proofs.Common.{◌+◌, drop, get_or, sym, ap, ◌∙◌, drop_past, path_of, seen}
 use Rattle.depth_first.proofs.AllLemmas.{drop_next, left_none, left_step, left_found, left_end}
 use Rattle.depth_first.proofs.VisitLemmas.{no_path, kept_same, kept_more}
 use Rattle.depth_first.proofs.BackLemmas.{grown_none, grown_on}

@@ -1,6 +1,4 @@
-use Rattle.std.proofs.Common.{drop}
-use Rattle.depth_first.specs.Frames.{AreKept, HasGrown}
-use Rattle.depth_first.specs.Steps.{AreLeft, seen}
+use Rattle.depth_first.proofs.Common.{drop, AreKept, HasGrown, AreLeft, seen}
 use Rattle.depth_first.proofs.run.go_all.Given as goal
 
 abbrev pub invariant-loop-start : goal.invariant-loop-start

@@ -1,6 +1,4 @@
-use Rattle.std.proofs.Common.{Some, sym, ap, ◌∙◌, subst}
-use Rattle.depth_first.specs.Frames.{HasGrown, path_of}
-use Rattle.depth_first.specs.Steps.{IsGoing, Ran}
+use Rattle.depth_first.proofs.Common.{Some, sym, ap, ◌∙◌, subst, HasGrown, path_of, IsGoing, Ran}
 use Rattle.depth_first.proofs.VisitLemmas.{start_going, visited_done, visited_ran}
 use Rattle.depth_first.proofs.BackLemmas.{grown_none, grown_entered, grown_on}
 use Rattle.depth_first.proofs.run.go_from.Goals as goal

@@ -1,5 +1,4 @@
-use Rattle.depth_first.specs.Frames.{HasGrown}
-use Rattle.depth_first.specs.Steps.{IsLater, walk_work}
+use Rattle.depth_first.proofs.Common.{HasGrown, IsLater, walk_work}
 use Rattle.depth_first.proofs.run.run.Given as goal
 
 abbrev pub invariant-loop-frame : goal.invariant-loop-frame

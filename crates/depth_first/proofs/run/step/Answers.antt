@@ -1,6 +1,4 @@
-use Rattle.std.proofs.Common.{None, length, sym, ◌∙◌, subst}
-use Rattle.depth_first.specs.Frames.{FramesValue, AreKept, HasGrown, path_of, advanced}
-use Rattle.depth_first.specs.Steps.{IsEdgeWithin, Followed, Stepped}
+use Rattle.depth_first.proofs.Common.{None, length, sym, ◌∙◌, subst, FramesValue, AreKept, HasGrown, path_of, advanced, IsEdgeWithin, Followed, Stepped}
 use Rattle.depth_first.proofs.FollowLemmas.{top_below, edge_within, left_step, left_kept, followed_step, followed_kept}
 use Rattle.depth_first.proofs.BackLemmas.{grown_none, grown_on, grown_finished, grown_advanced, grown_followed}
 use Rattle.depth_first.proofs.run.step.Goals as goal

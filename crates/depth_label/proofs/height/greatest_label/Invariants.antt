@@ -1,5 +1,4 @@
-use Rattle.std.proofs.Common.{◌≡◌, ◌+◌, ◌<◌, ◌^◌, max, drop}
-use Rattle.depth_label.specs.Label.{greatest, label_at}
+use Rattle.depth_label.proofs.Common.{◌≡◌, ◌+◌, ◌<◌, ◌^◌, max, drop, greatest, label_at}
 use Rattle.depth_label.proofs.height.greatest_label.Given as goal
 
 abbrev pub invariant-loop-m : goal.invariant-loop-m

@@ -1,8 +1,4 @@
-use Rattle.std.proofs.Common.{arith, ◌≡◌, ◌∙◌, ℕ, List, subst, sym, ap}
-use Rattle.aig_core.specs.Aig.{node_count}
-use Rattle.cut_enum.specs.Table.{row_at}
-use Rattle.depth_label.specs.Label.{height, LabelsValue, label_at, AreLabelled}
-use Rattle.depth_label.specs.Fold.{AreLabelledTo, lowest_cut}
+use Rattle.depth_label.proofs.Common.{arith, ◌≡◌, ◌∙◌, ℕ, List, subst, sym, ap, node_count, row_at, height, LabelsValue, label_at, AreLabelled, AreLabelledTo, lowest_cut}
 use Rattle.depth_label.proofs.LabelLemmas.{leaves_below, labels_push, labels_all, labels_least}
 use Rattle.depth_label.proofs.OnceLemmas.{one_labelling}
 use Rattle.depth_label.proofs.labelling.labels.Goals as goal

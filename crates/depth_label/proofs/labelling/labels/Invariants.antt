@@ -1,5 +1,4 @@
-use Rattle.cut_enum.specs.Table.{row_at}
-use Rattle.depth_label.specs.Fold.{AreLabelledTo}
+use Rattle.depth_label.proofs.Common.{row_at, AreLabelledTo}
 use Rattle.depth_label.proofs.labelling.labels.Given as goal
 
 abbrev pub invariant-loop-n : goal.invariant-loop-n

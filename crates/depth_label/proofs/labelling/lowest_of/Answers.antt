@@ -1,8 +1,4 @@
-use Rattle.std.proofs.Common.{◌≡◌, ◌+◌, ◌<◌, ◌∙◌, ℕ, List, [], length, Option, None, get_or, drop, refl, sym, ap, subst, arith}
-use Rattle.std.proofs.lemmas.List.{drop_more, drop_all}
-use Rattle.cut_enum.specs.Table.{row_at}
-use Rattle.depth_label.specs.Label.{label_at}
-use Rattle.depth_label.specs.Fold.{IsAt, lower_of, lowest}
+use Rattle.depth_label.proofs.Common.{◌≡◌, ◌+◌, ◌<◌, ◌∙◌, ℕ, List, [], length, Option, None, get_or, drop, refl, sym, ap, subst, arith, drop_more, drop_all, row_at, label_at, IsAt, lower_of, lowest}
 use Rattle.depth_label.proofs.labelling.lowest_of.Goals as goal
 
 -- the fold goes on with the next cut

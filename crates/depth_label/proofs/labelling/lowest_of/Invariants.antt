@@ -1,7 +1,4 @@
-use Rattle.std.proofs.Common.{◌≡◌, ℕ, List, Option, None, drop}
-use Rattle.cut_enum.specs.Table.{row_at}
-use Rattle.depth_label.specs.Label.{label_at}
-use Rattle.depth_label.specs.Fold.{IsAt, lowest}
+use Rattle.depth_label.proofs.Common.{◌≡◌, ℕ, List, Option, None, drop, row_at, label_at, IsAt, lowest}
 use Rattle.depth_label.proofs.labelling.lowest_of.Given as goal
 
 abbrev pub invariant-loop-i : goal.invariant-loop-i

@@ -1,6 +1,4 @@
-use Rattle.std.proofs.Common.{◌≡◌, ◌*◌, ◌^◌, ◌≤◌, length, sym, ap, ◌∙◌, subst, arith}
-use Rattle.aig_core.specs.Aig.{first_and, node_count}
-use Rattle.dirty_idx.specs.Listed.{AreOf}
+use Rattle.dirty_idx.proofs.Common.{◌≡◌, ◌*◌, ◌^◌, ◌≤◌, length, sym, ap, ◌∙◌, subst, arith, first_and, node_count, AreOf}
 use Rattle.dirty_idx.proofs.ReaderLemmas.{nodes_below, length-node_readings}
 use Rattle.dirty_idx.proofs.readers.node_lists.Goals as goal
 

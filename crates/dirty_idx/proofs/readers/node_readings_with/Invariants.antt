@@ -1,6 +1,4 @@
-use Rattle.std.proofs.Common.{◌≡◌, ◌++◌, ◌-◌, drop}
-use Rattle.aig_core.specs.Aig.{first_and}
-use Rattle.dirty_idx.specs.Listed.{node_readings}
+use Rattle.dirty_idx.proofs.Common.{◌≡◌, ◌++◌, ◌-◌, drop, first_and, node_readings}
 use Rattle.dirty_idx.proofs.readers.node_readings_with.Given as goal
 
 abbrev pub invariant-loop-n : goal.invariant-loop-n

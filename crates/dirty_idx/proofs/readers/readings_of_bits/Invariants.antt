@@ -1,5 +1,4 @@
-use Rattle.std.proofs.Common.{◌≡◌, ◌++◌, drop}
-use Rattle.dirty_idx.specs.Listed.{bit_readings}
+use Rattle.dirty_idx.proofs.Common.{◌≡◌, ◌++◌, drop, bit_readings}
 use Rattle.dirty_idx.proofs.readers.readings_of_bits.Given as goal
 
 abbrev pub invariant-loop-address : goal.invariant-loop-address

@@ -1,5 +1,4 @@
-use Rattle.std.proofs.Common.{sym, ◌∙◌, arith}
-use Rattle.std.proofs.lemmas.List.{get_or_read}
+use Rattle.dirty_idx.proofs.Common.{sym, ◌∙◌, arith, get_or_read}
 use Rattle.dirty_idx.proofs.LayerLemmas.{none_up}
 use Rattle.dirty_idx.proofs.tiers.tell_none.Goals as goal
 

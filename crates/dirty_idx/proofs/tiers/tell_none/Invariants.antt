@@ -1,5 +1,4 @@
-use Rattle.std.proofs.Common.{◌≡◌, ℕ, ◌*◌, ◌<◌, ◌≤◌, vec_len}
-use Rattle.dirty_idx.specs.Layers.{bit_above, AreTold, IsNoneOnTheWay}
+use Rattle.dirty_idx.proofs.Common.{◌≡◌, ℕ, ◌*◌, ◌<◌, ◌≤◌, vec_len, bit_above, AreTold, IsNoneOnTheWay}
 use Rattle.dirty_idx.proofs.tiers.tell_none.Given as goal
 
 abbrev pub invariant-loop-at : goal.invariant-loop-at

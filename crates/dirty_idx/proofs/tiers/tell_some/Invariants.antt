@@ -1,5 +1,4 @@
-use Rattle.std.proofs.Common.{ℕ, ◌*◌, ◌<◌, ◌≤◌, vec_len}
-use Rattle.dirty_idx.specs.Layers.{word_at, AreTold, IsSomeOnTheWay}
+use Rattle.dirty_idx.proofs.Common.{ℕ, ◌*◌, ◌<◌, ◌≤◌, vec_len, word_at, AreTold, IsSomeOnTheWay}
 use Rattle.dirty_idx.proofs.tiers.tell_some.Given as goal
 
 abbrev pub invariant-loop-at : goal.invariant-loop-at

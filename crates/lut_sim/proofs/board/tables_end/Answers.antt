@@ -1,5 +1,4 @@
-use Rattle.std.proofs.Common.{◌≡◌, ◌≤◌, ◌-◌, arith, ap, length, get_or}
-use Rattle.cover_pick.specs.declared.lut.Lut.{Lut}
+use Rattle.lut_sim.proofs.Common.{◌≡◌, ◌≤◌, ◌-◌, arith, ap, length, get_or, Lut}
 use Rattle.lut_sim.proofs.RoomLemmas.{last_greatest}
 use Rattle.lut_sim.proofs.board.tables_end.Goals as goal
 

@@ -1,5 +1,4 @@
-use Rattle.std.proofs.Common.{arith, ◌≡◌, ◌<◌, ◌-◌, ◌*◌, ℕ, length, get_or, ap}
-use Rattle.list_laws.proofs.Members.{In-get_or}
+use Rattle.lut_sim.proofs.Common.{arith, ◌≡◌, ◌<◌, ◌-◌, ◌*◌, ℕ, length, get_or, ap, In-get_or}
 use Rattle.lut_sim.proofs.play.number_of.Goals as goal
 
 pub bounds-values-leaf : goal.bounds-values-leaf

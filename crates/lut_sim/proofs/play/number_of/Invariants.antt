@@ -1,7 +1,4 @@
-use Rattle.std.proofs.Common.{◌≡◌, ◌<◌, ◌-◌, ◌^◌, length, drop}
-use Rattle.list_laws.specs.Digits.{number}
-use Rattle.lut_sim.specs.Cycle.{leaf_values}
-use Rattle.lut_sim.specs.Steps.{value_in}
+use Rattle.lut_sim.proofs.Common.{◌≡◌, ◌<◌, ◌-◌, ◌^◌, length, drop, number, leaf_values, value_in}
 use Rattle.lut_sim.proofs.play.number_of.Given as goal
 
 -- the number of the last leaves

@@ -1,9 +1,4 @@
-use Rattle.std.proofs.Common.{◌≡◌, ◌∙◌, sym, subst, ap, length}
-use Rattle.list_laws.specs.Members.{In}
-use Rattle.cover_pick.specs.Template.{TemplateValue}
-use Rattle.lut_sim.specs.Steps.{with_tables, value_in}
-use Rattle.lut_sim.specs.Cycle.{FitsTables}
-use Rattle.lut_sim.specs.Keeps.{HasRoom}
+use Rattle.lut_sim.proofs.Common.{◌≡◌, ◌∙◌, sym, subst, ap, length, In, TemplateValue, with_tables, value_in, FitsTables, HasRoom}
 use Rattle.lut_sim.proofs.RoomLemmas.{table_in_room}
 use Rattle.lut_sim.proofs.SourceLemmas.{played_fit}
 use Rattle.lut_sim.proofs.play.play.Goals as goal

@@ -1,7 +1,4 @@
-use Rattle.std.proofs.Common.{◌<◌, arith, length, subst, sym}
-use Rattle.list_laws.specs.Members.{In}
-use Rattle.list_laws.proofs.Members.{In-get_or}
-use Rattle.lut_sim.specs.Steps.{IsTableInRoom}
+use Rattle.lut_sim.proofs.Common.{◌<◌, arith, length, subst, sym, In, In-get_or, IsTableInRoom}
 use Rattle.lut_sim.proofs.play.play_tables.Goals as goal
 
 pub play_table-requires : goal.play_table-requires

@@ -1,5 +1,4 @@
-use Rattle.std.proofs.Common.{◌≡◌, drop}
-use Rattle.lut_sim.specs.Steps.{with_tables}
+use Rattle.lut_sim.proofs.Common.{◌≡◌, drop, with_tables}
 use Rattle.lut_sim.proofs.play.play_tables.Given as goal
 
 abbrev pub invariant-loop-table : goal.invariant-loop-table

@@ -1,8 +1,4 @@
-use Rattle.std.proofs.Common.{◌∙◌, sym, map}
-use Rattle.std.proofs.lemmas.List.{length-map}
-use Rattle.aig_core.specs.Roots.{lits_of}
-use Rattle.aig_core.specs.declared.lit.Lit.{Lit}
-use Rattle.lut_sim.specs.Steps.{value_in}
+use Rattle.lut_sim.proofs.Common.{◌∙◌, sym, map, length-map, lits_of, Lit, value_in}
 use Rattle.lut_sim.proofs.RoomLemmas.{filled-from_start}
 use Rattle.lut_sim.proofs.play.read_roots.Goals as goal
 

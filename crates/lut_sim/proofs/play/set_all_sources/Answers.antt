@@ -1,5 +1,4 @@
-use Rattle.std.proofs.Common.{◌+◌, subst, sym, ap, ◌∙◌}
-use Rattle.lut_sim.specs.Steps.{HaveSources, with_sources}
+use Rattle.lut_sim.proofs.Common.{◌+◌, subst, sym, ap, ◌∙◌, HaveSources, with_sources}
 use Rattle.lut_sim.proofs.SourceLemmas.{sources_set}
 use Rattle.lut_sim.proofs.play.set_all_sources.Goals as goal
 

@@ -1,5 +1,4 @@
-use Rattle.std.proofs.Common.{◌≡◌, ◌+◌, drop}
-use Rattle.lut_sim.specs.Steps.{with_sources}
+use Rattle.lut_sim.proofs.Common.{◌≡◌, ◌+◌, drop, with_sources}
 use Rattle.lut_sim.proofs.play.set_sources.Given as goal
 
 abbrev pub invariant-loop-bit : goal.invariant-loop-bit

@@ -1,6 +1,4 @@
-use Rattle.std.proofs.Common.{◌<◌, arith, length}
-use Rattle.list_laws.proofs.Members.{In-get_or, In-map}
-use Rattle.aig_core.specs.declared.lit.Lit.{Lit}
+use Rattle.lut_sim.proofs.Common.{◌<◌, arith, length, In-get_or, In-map, Lit}
 use Rattle.lut_sim.proofs.play.write_roots.Goals as goal
 
 pub bounds-values-root : goal.bounds-values-root

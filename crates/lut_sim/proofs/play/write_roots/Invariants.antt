@@ -1,6 +1,4 @@
-use Rattle.std.proofs.Common.{◌≡◌, drop, map}
-use Rattle.aig_core.specs.Roots.{lits_of}
-use Rattle.lut_sim.specs.Steps.{value_in, filled}
+use Rattle.lut_sim.proofs.Common.{◌≡◌, drop, map, lits_of, value_in, filled}
 use Rattle.lut_sim.proofs.play.write_roots.Given as goal
 
 abbrev pub invariant-loop-root : goal.invariant-loop-root

@@ -1,7 +1,4 @@
-use Rattle.std.proofs.Common.{arith}
-use Rattle.std.proofs.lemmas.List.{at_drop_more}
-use Rattle.std.specs.List.{flat_map}
-use Rattle.ppc_file.specs.Bytes.{bit_bytes}
+use Rattle.ppc_file.proofs.Common.{arith, at_drop_more, flat_map, bit_bytes}
 use Rattle.ppc_file.proofs.AddedLemmas.{added_more}
 use Rattle.ppc_file.proofs.add_parts.add_bits.Goals as goal
 

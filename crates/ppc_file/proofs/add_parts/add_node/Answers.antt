@@ -1,5 +1,4 @@
-use Rattle.std.proofs.Common.{sym}
-use Rattle.tl_piece.proofs.AddedLemmas.{added_as, added_twice}
+use Rattle.ppc_file.proofs.Common.{sym, added_as, added_twice}
 use Rattle.ppc_file.proofs.add_parts.add_node.Goals as goal
 
 pub returns : goal.returns

@@ -1,8 +1,4 @@
-use Rattle.std.proofs.Common.{◌≡◌, ℕ, ◌+◌, ◌-◌, Some, sym, ap, ◌∙◌, arith}
-use Rattle.std.specs.Prelude.{slice_get}
-use Rattle.aig_core.specs.Aig.{first_and}
-use Rattle.ppc_file.specs.Bytes.{node_bytes}
-use Rattle.tl_piece.proofs.AddedLemmas.{added_as}
+use Rattle.ppc_file.proofs.Common.{◌≡◌, ℕ, ◌+◌, ◌-◌, Some, sym, ap, ◌∙◌, arith, slice_get, first_and, node_bytes, added_as}
 use Rattle.ppc_file.proofs.AddedLemmas.{added_more, next_node}
 use Rattle.ppc_file.proofs.add_parts.add_nodes.Goals as goal
 

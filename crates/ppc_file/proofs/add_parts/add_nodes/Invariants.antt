@@ -1,7 +1,4 @@
-use Rattle.std.proofs.Common.{◌+◌, drop, length}
-use Rattle.aig_core.specs.Aig.{first_and}
-use Rattle.ppc_file.specs.Bytes.{nodes_bytes, nodes_part}
-use Rattle.ppc_file.specs.Adding.{Added}
+use Rattle.ppc_file.proofs.Common.{◌+◌, drop, length, first_and, nodes_bytes, nodes_part, Added}
 use Rattle.ppc_file.proofs.add_parts.add_nodes.Given as goal
 
 abbrev pub invariant-loop-number : goal.invariant-loop-number

@@ -1,10 +1,4 @@
-use Rattle.std.proofs.Common.{◌≡◌, ℕ, List, [], ◌∷◌, ◌++◌, length, ap, ◌∙◌}
-use Rattle.std.specs.Int.{w16}
-use Rattle.ppc_pack.specs.declared.pack.PackParam.{PackParam}
-use Rattle.ppc_file.specs.declared.version.Version.{Version}
-use Rattle.ppc_file.specs.Numbers.{spelled}
-use Rattle.ppc_file.specs.Bytes.{bit_byte, param_bytes}
-use Rattle.tl_piece.proofs.AddedLemmas.{added_as, added_twice}
+use Rattle.ppc_file.proofs.Common.{◌≡◌, ℕ, List, [], ◌∷◌, ◌++◌, length, ap, ◌∙◌, w16, PackParam, Version, spelled, bit_byte, param_bytes, added_as, added_twice}
 use Rattle.ppc_file.proofs.add_parts.add_param.Goals as goal
 
 -- the parts of a parameter, by its name and its byte

@@ -1,10 +1,5 @@
-use Rattle.std.proofs.Common.{◌≤◌, length, sym, ap, subst, arith}
-use Rattle.std.specs.List.{flat_map}
+use Rattle.ppc_file.proofs.Common.{◌≤◌, length, sym, ap, subst, arith, flat_map, In-get_or, PackParam, MOST_NAME_BYTES, param_bytes}
 use Rattle.list_laws.proofs.Items.{drop_at}
-use Rattle.list_laws.proofs.Members.{In-get_or}
-use Rattle.ppc_pack.specs.declared.pack.PackParam.{PackParam}
-use Rattle.tl_text.specs.declared.limits.TheConstants.{MOST_NAME_BYTES}
-use Rattle.ppc_file.specs.Bytes.{param_bytes}
 use Rattle.ppc_file.proofs.AddedLemmas.{added_more}
 use Rattle.ppc_file.proofs.add_parts.add_params.Goals as goal
 

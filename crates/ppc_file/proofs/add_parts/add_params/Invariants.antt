@@ -1,7 +1,4 @@
-use Rattle.std.proofs.Common.{drop, length}
-use Rattle.std.specs.List.{flat_map}
-use Rattle.ppc_file.specs.Bytes.{param_bytes, params_part}
-use Rattle.ppc_file.specs.Adding.{Added}
+use Rattle.ppc_file.proofs.Common.{drop, length, flat_map, param_bytes, params_part, Added}
 use Rattle.ppc_file.proofs.add_parts.add_params.Given as goal
 
 abbrev pub invariant-loop-param : goal.invariant-loop-param

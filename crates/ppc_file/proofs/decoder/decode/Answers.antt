@@ -1,11 +1,4 @@
-use Rattle.std.proofs.Common.{◌≡◌, ℕ, List, length, replicate, ap, ◌∙◌, sym, subst, arith, eqb-true}
-use Rattle.aig_core.specs.Aig.{Aig}
-use Rattle.aig_core.specs.declared.lit.Kind.TheVariants.{Parameter}
-use Rattle.ppc_pack.specs.declared.pack.PackParam.{PackParam}
-use Rattle.ppc_file.specs.declared.pack_err.PackErr.TheVariants.{Trailing}
-use Rattle.ppc_file.specs.Fronts.{in_bits}
-use Rattle.ppc_file.specs.PackFile.{IsPackFile, IsPackFault}
-use Rattle.ppc_file.specs.Reading.{StandsAt}
+use Rattle.ppc_file.proofs.Common.{◌≡◌, ℕ, List, length, replicate, ap, ◌∙◌, sym, subst, arith, eqb-true, Aig, Parameter, PackParam, Trailing, in_bits, IsPackFile, IsPackFault, StandsAt}
 use Rattle.ppc_file.proofs.FileLemmas.{is_pack, is_file, trailing, empty}
 use Rattle.ppc_file.proofs.NumberLemmas.{not_zero}
 use Rattle.ppc_file.proofs.decoder.decode.Goals as goal

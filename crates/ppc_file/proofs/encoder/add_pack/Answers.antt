@@ -1,10 +1,5 @@
-use Rattle.std.proofs.Common.{◌≡◌, ◌⊎◌, refl, sym, inl, inr}
-use Rattle.ppc_pack.specs.Pack.{PackValue}
-use Rattle.ppc_file.specs.declared.version.Version.{Version}
-use Rattle.ppc_file.specs.declared.version.Version.TheVariants.{One, Two}
-use Rattle.ppc_file.specs.Bytes.{bytes_of}
+use Rattle.ppc_file.proofs.Common.{◌≡◌, ◌⊎◌, refl, sym, inl, inr, PackValue, Version, One, Two, bytes_of, added_as, added_twice}
 use Rattle.ppc_file.proofs.AddedLemmas.{pack_parts}
-use Rattle.tl_piece.proofs.AddedLemmas.{added_as, added_twice}
 use Rattle.ppc_file.proofs.encoder.add_pack.Goals as goal
 
 pub returns-clause-added : goal.returns-clause-added

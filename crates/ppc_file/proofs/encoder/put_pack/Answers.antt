@@ -1,5 +1,4 @@
-use Rattle.std.proofs.Common.{rules}
-use Rattle.tl_piece.proofs.AddedLemmas.{put_over}
+use Rattle.ppc_file.proofs.Common.{rules, put_over}
 use Rattle.ppc_file.proofs.encoder.put_pack.Goals as goal
 
 pub returns-clause-put : goal.returns-clause-put

@@ -1,8 +1,4 @@
-use Rattle.std.proofs.Common.{◌≡◌, ◌<◌, ◌+◌, ℕ, length, ap, ◌∙◌, arith, length-append, [], ◌∷◌}
-use Rattle.tl_fault.proofs.PassedOn.{passed_on}
-use Rattle.tl_fault.specs.OrMemory.{OrMemory}
-use Rattle.ppc_file.specs.PackFile.{IsPackFault}
-use Rattle.ppc_file.specs.Refusals.{refusal_of}
+use Rattle.ppc_file.proofs.Common.{◌≡◌, ◌<◌, ◌+◌, ℕ, length, ap, ◌∙◌, arith, length-append, [], ◌∷◌, passed_on, OrMemory, IsPackFault, refusal_of}
 use Rattle.ppc_file.proofs.ReadLemmas.{said, bit_read, bit_refused, all_bits}
 use Rattle.ppc_file.proofs.read_bits.read_each.Goals as goal
 

@@ -1,6 +1,4 @@
-use Rattle.std.proofs.Common.{◌≡◌, length}
-use Rattle.ppc_file.specs.Fronts.{in_bits}
-use Rattle.ppc_file.specs.Reading.{StandsAt}
+use Rattle.ppc_file.proofs.Common.{◌≡◌, length, in_bits, StandsAt}
 use Rattle.ppc_file.proofs.read_bits.read_each.Given as goal
 
 abbrev pub invariant-loop : goal.invariant-loop

@@ -1,9 +1,4 @@
-use Rattle.std.proofs.Common.{◌≡◌, ℕ, ◌*◌, ◌||◌, Bool, false, refl, sym, ap, ◌∙◌}
-use Rattle.std.specs.List.{list_any}
-use Rattle.aig_core.specs.Aig.{node_count}
-use Rattle.aig_core.specs.And.{is_pair}
-use Rattle.aig_core.specs.declared.lit.Pair.{Pair}
-use Rattle.ppc_file.specs.Fields.{is_bad_pair}
+use Rattle.ppc_file.proofs.Common.{◌≡◌, ℕ, ◌*◌, ◌||◌, Bool, false, refl, sym, ap, ◌∙◌, list_any, node_count, is_pair, Pair, is_bad_pair}
 use Rattle.ppc_file.proofs.FieldTakes.{good_pair}
 use Rattle.ppc_file.proofs.ReadLemmas.{is_made, is_found}
 use Rattle.ppc_file.proofs.read_nodes.add_node.Goals as goal

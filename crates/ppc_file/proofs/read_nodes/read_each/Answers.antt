@@ -1,17 +1,5 @@
-use Rattle.std.proofs.Common.{◌≡◌, ◌<◌, ◌≤◌, List, [], ◌∷◌, ◌++◌, Err, length, replicate, ap, ◌∙◌, sym, arith, length-append}
-use Rattle.std.proofs.lemmas.List.{length-replicate}
+use Rattle.ppc_file.proofs.Common.{◌≡◌, ◌<◌, ◌≤◌, List, [], ◌∷◌, ◌++◌, Err, length, replicate, ap, ◌∙◌, sym, arith, length-append, length-replicate, passed_on, OrMemory, Aig, node_count, with_pairs, Parameter, Pair, PackParam, MOST_PACK_NODES, node_at, IsPackFault, refusal_of}
 use Rattle.tl_fault.proofs.OrMemoryLemmas.{OrMemory-map}
-use Rattle.tl_fault.proofs.PassedOn.{passed_on}
-use Rattle.tl_fault.specs.OrMemory.{OrMemory}
-use Rattle.aig_core.specs.Aig.{Aig, node_count}
-use Rattle.aig_core.specs.And.{with_pairs}
-use Rattle.aig_core.specs.declared.lit.Kind.TheVariants.{Parameter}
-use Rattle.aig_core.specs.declared.lit.Pair.{Pair}
-use Rattle.ppc_pack.specs.declared.pack.PackParam.{PackParam}
-use Rattle.ppc_pack.specs.declared.pack.TheConstants.{MOST_PACK_NODES}
-use Rattle.ppc_file.specs.Fields.{node_at}
-use Rattle.ppc_file.specs.PackFile.{IsPackFault}
-use Rattle.ppc_file.specs.Refusals.{refusal_of}
 use Rattle.ppc_file.proofs.ReadLemmas.{node_read, no_next_node}
 use Rattle.ppc_file.proofs.read_nodes.read_each.Goals as goal
 

@@ -1,8 +1,4 @@
-use Rattle.std.proofs.Common.{◌≡◌, length, replicate}
-use Rattle.aig_core.specs.declared.lit.Kind.TheVariants.{Parameter}
-use Rattle.ppc_pack.specs.declared.pack.TheConstants.{MOST_PACK_NODES}
-use Rattle.ppc_file.specs.Fronts.{in_nodes}
-use Rattle.ppc_file.specs.Reading.{StandsAt}
+use Rattle.ppc_file.proofs.Common.{◌≡◌, length, replicate, Parameter, MOST_PACK_NODES, in_nodes, StandsAt}
 use Rattle.ppc_file.proofs.read_nodes.read_each.Given as goal
 
 abbrev pub invariant-loop : goal.invariant-loop

@@ -1,11 +1,4 @@
-use Rattle.std.proofs.Common.{◌<◌, length, ap, ◌∙◌, arith, length-append, [], ◌∷◌, ◌++◌, List, ℕ, sym}
-use Rattle.std.proofs.lemmas.List.{map-append}
-use Rattle.tl_fault.proofs.PassedOn.{passed_on}
-use Rattle.tl_fault.specs.OrMemory.{OrMemory}
-use Rattle.ppc_pack.specs.declared.pack.PackParam.{PackParam}
-use Rattle.ppc_file.specs.Fields.{names_of_params}
-use Rattle.ppc_file.specs.PackFile.{IsPackFault}
-use Rattle.ppc_file.specs.Refusals.{refusal_of}
+use Rattle.ppc_file.proofs.Common.{◌<◌, length, ap, ◌∙◌, arith, length-append, [], ◌∷◌, ◌++◌, List, ℕ, sym, map-append, passed_on, OrMemory, PackParam, names_of_params, IsPackFault, refusal_of}
 use Rattle.ppc_file.proofs.ReadLemmas.{said, param_new, param_read, param_refused, all_params}
 use Rattle.ppc_file.proofs.read_params.read_each.Goals as goal
 

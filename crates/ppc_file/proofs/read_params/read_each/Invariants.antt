@@ -1,7 +1,4 @@
-use Rattle.std.proofs.Common.{◌≡◌, length}
-use Rattle.ppc_file.specs.Fields.{names_of_params}
-use Rattle.ppc_file.specs.Fronts.{in_params}
-use Rattle.ppc_file.specs.Reading.{StandsAt}
+use Rattle.ppc_file.proofs.Common.{◌≡◌, length, names_of_params, in_params, StandsAt}
 use Rattle.ppc_file.proofs.read_params.read_each.Given as goal
 
 abbrev pub invariant-loop : goal.invariant-loop

@@ -1,8 +1,4 @@
-use Rattle.std.proofs.Common.{arith}
-use Rattle.tl_fault.proofs.PassedOn.{passed_on}
-use Rattle.tl_fault.specs.OrMemory.{OrMemory}
-use Rattle.ppc_file.specs.PackFile.{IsPackFault}
-use Rattle.ppc_file.specs.Refusals.{refusal_of}
+use Rattle.ppc_file.proofs.Common.{arith, passed_on, OrMemory, IsPackFault, refusal_of}
 use Rattle.ppc_file.proofs.ReadLemmas.{said}
 use Rattle.ppc_file.proofs.StandLemmas.{stands_param_count, no_param_count}
 use Rattle.ppc_file.proofs.read_params.read_params.Goals as goal

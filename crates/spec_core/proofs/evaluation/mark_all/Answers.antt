@@ -1,5 +1,4 @@
-use Rattle.std.proofs.Common.{◌<◌, length, get_or, arith}
-use Rattle.list_laws.proofs.Members.{In-get_or}
+use Rattle.spec_core.proofs.Common.{◌<◌, length, get_or, arith, In-get_or}
 use Rattle.spec_core.proofs.evaluation.mark_all.Goals as goal
 
 pub mark-requires : goal.mark-requires

@@ -1,5 +1,4 @@
-use Rattle.std.proofs.Common.{◌≡◌, length, drop}
-use Rattle.spec_core.specs.Sweep.{with_marks}
+use Rattle.spec_core.proofs.Common.{◌≡◌, length, drop, with_marks}
 use Rattle.spec_core.proofs.evaluation.mark_all.Given as goal
 
 abbrev pub invariant-loop-n : goal.invariant-loop-n

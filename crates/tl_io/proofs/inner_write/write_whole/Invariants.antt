@@ -1,5 +1,4 @@
-use Rattle.std.proofs.Common.{◌≡◌, ◌++◌, List, ℕ, length}
-use Rattle.std.specs.Io.KnownBytes.{Appends}
+use Rattle.tl_io.proofs.Common.{◌≡◌, ◌++◌, List, ℕ, length, Appends}
 use Rattle.tl_io.proofs.inner_write.write_whole.Given as goal
 
 -- what is gone from the rest was appended

@@ -1,6 +1,5 @@
-use Rattle.std.proofs.Common.{◌≡◌, ◌≤◌, ◌-◌, ◌^◌, false, IsTrue, take, vec_len}
+use Rattle.tl_io.proofs.Common.{◌≡◌, ◌≤◌, ◌-◌, ◌^◌, false, IsTrue, take, vec_len, NAME_ROOM}
 use Rattle.tl_io.proofs.Reading.{IsSoFar}
-use Rattle.tl_io.specs.declared.told_name.TheConstants.{NAME_ROOM}
 use Rattle.tl_io.proofs.whole_file.slurp.Given as goal
 
 abbrev pub invariant-loop-text : goal.invariant-loop-text

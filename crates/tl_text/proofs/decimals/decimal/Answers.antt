@@ -1,6 +1,4 @@
-use Rattle.std.proofs.Common.{◌+◌, ◌-◌, ◌*◌, ◌<◌, arith, sym, inl, inr}
-use Rattle.std.specs.List.{slice_index}
-use Rattle.std.proofs.lemmas.Bool.{cases_lt}
+use Rattle.tl_text.proofs.Common.{◌+◌, ◌-◌, ◌*◌, ◌<◌, arith, sym, inl, inr, slice_index, cases_lt}
 use Rattle.tl_text.proofs.DecimalLemmas.{decimal_stops}
 use Rattle.tl_text.proofs.decimals.decimal.Goals as goal
 

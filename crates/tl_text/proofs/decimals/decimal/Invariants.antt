@@ -1,6 +1,4 @@
-use Rattle.std.proofs.Common.{◌≡◌, ◌<◌, drop}
-use Rattle.std.specs.List.{list_all}
-use Rattle.tl_text.specs.Decimal.{is_digit, number_from}
+use Rattle.tl_text.proofs.Common.{◌≡◌, ◌<◌, drop, list_all, is_digit, number_from}
 use Rattle.tl_text.proofs.decimals.decimal.Given as goal
 
 abbrev pub invariant-loop-b : goal.invariant-loop-b

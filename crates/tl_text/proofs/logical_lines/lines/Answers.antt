@@ -1,7 +1,5 @@
-use Rattle.std.proofs.Common.{◌+◌, ◌≡◌, Ok, [], length, drop, arith, sym, ap, ◌∙◌}
-use Rattle.std.specs.List.{slice_range}
+use Rattle.tl_text.proofs.Common.{◌+◌, ◌≡◌, Ok, [], length, drop, arith, sym, ap, ◌∙◌, slice_range, physical_lines}
 use Rattle.std.proofs.lemmas.Result.{err_from_is_err_and}
-use Rattle.tl_text.specs.Lines.{physical_lines}
 use Rattle.tl_text.proofs.LineLemmas.{reads_feed, reads_next, reads_other, reads_end, read_on, read_refused, all_lines-closed}
 use Rattle.tl_text.proofs.PlaceLemmas.{lines_inside, lines_clean}
 use Rattle.tl_text.proofs.TokenLemmas.{tokens_are}

@@ -1,5 +1,4 @@
-use Rattle.std.proofs.Common.{◌≡◌, ◌+◌, ◌≤◌}
-use Rattle.tl_text.specs.Lines.{lines_of}
+use Rattle.tl_text.proofs.Common.{◌≡◌, ◌+◌, ◌≤◌, lines_of}
 use Rattle.tl_text.proofs.LineLemmas.{reads}
 use Rattle.tl_text.proofs.logical_lines.lines.Given as goal
 

@@ -1,5 +1,4 @@
-use Rattle.std.proofs.Common.{arith, eqb, ℕ, sym, length, eq-eqb, get_or}
-use Rattle.std.proofs.lemmas.List.Sums.{position_or_len_is}
+use Rattle.tl_text.proofs.Common.{arith, eqb, ℕ, sym, length, eq-eqb, get_or, position_or_len_is}
 use Rattle.tl_text.proofs.physical_line.comment_place.Goals as goal
 
 pub returns-then-b-eq35 : goal.returns-then-b-eq35

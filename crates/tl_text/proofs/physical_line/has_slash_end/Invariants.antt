@@ -1,5 +1,4 @@
-use Rattle.std.proofs.Common.{◌≡◌, drop}
-use Rattle.tl_text.specs.Lines.{has_slash_end}
+use Rattle.tl_text.proofs.Common.{◌≡◌, drop, has_slash_end}
 use Rattle.tl_text.proofs.physical_line.has_slash_end.Given as goal
 
 abbrev pub invariant-loop-i : goal.invariant-loop-i

@@ -1,6 +1,4 @@
-use Rattle.std.proofs.Common.{◌≡◌, ◌+◌, ◌++◌, drop}
-use Rattle.tl_text.specs.Tokens.{tokens_at}
-use Rattle.tl_text.specs.Spans.{spans}
+use Rattle.tl_text.proofs.Common.{◌≡◌, ◌+◌, ◌++◌, drop, tokens_at, spans}
 use Rattle.tl_text.proofs.physical_line.push_tokens.Given as goal
 
 abbrev pub invariant-loop-b : goal.invariant-loop-b

@@ -1,6 +1,4 @@
-use Rattle.std.proofs.Common.{◌≡◌, ◌+◌, ◌≤◌, length, take}
-use Rattle.std.specs.List.{suffix_len}
-use Rattle.tl_text.specs.Tokens.{is_blank}
+use Rattle.tl_text.proofs.Common.{◌≡◌, ◌+◌, ◌≤◌, length, take, suffix_len, is_blank}
 use Rattle.tl_text.proofs.physical_line.trimmed_len.Given as goal
 
 abbrev pub invariant-loop-end : goal.invariant-loop-end

@@ -1,6 +1,4 @@
-use Rattle.aig_core.specs.Aig.{Aig}
-use Rattle.aig_core.specs.And.{and_of, with_pairs}
-use Rattle.aig_core.specs.Value.{IsProduct}
+use Rattle.aig_core.proofs.Common.{Aig, and_of, with_pairs, IsProduct}
 use Rattle.aig_core.proofs.ProductLemmas.{IsProduct-and_of, KeepsValues-and_of}
 use Rattle.aig_core.proofs.graph.Graph.and.Goals as goal
 

@@ -1,8 +1,4 @@
-use Rattle.std.proofs.Common.{arith, sym, length, ◌+◌, ◌≡◌, ap, None}
-use Rattle.std.specs.List.{position}
-use Rattle.aig_core.specs.Aig.{Aig, IsNormal}
-use Rattle.aig_core.specs.And.{is_pair}
-use Rattle.aig_core.specs.declared.lit.Pair.{Pair}
+use Rattle.aig_core.proofs.Common.{arith, sym, length, ◌+◌, ◌≡◌, ap, None, position, Aig, IsNormal, is_pair, Pair}
 use Rattle.aig_core.proofs.Keeping.{Keeps-push}
 use Rattle.aig_core.proofs.graph.Graph.and_in_order.Goals as goal
 

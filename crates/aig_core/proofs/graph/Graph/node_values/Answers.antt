@@ -1,8 +1,4 @@
-use Rattle.std.proofs.Common.{◌≡◌, ◌∙◌, ◌≤◌, List, Bool, [], ◌∷◌, false, ap, drop, length, subst, sym}
-use Rattle.list_laws.proofs.Places.{drop_past}
-use Rattle.aig_core.specs.declared.lit.Pair.{Pair}
-use Rattle.aig_core.specs.Aig.{Aig, AreNormal, first_and}
-use Rattle.aig_core.specs.Value.{FitsGraph}
+use Rattle.aig_core.proofs.Common.{◌≡◌, ◌∙◌, ◌≤◌, List, Bool, [], ◌∷◌, false, ap, drop, length, subst, sym, drop_past, Pair, Aig, AreNormal, first_and, FitsGraph}
 use Rattle.aig_core.proofs.FitLemmas.{fits_values_of}
 use Rattle.aig_core.proofs.ValueLemmas.{values_from, values_of}
 use Rattle.aig_core.proofs.graph.Graph.node_values.Goals as goal

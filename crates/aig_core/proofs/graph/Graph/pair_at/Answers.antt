@@ -1,7 +1,4 @@
-use Rattle.std.proofs.Common.{arith, ◌≡◌, ℕ, ◌-◌, ◌+◌, ◌<◌, List, length, get_or, ap, subst, sym}
-use Rattle.std.proofs.lemmas.Option.{slice_get-get_or}
-use Rattle.aig_core.specs.declared.lit.Pair.{Pair}
-use Rattle.aig_core.specs.Aig.{Aig, IsNormal}
+use Rattle.aig_core.proofs.Common.{arith, ◌≡◌, ℕ, ◌-◌, ◌+◌, ◌<◌, List, length, get_or, ap, subst, sym, slice_get-get_or, Pair, Aig, IsNormal}
 use Rattle.aig_core.proofs.graph.Graph.pair_at.Goals as goal
 
 pub returns-clause-normal : goal.returns-clause-normal

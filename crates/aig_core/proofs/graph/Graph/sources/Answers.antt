@@ -1,5 +1,4 @@
-use Rattle.std.proofs.Common.{subst}
-use Rattle.aig_core.specs.Aig.{Aig, first_and, AreNormal}
+use Rattle.aig_core.proofs.Common.{subst, Aig, first_and, AreNormal}
 use Rattle.aig_core.proofs.FitLemmas.{one_fit}
 use Rattle.aig_core.proofs.graph.Graph.sources.Goals as goal
 

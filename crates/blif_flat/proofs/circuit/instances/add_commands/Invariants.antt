@@ -1,5 +1,4 @@
-use Rattle.blif_flat.proofs.Common.{◌≡◌, drop}
-use Rattle.blif_flat.specs.{kind_test, with_commands}
+use Rattle.blif_flat.proofs.Common.{◌≡◌, drop, kind_test, with_commands}
 use Rattle.blif_flat.proofs.circuit.instances.add_commands.Given as goal
 
 abbrev pub invariant-loop-place : goal.invariant-loop-place

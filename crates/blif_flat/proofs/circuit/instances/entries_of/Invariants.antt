@@ -1,5 +1,4 @@
-use Rattle.blif_flat.proofs.Common.{◌≡◌, ◌+◌, ◌<◌, ◌^◌, [], length, drop}
-use Rattle.blif_flat.specs.{subckts_of, entries_from}
+use Rattle.blif_flat.proofs.Common.{◌≡◌, ◌+◌, ◌<◌, ◌^◌, [], length, drop, subckts_of, entries_from}
 use Rattle.blif_flat.proofs.circuit.instances.entries_of.Given as goal
 
 abbrev pub invariant-loop-command : goal.invariant-loop-command

@@ -1,5 +1,4 @@
-use Rattle.blif_flat.proofs.Common.{◌≡◌, [], drop}
-use Rattle.blif_flat.specs.{kind_test, with_rows}
+use Rattle.blif_flat.proofs.Common.{◌≡◌, [], drop, kind_test, with_rows}
 use Rattle.blif_flat.proofs.circuit.instances.gates.Given as goal
 
 abbrev pub invariant-loop-row : goal.invariant-loop-row

@@ -1,5 +1,4 @@
-use Rattle.blif_flat.proofs.Common.{◌-◌, length, reverse}
-use Rattle.blif_flat.specs.{Listed, most_weight}
+use Rattle.blif_flat.proofs.Common.{◌-◌, length, reverse, Listed, most_weight}
 use Rattle.blif_flat.proofs.circuit.instances.instances.Given as goal
 
 abbrev pub invariant-loop-entry : goal.invariant-loop-entry

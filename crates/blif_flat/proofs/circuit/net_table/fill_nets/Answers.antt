@@ -1,6 +1,4 @@
-use Rattle.blif_flat.proofs.Common.{map, ap, ◌∙◌}
-use Rattle.blif_flat.specs.{ModelValue, subckts_of}
-use Rattle.netlist.specs.LibraryValue.{LibraryValue}
+use Rattle.blif_flat.proofs.Common.{map, ap, ◌∙◌, ModelValue, subckts_of, LibraryValue}
 use Rattle.blif_flat.proofs.Connections.NetAllLemmas.{inputs_fit, filled}
 use Rattle.blif_flat.proofs.circuit.net_table.fill_nets.Goals as goal
 

@@ -1,5 +1,4 @@
-use Rattle.blif_flat.proofs.Common.{◌≡◌, ◌++◌, map, drop}
-use Rattle.blif_flat.specs.{subckts_of}
+use Rattle.blif_flat.proofs.Common.{◌≡◌, ◌++◌, map, drop, subckts_of}
 use Rattle.blif_flat.proofs.circuit.net_table.lines_of.Given as goal
 
 abbrev pub invariant-loop-command : goal.invariant-loop-command

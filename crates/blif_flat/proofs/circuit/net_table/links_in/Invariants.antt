@@ -1,6 +1,4 @@
-use Rattle.blif_flat.proofs.Common.{◌≡◌}
-use Rattle.netlist.specs.LibraryValue.{LibraryValue}
-use Rattle.blif_flat.specs.{IsNets, links_in, AreLinesOf}
+use Rattle.blif_flat.proofs.Common.{◌≡◌, LibraryValue, IsNets, links_in, AreLinesOf}
 use Rattle.blif_flat.proofs.circuit.net_table.links_in.Given as goal
 
 abbrev pub invariant-loop-j : goal.invariant-loop-j

@@ -1,5 +1,4 @@
-use Rattle.blif_flat.proofs.Common.{◌≡◌, ◌-◌, suc, ap, ◌∙◌, arith}
-use Rattle.blif_flat.specs.{NetsValue, links_out}
+use Rattle.blif_flat.proofs.Common.{◌≡◌, ◌-◌, suc, ap, ◌∙◌, arith, NetsValue, links_out}
 use Rattle.blif_flat.proofs.circuit.net_table.links_out.Goals as goal
 
 pub loop-left-preserved : goal.loop-left-preserved

@@ -1,6 +1,4 @@
-use Rattle.blif_flat.proofs.Common.{◌≡◌, length}
-use Rattle.netlist.specs.LibraryValue.{LibraryValue}
-use Rattle.blif_flat.specs.{IsNets, links_out, AreLinesOf}
+use Rattle.blif_flat.proofs.Common.{◌≡◌, length, LibraryValue, IsNets, links_out, AreLinesOf}
 use Rattle.blif_flat.proofs.circuit.net_table.links_out.Given as goal
 
 abbrev pub invariant-loop-left : goal.invariant-loop-left

@@ -1,5 +1,4 @@
-use Rattle.blif_flat.proofs.Common.{◌≡◌, drop}
-use Rattle.blif_flat.specs.{IsNets, with_covers}
+use Rattle.blif_flat.proofs.Common.{◌≡◌, drop, IsNets, with_covers}
 use Rattle.blif_flat.proofs.circuit.net_table.set_covers.Given as goal
 
 abbrev pub invariant-loop-k : goal.invariant-loop-k

@@ -1,5 +1,4 @@
-use Rattle.blif_flat.proofs.Common.{◌≡◌, drop}
-use Rattle.blif_flat.specs.{IsNets, with_inputs}
+use Rattle.blif_flat.proofs.Common.{◌≡◌, drop, IsNets, with_inputs}
 use Rattle.blif_flat.proofs.circuit.net_table.set_names.Given as goal
 
 abbrev pub invariant-loop-name : goal.invariant-loop-name

@@ -1,5 +1,4 @@
-use Rattle.blif_flat.proofs.Common.{◌≡◌, ◌++◌, map, drop}
-use Rattle.blif_flat.specs.{distinct_names}
+use Rattle.blif_flat.proofs.Common.{◌≡◌, ◌++◌, map, drop, distinct_names}
 use Rattle.blif_flat.proofs.circuit.nets.all_distinct_names.Given as goal
 
 abbrev pub invariant-loop-model : goal.invariant-loop-model

@@ -1,6 +1,4 @@
-use Rattle.blif_flat.proofs.Common.{◌≡◌, ◌≤◌, map, sym, ap, ◌∙◌, subst}
-use Rattle.netlist.specs.LibraryValue.{LibraryValue}
-use Rattle.blif_flat.specs.{paths_of, AreEmptyNets, distinct_names, starts_from, slot_count, most_weight}
+use Rattle.blif_flat.proofs.Common.{◌≡◌, ◌≤◌, map, sym, ap, ◌∙◌, subst, LibraryValue, paths_of, AreEmptyNets, distinct_names, starts_from, slot_count, most_weight}
 use Rattle.blif_flat.proofs.Connections.NetStartLemmas.{few_slots, nets_made}
 use Rattle.blif_flat.proofs.circuit.nets.make_nets.Goals as goal
 

@@ -1,5 +1,4 @@
-use Rattle.blif_flat.proofs.Common.{◌+◌, drop, drop_at, ap, sym, ◌∙◌}
-use Rattle.blif_flat.specs.{is_input, NetsValue, pairs_in}
+use Rattle.blif_flat.proofs.Common.{◌+◌, drop, drop_at, ap, sym, ◌∙◌, is_input, NetsValue, pairs_in}
 use Rattle.blif_flat.proofs.circuit.nets.pairs_in.Goals as goal
 
 pub loop-pair-preserved : goal.loop-pair-preserved

@@ -1,5 +1,4 @@
-use Rattle.blif_flat.proofs.Common.{◌≡◌, drop}
-use Rattle.blif_flat.specs.{ModelValue, is_input, ports_value, pairs_in, IsNets}
+use Rattle.blif_flat.proofs.Common.{◌≡◌, drop, ModelValue, is_input, ports_value, pairs_in, IsNets}
 use Rattle.blif_flat.proofs.circuit.nets.pairs_in.Given as goal
 
 abbrev pub invariant-loop-pair : goal.invariant-loop-pair

@@ -1,5 +1,4 @@
-use Rattle.blif_flat.proofs.Common.{◌+◌, drop, drop_at, ap, sym, ◌∙◌}
-use Rattle.blif_flat.specs.{is_output, NetsValue, pairs_out}
+use Rattle.blif_flat.proofs.Common.{◌+◌, drop, drop_at, ap, sym, ◌∙◌, is_output, NetsValue, pairs_out}
 use Rattle.blif_flat.proofs.circuit.nets.pairs_out.Goals as goal
 
 pub loop-pair-preserved : goal.loop-pair-preserved

@@ -1,5 +1,4 @@
-use Rattle.blif_flat.proofs.Common.{◌≡◌, ◌+◌, ◌++◌, drop}
-use Rattle.blif_flat.specs.{starts_from, slot_count}
+use Rattle.blif_flat.proofs.Common.{◌≡◌, ◌+◌, ◌++◌, drop, starts_from, slot_count}
 use Rattle.blif_flat.proofs.circuit.nets.row_starts.Given as goal
 
 abbrev pub invariant-loop-row : goal.invariant-loop-row

@@ -1,5 +1,4 @@
-use Rattle.blif_flat.proofs.Common.{◌≡◌, ℕ, ◌+◌, ◌<◌, ◌≤◌, get_or, length, List, Some, None, refl, sym, ap, ◌∙◌, subst, arith, slice_get, slice_get_past, slice_get_read}
-use Rattle.blif_flat.specs.{NetsValue}
+use Rattle.blif_flat.proofs.Common.{◌≡◌, ℕ, ◌+◌, ◌<◌, ◌≤◌, get_or, length, List, Some, None, refl, sym, ap, ◌∙◌, subst, arith, slice_get, slice_get_past, slice_get_read, NetsValue}
 use Rattle.blif_flat.proofs.Connections.NetCopyLemmas.{no_start, no_names, slot_by_place, slot_fits}
 use Rattle.blif_flat.proofs.circuit.nets.slot_of.Goals as goal
 

@@ -1,5 +1,4 @@
-use Rattle.blif_flat.proofs.Common.{◌≡◌, map, drop}
-use Rattle.blif_flat.specs.{Pair, with_names}
+use Rattle.blif_flat.proofs.Common.{◌≡◌, map, drop, Pair, with_names}
 use Rattle.blif_flat.proofs.circuit.nets.with_actuals.Given as goal
 
 abbrev pub invariant-loop-pair : goal.invariant-loop-pair

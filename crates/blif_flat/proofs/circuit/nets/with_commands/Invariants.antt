@@ -1,5 +1,4 @@
-use Rattle.blif_flat.proofs.Common.{◌≡◌, drop}
-use Rattle.blif_flat.specs.{commands_names, with_names}
+use Rattle.blif_flat.proofs.Common.{◌≡◌, drop, commands_names, with_names}
 use Rattle.blif_flat.proofs.circuit.nets.with_commands.Given as goal
 
 abbrev pub invariant-loop-command : goal.invariant-loop-command

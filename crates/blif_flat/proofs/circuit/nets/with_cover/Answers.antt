@@ -1,7 +1,4 @@
-use Rattle.blif_flat.proofs.Common.{◌≡◌, [], ◌∷◌, ap, sym, ◌∙◌}
-use Rattle.netlist.specs.CoverValue.{CoverValue}
-use Rattle.blif_flat.specs.{with_name, with_names}
-use Rattle.tl_text.proofs.NameSetLemmas.{with_names-append}
+use Rattle.blif_flat.proofs.Common.{◌≡◌, [], ◌∷◌, ap, sym, ◌∙◌, CoverValue, with_name, with_names, with_names-append}
 use Rattle.blif_flat.proofs.circuit.nets.with_cover.Goals as goal
 
 pub returns : goal.returns

@@ -1,5 +1,4 @@
-use Rattle.blif_flat.proofs.Common.{◌≡◌, [], drop, Option, Some}
-use Rattle.blif_flat.specs.{ModelValue, model_at, FlatErr, paths_of, places_at, is_gate, ClockData}
+use Rattle.blif_flat.proofs.Common.{◌≡◌, [], drop, Option, Some, ModelValue, model_at, FlatErr, paths_of, places_at, is_gate, ClockData}
 use Rattle.blif_flat.proofs.clock.clock_check.check_data.Given as goal
 
 abbrev pub invariant-loop-gate : goal.invariant-loop-gate

@@ -1,5 +1,4 @@
-use Rattle.blif_flat.proofs.Common.{◌≡◌, drop}
-use Rattle.blif_flat.specs.{names_fault}
+use Rattle.blif_flat.proofs.Common.{◌≡◌, drop, names_fault}
 use Rattle.blif_flat.proofs.clock.clock_check.check_names.Given as goal
 
 abbrev pub invariant-loop-name : goal.invariant-loop-name

@@ -1,5 +1,4 @@
-use Rattle.blif_flat.proofs.Common.{◌≡◌, ◌++◌, not, drop, filter}
-use Rattle.blif_flat.specs.{has_name}
+use Rattle.blif_flat.proofs.Common.{◌≡◌, ◌++◌, not, drop, filter, has_name}
 use Rattle.blif_flat.proofs.clock.clocks.add_clocks.Given as goal
 
 abbrev pub invariant-loop-name : goal.invariant-loop-name

@@ -1,5 +1,4 @@
-use Rattle.blif_flat.proofs.Common.{◌≡◌, ◌∙◌, Bool, List, ap, subst, IfOk}
-use Rattle.blif_flat.specs.{ModelValue}
+use Rattle.blif_flat.proofs.Common.{◌≡◌, ◌∙◌, Bool, List, ap, subst, IfOk, ModelValue}
 use Rattle.blif_flat.proofs.Clocking.ClockStepLemmas.{marked_inputs}
 use Rattle.blif_flat.proofs.clock.clocks.clock_marks.Goals as goal
 

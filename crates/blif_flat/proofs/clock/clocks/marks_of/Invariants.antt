@@ -1,5 +1,4 @@
-use Rattle.blif_flat.proofs.Common.{◌≡◌, ◌++◌, ◌||◌, map, drop, slice_get, option_and_then}
-use Rattle.blif_flat.specs.{has_name, is_control}
+use Rattle.blif_flat.proofs.Common.{◌≡◌, ◌++◌, ◌||◌, map, drop, slice_get, option_and_then, has_name, is_control}
 use Rattle.blif_flat.proofs.clock.clocks.marks_of.Given as goal
 
 abbrev pub invariant-loop-input : goal.invariant-loop-input

@@ -1,6 +1,4 @@
-use Rattle.blif_flat.proofs.Common.{IfOk-weaker, IfErr-weaker}
-use Rattle.blif_flat.specs.{input_at, refusal_of}
-use Rattle.tl_fault.proofs.OrMemoryLemmas.{Unless-map}
+use Rattle.blif_flat.proofs.Common.{IfOk-weaker, IfErr-weaker, input_at, refusal_of, Unless-map}
 use Rattle.blif_flat.proofs.Clocking.ClockStepLemmas.{control_read, control_met, control_refused}
 use Rattle.blif_flat.proofs.clock.controls.check_control.Goals as goal
 

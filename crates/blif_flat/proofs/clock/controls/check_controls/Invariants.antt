@@ -1,5 +1,4 @@
-use Rattle.blif_flat.proofs.Common.{◌≡◌, ◌<◌, ℕ, length, drop, Some}
-use Rattle.blif_flat.specs.{is_latch, paths_of, places_at, input_at, CameTo}
+use Rattle.blif_flat.proofs.Common.{◌≡◌, ◌<◌, ℕ, length, drop, Some, is_latch, paths_of, places_at, input_at, CameTo}
 use Rattle.blif_flat.proofs.clock.controls.check_controls.Given as goal
 
 abbrev pub invariant-loop-gate : goal.invariant-loop-gate

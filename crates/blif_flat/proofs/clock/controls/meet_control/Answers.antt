@@ -1,7 +1,4 @@
-use Rattle.blif_flat.proofs.Common.{◌≡◌, ◌<◌, ◌∙◌, length, Some, sym, ap, subst, same_Some}
-use Rattle.blif_flat.specs.{refusal_of, table_of}
-use Rattle.tl_fault.proofs.OrMemoryLemmas.{Unless-map}
-use Rattle.tl_fault.proofs.PassedOn.{passed_on}
+use Rattle.blif_flat.proofs.Common.{◌≡◌, ◌<◌, ◌∙◌, length, Some, sym, ap, subst, same_Some, refusal_of, table_of, Unless-map, passed_on}
 use Rattle.netlist.specs.declared.flat.Net.TheVariants.{Input, Latch, Cover}
 use Rattle.blif_flat.proofs.Clocking.ClockStepLemmas.{none_read, met_input, met_another, met_latch, met_cover, input_within, latch_within, cover_within, kept_within}
 use Rattle.blif_flat.proofs.clock.controls.meet_control.Goals.{In-Some-Input, In-Some-Latch, In-Some-Cover}

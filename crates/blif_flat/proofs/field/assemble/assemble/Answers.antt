@@ -1,5 +1,4 @@
-use Rattle.blif_flat.proofs.Common.{◌≤◌, List, [], ap, ◌∙◌, refl, subst, subst₂, arith, length, map, reverse}
-use Rattle.blif_flat.specs.{ModelValue, OutPort, FlatLatch, clock_test, input_name, cover_reads, most_weight, root_numbers, PostsAll, regular_numbers}
+use Rattle.blif_flat.proofs.Common.{◌≤◌, List, [], ap, ◌∙◌, refl, subst, subst₂, arith, length, map, reverse, ModelValue, OutPort, FlatLatch, clock_test, input_name, cover_reads, most_weight, root_numbers, PostsAll, regular_numbers}
 use Rattle.blif_flat.proofs.Fields.AssembleLemmas.{few_marks, covers_known, latches_known, nets_known, names_known, few_covers, counted_as, fields}
 use Rattle.blif_flat.proofs.field.assemble.assemble.Goals as goal
 

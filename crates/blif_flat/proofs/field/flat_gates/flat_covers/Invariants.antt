@@ -1,5 +1,4 @@
-use Rattle.blif_flat.proofs.Common.{◌≡◌, ◌++◌, map, drop}
-use Rattle.blif_flat.specs.{flat_cover}
+use Rattle.blif_flat.proofs.Common.{◌≡◌, ◌++◌, map, drop, flat_cover}
 use Rattle.blif_flat.proofs.field.flat_gates.flat_covers.Given as goal
 
 abbrev pub invariant-loop-gate : goal.invariant-loop-gate

@@ -1,5 +1,4 @@
-use Rattle.blif_flat.proofs.Common.{sym, subst}
-use Rattle.blif_flat.specs.{regular_places, AreFlatLatches, paths_of, flat_latch}
+use Rattle.blif_flat.proofs.Common.{sym, subst, regular_places, AreFlatLatches, paths_of, flat_latch}
 use Rattle.blif_flat.proofs.Fields.RegularNetLemmas.{all_mapped, latches_are}
 use Rattle.blif_flat.proofs.field.flat_gates.flat_latches.Goals as goal
 

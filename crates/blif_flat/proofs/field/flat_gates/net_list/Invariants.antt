@@ -1,5 +1,4 @@
-use Rattle.blif_flat.proofs.Common.{◌≡◌, ◌++◌, drop}
-use Rattle.blif_flat.specs.{regular_nets}
+use Rattle.blif_flat.proofs.Common.{◌≡◌, ◌++◌, drop, regular_nets}
 use Rattle.blif_flat.proofs.field.flat_gates.net_list.Given as goal
 
 abbrev pub invariant-loop-name : goal.invariant-loop-name

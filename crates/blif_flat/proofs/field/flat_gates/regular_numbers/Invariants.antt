@@ -1,5 +1,4 @@
-use Rattle.blif_flat.proofs.Common.{◌≡◌, ◌++◌, ◌≤◌, drop}
-use Rattle.blif_flat.specs.{regular_numbers}
+use Rattle.blif_flat.proofs.Common.{◌≡◌, ◌++◌, ◌≤◌, drop, regular_numbers}
 use Rattle.blif_flat.proofs.field.flat_gates.regular_numbers.Given as goal
 
 abbrev pub invariant-loop-mark : goal.invariant-loop-mark

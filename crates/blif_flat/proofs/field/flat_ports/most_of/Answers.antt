@@ -1,5 +1,4 @@
-use Rattle.blif_flat.proofs.Common.{length, ap, arith}
-use Rattle.list_laws.proofs.Items.{member_at}
+use Rattle.blif_flat.proofs.Common.{length, ap, arith, member_at}
 use Rattle.blif_flat.proofs.field.flat_ports.most_of.Goals as goal
 
 pub underscores-requires : goal.underscores-requires

@@ -1,5 +1,4 @@
-use Rattle.blif_flat.proofs.Common.{◌≡◌, max, drop}
-use Rattle.blif_flat.specs.{most_underscores}
+use Rattle.blif_flat.proofs.Common.{◌≡◌, max, drop, most_underscores}
 use Rattle.blif_flat.proofs.field.flat_ports.most_of.Given as goal
 
 abbrev pub invariant-loop-name : goal.invariant-loop-name

@@ -1,5 +1,4 @@
-use Rattle.blif_flat.proofs.Common.{◌≡◌, ◌++◌, map, drop}
-use Rattle.blif_flat.specs.{out_port}
+use Rattle.blif_flat.proofs.Common.{◌≡◌, ◌++◌, map, drop, out_port}
 use Rattle.blif_flat.proofs.field.flat_ports.out_ports.Given as goal
 
 abbrev pub invariant-loop-name : goal.invariant-loop-name

@@ -1,5 +1,4 @@
-use Rattle.blif_flat.proofs.Common.{◌≡◌, ◌+◌, ◌≤◌, drop}
-use Rattle.blif_flat.specs.{underscores}
+use Rattle.blif_flat.proofs.Common.{◌≡◌, ◌+◌, ◌≤◌, drop, underscores}
 use Rattle.blif_flat.proofs.field.flat_ports.underscores.Given as goal
 
 abbrev pub invariant-loop-byte : goal.invariant-loop-byte

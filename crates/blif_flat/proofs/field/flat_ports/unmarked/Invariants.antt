@@ -1,5 +1,4 @@
-use Rattle.blif_flat.proofs.Common.{◌≡◌, [], drop}
-use Rattle.blif_flat.specs.{unmarked_after}
+use Rattle.blif_flat.proofs.Common.{◌≡◌, [], drop, unmarked_after}
 use Rattle.blif_flat.proofs.field.flat_ports.unmarked.Given as goal
 
 abbrev pub invariant-loop-i : goal.invariant-loop-i

@@ -1,5 +1,4 @@
-use Rattle.blif_flat.proofs.Common.{◌≡◌, ◌++◌, drop}
-use Rattle.blif_flat.specs.{cover_numbers, latch_nets}
+use Rattle.blif_flat.proofs.Common.{◌≡◌, ◌++◌, drop, cover_numbers, latch_nets}
 use Rattle.blif_flat.proofs.field.loops.all_roots.Given as goal
 
 abbrev pub invariant-loop-latch : goal.invariant-loop-latch

@@ -1,6 +1,4 @@
-use Rattle.blif_flat.proofs.Common.{Some, ◌∙◌, ap, subst}
-use Rattle.blif_flat.specs.{cover_edges}
-use Rattle.depth_first.specs.Walk.{VisitedAll}
+use Rattle.blif_flat.proofs.Common.{Some, ◌∙◌, ap, subst, cover_edges, VisitedAll}
 use Rattle.blif_flat.proofs.Fields.NumberWalkLemmas.{cover_nodes, clear, not_stopped, closed}
 use Rattle.blif_flat.proofs.field.loops.find_loop.Goals as goal
 

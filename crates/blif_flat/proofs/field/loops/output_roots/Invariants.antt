@@ -1,5 +1,4 @@
-use Rattle.blif_flat.proofs.Common.{◌≡◌, ◌++◌, map, drop}
-use Rattle.blif_flat.specs.{OutPort, cover_numbers}
+use Rattle.blif_flat.proofs.Common.{◌≡◌, ◌++◌, map, drop, OutPort, cover_numbers}
 use Rattle.blif_flat.proofs.field.loops.output_roots.Given as goal
 
 abbrev pub invariant-loop-port : goal.invariant-loop-port

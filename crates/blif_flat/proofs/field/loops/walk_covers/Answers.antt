@@ -1,5 +1,4 @@
-use Rattle.blif_flat.proofs.Common.{◌∙◌, ap, length, reverse, subst}
-use Rattle.blif_flat.specs.{WalkValue, Searched}
+use Rattle.blif_flat.proofs.Common.{◌∙◌, ap, length, reverse, subst, WalkValue, Searched}
 use Rattle.blif_flat.proofs.Fields.NumberWalkLemmas.{range_below, new_ready, loop_of_roots, loop_of_others, order_of_roots}
 use Rattle.blif_flat.proofs.field.loops.walk_covers.Goals as goal
 

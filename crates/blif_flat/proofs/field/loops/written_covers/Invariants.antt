@@ -1,5 +1,4 @@
-use Rattle.blif_flat.proofs.Common.{take}
-use Rattle.blif_flat.specs.{is_cover, places_at, paths_of, AreWrittenAt}
+use Rattle.blif_flat.proofs.Common.{take, is_cover, places_at, paths_of, AreWrittenAt}
 use Rattle.blif_flat.proofs.field.loops.written_covers.Given as goal
 
 abbrev pub invariant-loop-number : goal.invariant-loop-number

@@ -1,5 +1,4 @@
-use Rattle.blif_flat.proofs.Common.{◌++◌, List, ℕ, ap, ◌∙◌}
-use Rattle.blif_flat.specs.{path_text}
+use Rattle.blif_flat.proofs.Common.{◌++◌, List, ℕ, ap, ◌∙◌, path_text}
 use Rattle.blif_flat.proofs.Hierarchy.PlaceLemmas.{path_text-last}
 use Rattle.blif_flat.proofs.field.written.written_path.Goals as goal
 

@@ -1,5 +1,4 @@
-use Rattle.blif_flat.proofs.Common.{◌≡◌, ◌++◌, length}
-use Rattle.blif_flat.specs.{path_text}
+use Rattle.blif_flat.proofs.Common.{◌≡◌, ◌++◌, length, path_text}
 use Rattle.blif_flat.proofs.field.written.written_path.Given as goal
 
 abbrev pub invariant-loop-ordinal : goal.invariant-loop-ordinal

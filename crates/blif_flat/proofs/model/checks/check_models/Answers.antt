@@ -1,6 +1,4 @@
-use Rattle.blif_flat.proofs.Common.{◌∙◌, ap, reverse, subst, sym, reverse-reverse, In, at_within, reversed_in}
-use Rattle.blif_flat.specs.{models_fault, Tells, models_at}
-use Rattle.tl_fault.proofs.PassedOn.{passed_on}
+use Rattle.blif_flat.proofs.Common.{◌∙◌, ap, reverse, subst, sym, reverse-reverse, In, at_within, reversed_in, models_fault, Tells, models_at, passed_on}
 use Rattle.blif_flat.proofs.Faults.FaultOnceLemmas.{walk_fault, heavy_fault, driver_fault, comes_past}
 use Rattle.blif_flat.proofs.model.checks.check_models.Goals as goal
 

@@ -1,5 +1,4 @@
-use Rattle.blif_flat.proofs.Common.{◌≡◌, drop}
-use Rattle.blif_flat.specs.{ModelValue, undriven_in, input_actuals, ports_value}
+use Rattle.blif_flat.proofs.Common.{◌≡◌, drop, ModelValue, undriven_in, input_actuals, ports_value}
 use Rattle.blif_flat.proofs.model.drivers.check_actuals.Given as goal
 
 abbrev pub invariant-loop-pair : goal.invariant-loop-pair

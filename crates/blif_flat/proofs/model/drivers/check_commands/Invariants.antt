@@ -1,6 +1,4 @@
-use Rattle.blif_flat.proofs.Common.{◌≡◌, drop}
-use Rattle.netlist.specs.LibraryValue.{LibraryValue}
-use Rattle.blif_flat.specs.{undriven_fault, AreOf}
+use Rattle.blif_flat.proofs.Common.{◌≡◌, drop, LibraryValue, undriven_fault, AreOf}
 use Rattle.blif_flat.proofs.model.drivers.check_commands.Given as goal
 
 abbrev pub invariant-loop-command : goal.invariant-loop-command

@@ -1,5 +1,4 @@
-use Rattle.blif_flat.proofs.Common.{◌≡◌, drop}
-use Rattle.blif_flat.specs.{models_fault, models_at}
+use Rattle.blif_flat.proofs.Common.{◌≡◌, drop, models_fault, models_at}
 use Rattle.blif_flat.proofs.model.drivers.check_drivers.Given as goal
 
 abbrev pub invariant-loop-number : goal.invariant-loop-number

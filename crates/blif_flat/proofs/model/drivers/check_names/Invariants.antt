@@ -1,5 +1,4 @@
-use Rattle.blif_flat.proofs.Common.{◌≡◌, drop}
-use Rattle.blif_flat.specs.{undriven_in}
+use Rattle.blif_flat.proofs.Common.{◌≡◌, drop, undriven_in}
 use Rattle.blif_flat.proofs.model.drivers.check_names.Given as goal
 
 abbrev pub invariant-loop-name : goal.invariant-loop-name

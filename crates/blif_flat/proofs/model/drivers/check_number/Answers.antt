@@ -1,6 +1,4 @@
-use Rattle.blif_flat.proofs.Common.{length, ap, sym, subst, refl, ◌∙◌, slice_get, slice_get_read, slice_get_past}
-use Rattle.netlist.specs.LibraryValue.{LibraryValue}
-use Rattle.blif_flat.specs.{Tells, fault_of}
+use Rattle.blif_flat.proofs.Common.{length, ap, sym, subst, refl, ◌∙◌, slice_get, slice_get_read, slice_get_past, LibraryValue, Tells, fault_of}
 use Rattle.blif_flat.proofs.model.drivers.check_number.Goals as goal
 
 pub returns-in-None : goal.returns-in-None

@@ -1,6 +1,4 @@
-use Rattle.blif_flat.proofs.Common.{◌≡◌, ◌+◌, List, [], ◌∷◌, ◌++◌, drop, ap, sym, ◌∙◌}
-use Rattle.blif_flat.specs.{Pair, twice_in, output_actuals}
-use Rattle.tl_fault.proofs.PassedOn.{passed_on}
+use Rattle.blif_flat.proofs.Common.{◌≡◌, ◌+◌, List, [], ◌∷◌, ◌++◌, drop, ap, sym, ◌∙◌, Pair, twice_in, output_actuals, passed_on}
 use Rattle.blif_flat.proofs.Models.DrivenLemmas.{drive_split, names_split, told, gone_on}
 use Rattle.blif_flat.proofs.model.drivers.drive_actuals.Goals as goal
 

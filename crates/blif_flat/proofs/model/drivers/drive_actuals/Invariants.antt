@@ -1,5 +1,4 @@
-use Rattle.blif_flat.proofs.Common.{◌≡◌, ◌++◌, drop}
-use Rattle.blif_flat.specs.{ModelValue, twice_in, output_actuals, ports_value}
+use Rattle.blif_flat.proofs.Common.{◌≡◌, ◌++◌, drop, ModelValue, twice_in, output_actuals, ports_value}
 use Rattle.blif_flat.proofs.model.drivers.drive_actuals.Given as goal
 
 abbrev pub invariant-loop-pair : goal.invariant-loop-pair

@@ -1,6 +1,4 @@
-use Rattle.blif_flat.proofs.Common.{◌≡◌, ◌++◌, drop}
-use Rattle.netlist.specs.LibraryValue.{LibraryValue}
-use Rattle.blif_flat.specs.{twice_fault, all_drives, AreOf}
+use Rattle.blif_flat.proofs.Common.{◌≡◌, ◌++◌, drop, LibraryValue, twice_fault, all_drives, AreOf}
 use Rattle.blif_flat.proofs.model.drivers.drive_commands.Given as goal
 
 abbrev pub invariant-loop-command : goal.invariant-loop-command

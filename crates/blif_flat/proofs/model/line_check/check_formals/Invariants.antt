@@ -1,5 +1,4 @@
-use Rattle.blif_flat.proofs.Common.{◌≡◌, drop}
-use Rattle.blif_flat.specs.{foreign_formal}
+use Rattle.blif_flat.proofs.Common.{◌≡◌, drop, foreign_formal}
 use Rattle.blif_flat.proofs.model.line_check.check_formals.Given as goal
 
 abbrev pub invariant-loop-pair : goal.invariant-loop-pair

@@ -1,5 +1,4 @@
-use Rattle.blif_flat.proofs.Common.{◌≡◌, drop}
-use Rattle.blif_flat.specs.{open_among}
+use Rattle.blif_flat.proofs.Common.{◌≡◌, drop, open_among}
 use Rattle.blif_flat.proofs.model.line_check.check_inputs.Given as goal
 
 abbrev pub invariant-loop-name : goal.invariant-loop-name

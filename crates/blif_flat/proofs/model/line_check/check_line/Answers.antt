@@ -1,7 +1,4 @@
-use Rattle.blif_flat.proofs.Common.{◌≡◌, ◌∙◌, subst, ap, both_ways}
-use Rattle.netlist.specs.SubcktValue.{SubcktValue}
-use Rattle.blif_flat.specs.{IsModelOf}
-use Rattle.tl_fault.proofs.PassedOn.{passed_on}
+use Rattle.blif_flat.proofs.Common.{◌≡◌, ◌∙◌, subst, ap, both_ways, SubcktValue, IsModelOf, passed_on}
 use Rattle.blif_flat.proofs.Models.ModelPathLemmas.{recursive_err, child_err, child_ok}
 use Rattle.blif_flat.proofs.model.line_check.check_line.Goals as goal
 

@@ -1,8 +1,4 @@
-use Rattle.blif_flat.proofs.Common.{◌∙◌, ap, IfErr-weaker}
-use Rattle.netlist.specs.SubcktValue.{SubcktValue}
-use Rattle.blif_flat.specs.{ModelValue}
-use Rattle.std.proofs.lemmas.Result.{on_ok_weaker}
-use Rattle.tl_fault.proofs.PassedOn.{passed_on}
+use Rattle.blif_flat.proofs.Common.{◌∙◌, ap, IfErr-weaker, SubcktValue, ModelValue, on_ok_weaker, passed_on}
 use Rattle.blif_flat.proofs.Models.LineLemmas.{IsRead, formals_err, inputs_err, clocks_err, line_ok}
 use Rattle.blif_flat.proofs.model.line_check.check_ports.Goals as goal
 

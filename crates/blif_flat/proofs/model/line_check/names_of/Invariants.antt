@@ -1,5 +1,4 @@
-use Rattle.blif_flat.proofs.Common.{◌≡◌, ◌++◌, drop}
-use Rattle.blif_flat.specs.{names_at}
+use Rattle.blif_flat.proofs.Common.{◌≡◌, ◌++◌, drop, names_at}
 use Rattle.blif_flat.proofs.model.line_check.names_of.Given as goal
 
 abbrev pub invariant-loop-number : goal.invariant-loop-number

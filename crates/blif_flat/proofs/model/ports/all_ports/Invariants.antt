@@ -1,5 +1,4 @@
-use Rattle.blif_flat.proofs.Common.{◌≡◌, ◌++◌, map, drop}
-use Rattle.blif_flat.specs.{ports_value}
+use Rattle.blif_flat.proofs.Common.{◌≡◌, ◌++◌, map, drop, ports_value}
 use Rattle.blif_flat.proofs.model.ports.all_ports.Given as goal
 
 abbrev pub invariant-loop-model : goal.invariant-loop-model

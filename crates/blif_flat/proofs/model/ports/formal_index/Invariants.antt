@@ -1,5 +1,4 @@
-use Rattle.blif_flat.proofs.Common.{◌≡◌, [], drop}
-use Rattle.blif_flat.specs.{formals, with_names}
+use Rattle.blif_flat.proofs.Common.{◌≡◌, [], drop, formals, with_names}
 use Rattle.blif_flat.proofs.model.ports.formal_index.Given as goal
 
 abbrev pub invariant-loop-pair : goal.invariant-loop-pair

@@ -1,5 +1,4 @@
-use Rattle.blif_flat.proofs.Common.{◌≡◌, drop}
-use Rattle.blif_flat.specs.{subckt_lines, names_at, lines_fault}
+use Rattle.blif_flat.proofs.Common.{◌≡◌, drop, subckt_lines, names_at, lines_fault}
 use Rattle.blif_flat.proofs.model.walk.check_commands.Given as goal
 
 abbrev pub invariant-loop-command : goal.invariant-loop-command

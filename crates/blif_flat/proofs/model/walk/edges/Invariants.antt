@@ -1,5 +1,4 @@
-use Rattle.blif_flat.proofs.Common.{◌≡◌, ◌++◌, drop}
-use Rattle.blif_flat.specs.{commands_edges}
+use Rattle.blif_flat.proofs.Common.{◌≡◌, ◌++◌, drop, commands_edges}
 use Rattle.blif_flat.proofs.model.walk.edges.Given as goal
 
 abbrev pub invariant-loop-command : goal.invariant-loop-command

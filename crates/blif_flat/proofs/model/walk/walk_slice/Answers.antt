@@ -1,6 +1,4 @@
-use Rattle.blif_flat.proofs.Common.{ap, length, subst, at_within}
-use Rattle.blif_flat.specs.{WalkValue, edges_at}
-use Rattle.depth_first.specs.Walk.{Visited}
+use Rattle.blif_flat.proofs.Common.{ap, length, subst, at_within, WalkValue, edges_at, Visited}
 use Rattle.blif_flat.proofs.Models.ModelWalkLemmas.{graph_nodes, children_first, order_within, visit_walks, visit_faulty, visit_refuses}
 use Rattle.blif_flat.proofs.model.walk.walk_slice.Goals as goal
 

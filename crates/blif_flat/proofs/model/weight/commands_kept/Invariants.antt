@@ -1,5 +1,4 @@
-use Rattle.blif_flat.proofs.Common.{◌≡◌, ◌+◌, ◌≤◌, drop}
-use Rattle.blif_flat.specs.{capped, commands_kept, most_weight}
+use Rattle.blif_flat.proofs.Common.{◌≡◌, ◌+◌, ◌≤◌, drop, capped, commands_kept, most_weight}
 use Rattle.blif_flat.proofs.model.weight.commands_kept.Given as goal
 
 abbrev pub invariant-loop-command : goal.invariant-loop-command

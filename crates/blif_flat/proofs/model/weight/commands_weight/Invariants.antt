@@ -1,5 +1,4 @@
-use Rattle.blif_flat.proofs.Common.{◌≡◌, ◌+◌, ◌≤◌, drop}
-use Rattle.blif_flat.specs.{most_weight, commands_weight, capped}
+use Rattle.blif_flat.proofs.Common.{◌≡◌, ◌+◌, ◌≤◌, drop, most_weight, commands_weight, capped}
 use Rattle.blif_flat.proofs.model.weight.commands_weight.Given as goal
 
 abbrev pub invariant-loop-command : goal.invariant-loop-command

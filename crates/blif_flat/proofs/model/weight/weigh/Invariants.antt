@@ -1,5 +1,4 @@
-use Rattle.blif_flat.proofs.Common.{◌≡◌, ℕ, length, take, In}
-use Rattle.blif_flat.specs.{IsKeptWeight}
+use Rattle.blif_flat.proofs.Common.{◌≡◌, ℕ, length, take, In, IsKeptWeight}
 use Rattle.blif_flat.proofs.model.weight.weigh.Given as goal
 
 abbrev pub invariant-loop-number : goal.invariant-loop-number

@@ -1,5 +1,4 @@
-use Rattle.blif_write.proofs.Common.{◌≡◌, ◌-◌, ◌<◌, [], length, get_or, ap, sym, ◌∙◌, arith, In-get_or}
-use Rattle.blif_write.specs.OwnNames.{Naming}
+use Rattle.blif_write.proofs.Common.{◌≡◌, ◌-◌, ◌<◌, [], length, get_or, ap, sym, ◌∙◌, arith, In-get_or, Naming}
 use Rattle.blif_write.proofs.NameLemmas.{name_at}
 use Rattle.blif_write.proofs.names.Names.input.Goals as goal
 

@@ -1,6 +1,4 @@
-use Rattle.std.proofs.Common.{◌≡◌, ◌<◌, ℕ, List, [], length, get_or, sym, ap, ◌∙◌, arith}
-use Rattle.std.proofs.lemmas.List.{get_or_read, length-map}
-use Rattle.cut_enum.specs.Keeps.{listed}
+use Rattle.cut_enum.proofs.Common.{◌≡◌, ◌<◌, ℕ, List, [], length, get_or, sym, ap, ◌∙◌, arith, get_or_read, length-map, listed}
 use Rattle.cut_enum.proofs.PlaceLemmas.{listed_at, place_within}
 use Rattle.cut_enum.proofs.level.Level.at.Goals as goal
 

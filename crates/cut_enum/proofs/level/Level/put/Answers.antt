@@ -1,8 +1,4 @@
-use Rattle.std.proofs.Common.{◌≡◌, ◌≤◌, ◌++◌, ◌∷◌, [], ℕ, List, length, sym, ap, ◌∙◌, subst, arith, get_or}
-use Rattle.std.specs.List.{insert}
-use Rattle.std.proofs.lemmas.List.{length-map}
-use Rattle.cut_enum.specs.Keeps.{listed, AreListed}
-use Rattle.cut_enum.specs.Merging.{place}
+use Rattle.cut_enum.proofs.Common.{◌≡◌, ◌≤◌, ◌++◌, ◌∷◌, [], ℕ, List, length, sym, ap, ◌∙◌, subst, arith, get_or, insert, length-map, listed, AreListed, place}
 use Rattle.cut_enum.proofs.PlaceLemmas.{listed_insert, AreListed-place}
 use Rattle.cut_enum.proofs.level.Level.put.Goals as goal
 

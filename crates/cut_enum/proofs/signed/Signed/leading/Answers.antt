@@ -1,6 +1,4 @@
-use Rattle.std.proofs.Common.{◌≡◌, ◌∙◌, ◌≤◌, ℕ, List, map, length, ap, sym, subst, arith}
-use Rattle.cut_enum.specs.Keeps.{AreShared}
-use Rattle.cut_enum.specs.Signature.{signature_of}
+use Rattle.cut_enum.proofs.Common.{◌≡◌, ◌∙◌, ◌≤◌, ℕ, List, map, length, ap, sym, subst, arith, AreShared, signature_of}
 use Rattle.cut_enum.proofs.SharedLemmas.{share_head}
 use Rattle.cut_enum.proofs.SignedLemmas.{signed_head, signed_length}
 use Rattle.cut_enum.proofs.signed.Signed.leading.Goals as goal

@@ -1,5 +1,4 @@
-use Rattle.std.proofs.Common.{arith, ◌≡◌, ◌+◌, length, ap, sym, ◌∙◌, vec_len}
-use Rattle.cut_enum.specs.Table.{row_at}
+use Rattle.cut_enum.proofs.Common.{arith, ◌≡◌, ◌+◌, length, ap, sym, ◌∙◌, vec_len, row_at}
 use Rattle.cut_enum.proofs.SpanLemmas.{parts_of-past, row_between, IsRowAt, read_at}
 use Rattle.cut_enum.proofs.table.CutTable.cuts_of.Goals as goal
 

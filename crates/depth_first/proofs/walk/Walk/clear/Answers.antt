@@ -1,5 +1,4 @@
-use Rattle.std.proofs.Common.{ap, ◌∙◌}
-use Rattle.depth_first.specs.Walk.{WalkValue}
+use Rattle.depth_first.proofs.Common.{ap, ◌∙◌, WalkValue}
 use Rattle.depth_first.proofs.ClearLemmas.{with_count, cleared_fits, cleared_seen}
 use Rattle.depth_first.proofs.walk.Walk.clear.Goals as goal
 

@@ -1,7 +1,4 @@
-use Rattle.std.proofs.Common.{◌↔◌, IsTrue, refl, sym, ap, subst, subst₂}
-use Rattle.list_laws.specs.Members.{In}
-use Rattle.depth_first.specs.Frames.{path_of}
-use Rattle.depth_first.specs.Walk.{WalkValue}
+use Rattle.depth_first.proofs.Common.{◌↔◌, IsTrue, refl, sym, ap, subst, subst₂, In, path_of, WalkValue}
 use Rattle.depth_first.proofs.MarkLemmas.{mark_on_path}
 use Rattle.depth_first.proofs.walk.Walk.is_on_path.Goals as goal
 

@@ -1,5 +1,4 @@
-use Rattle.std.proofs.Common.{◌≡◌, take}
-use Rattle.depth_first.specs.Frames.{path_of}
+use Rattle.depth_first.proofs.Common.{◌≡◌, take, path_of}
 use Rattle.depth_first.proofs.walk.Walk.path.Given as goal
 
 abbrev pub invariant-loop-frame : goal.invariant-loop-frame

@@ -1,6 +1,4 @@
-use Rattle.std.proofs.Common.{◌∙◌, ◌∷◌, [], take, refl, ap}
-use Rattle.depth_first.specs.Frames.{path_of}
-use Rattle.depth_first.specs.Walk.{WalkValue, from_node}
+use Rattle.depth_first.proofs.Common.{◌∙◌, ◌∷◌, [], take, refl, ap, path_of, WalkValue, from_node}
 use Rattle.depth_first.proofs.PathLemmas.{path_all, from_here, from_before}
 use Rattle.depth_first.proofs.walk.Walk.path_from.Goals.{then-node-frame, else-node-frame}
 use Rattle.depth_first.proofs.walk.Walk.path_from.Goals as goal

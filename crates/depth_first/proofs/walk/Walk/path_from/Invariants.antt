@@ -1,6 +1,4 @@
-use Rattle.std.proofs.Common.{◌≡◌, take, reverse}
-use Rattle.depth_first.specs.Frames.{path_of}
-use Rattle.depth_first.specs.Walk.{from_node}
+use Rattle.depth_first.proofs.Common.{◌≡◌, take, reverse, path_of, from_node}
 use Rattle.depth_first.proofs.walk.Walk.path_from.Given as goal
 
 abbrev pub invariant-loop-frame : goal.invariant-loop-frame

@@ -1,5 +1,4 @@
-use Rattle.std.proofs.Common.{◌∙◌, ap}
-use Rattle.depth_label.specs.Label.{height, LabelsValue, label_at, label_of}
+use Rattle.depth_label.proofs.Common.{◌∙◌, ap, height, LabelsValue, label_at, label_of}
 use Rattle.depth_label.proofs.node_labels.Labels.cut_height.Goals as goal
 
 pub returns : goal.returns

@@ -1,7 +1,4 @@
-use Rattle.std.proofs.Common.{ℕ, List, [], get_or, sym, ap, ◌≡◌, ◌∙◌}
-use Rattle.std.proofs.lemmas.Option.{get_or_from_slice_get}
-use Rattle.cut_enum.specs.Table.{row_at}
-use Rattle.depth_label.specs.Label.{height, LabelsValue, label_at, label_of}
+use Rattle.depth_label.proofs.Common.{ℕ, List, [], get_or, sym, ap, ◌≡◌, ◌∙◌, get_or_from_slice_get, row_at, height, LabelsValue, label_at, label_of}
 use Rattle.depth_label.proofs.node_labels.Labels.height.Goals as goal
 
 pub returns : goal.returns

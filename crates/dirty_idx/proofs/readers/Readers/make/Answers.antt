@@ -1,6 +1,4 @@
-use Rattle.std.proofs.Common.{sym, ap, ◌∙◌, subst}
-use Rattle.aig_core.specs.Aig.{node_count}
-use Rattle.dirty_idx.specs.Listed.{AreOf, bit_readings}
+use Rattle.dirty_idx.proofs.Common.{sym, ap, ◌∙◌, subst, node_count, AreOf, bit_readings}
 use Rattle.dirty_idx.proofs.ReaderLemmas.{bits_below, readers_made}
 use Rattle.dirty_idx.proofs.readers.Readers.make.Goals as goal
 

@@ -1,6 +1,5 @@
 -- One more: the number that no byte holds is set where the borrow is closed.
-use Rattle.std.proofs.Common.{◌+◌, [], ◌∷◌, refl}
-use Rattle.std.proofs.raw_atomic.Walks.{proved}
+use Rattle.dirty_idx.proofs.Common.{◌+◌, [], ◌∷◌, refl, proved}
 use base.Fml.{ftrue, flft}
 use mir.Syntax.{named}
 use mir.Val.{Val, vunit}

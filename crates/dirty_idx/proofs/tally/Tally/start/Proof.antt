@@ -1,6 +1,5 @@
 -- A new number is 0.
-use Rattle.std.proofs.Common.{List, [], ◌∷◌, refl}
-use Rattle.std.proofs.raw_atomic.Walks.{proved}
+use Rattle.dirty_idx.proofs.Common.{List, [], ◌∷◌, refl, proved}
 use seplogic.Ra.Ura.{Ura}
 use mir.Syntax.{Sym}
 use mir.Val.{Val, vstruct, vcons, vnil}

@@ -1,5 +1,4 @@
-use Rattle.std.proofs.Common.{MatchOption, sym, subst}
-use Rattle.dirty_idx.specs.Marks.{IsLeast, IsEmpty}
+use Rattle.dirty_idx.proofs.Common.{MatchOption, sym, subst, IsLeast, IsEmpty}
 use Rattle.dirty_idx.proofs.MarkLemmas.{least_marks, empty_marks}
 use Rattle.dirty_idx.proofs.tiers.Tiers.first.Goals as goal
 

@@ -1,5 +1,4 @@
-use Rattle.std.proofs.Common.{◌+◌, ◌/◌, ◌<◌, length, MatchOption, sym, subst, arith}
-use Rattle.dirty_idx.specs.Marks.{IsLeast, IsEmpty}
+use Rattle.dirty_idx.proofs.Common.{◌+◌, ◌/◌, ◌<◌, length, MatchOption, sym, subst, arith, IsLeast, IsEmpty}
 use Rattle.dirty_idx.proofs.MarkLemmas.{word_within, mark_set, put_marks, least_marks, empty_marks, kept_taken}
 use Rattle.dirty_idx.proofs.tiers.Tiers.take_first.Goals as goal
 

@@ -1,5 +1,4 @@
-use Rattle.std.proofs.Common.{rules, ◌≡◌, ◌≤◌, length, ap}
-use Rattle.cover_pick.specs.Template.{TemplateValue}
+use Rattle.lut_sim.proofs.Common.{rules, ◌≡◌, ◌≤◌, length, ap, TemplateValue}
 use Rattle.lut_sim.proofs.TableCountLemmas.{tables_within_bits}
 use Rattle.lut_sim.proofs.shape.Shape.table_count.Goals as goal
 

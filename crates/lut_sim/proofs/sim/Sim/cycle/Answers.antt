@@ -1,9 +1,5 @@
-use Rattle.std.proofs.Common.{◌∙◌, subst, ap, map}
-use Rattle.aig_core.specs.Roots.{lits_of}
-use Rattle.cover_pick.specs.Template.{TemplateValue}
+use Rattle.lut_sim.proofs.Common.{◌∙◌, subst, ap, map, lits_of, TemplateValue, IsOnlyTableCycle, value_in}
 use Rattle.lut_sim.specs.Sim.{SimValue}
-use Rattle.lut_sim.specs.Cycle.{IsOnlyTableCycle}
-use Rattle.lut_sim.specs.Steps.{value_in}
 use Rattle.lut_sim.proofs.FitLemmas.{cycle_only}
 use Rattle.lut_sim.proofs.sim.Sim.cycle.Goals as goal
 

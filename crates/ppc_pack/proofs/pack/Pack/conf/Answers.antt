@@ -1,8 +1,4 @@
-use Rattle.std.proofs.Common.{◌≡◌, ◌∙◌, List, Bool, length, replicate, subst, sym, ap}
-use Rattle.std.proofs.lemmas.List.{length-replicate}
-use Rattle.aig_core.specs.declared.lit.Kind.TheVariants.{Parameter}
-use Rattle.aig_core.specs.Value.{HasOneFit}
-use Rattle.ppc_pack.specs.Pack.{PackValue, HasOneConf}
+use Rattle.ppc_pack.proofs.Common.{◌≡◌, ◌∙◌, List, Bool, length, replicate, subst, sym, ap, length-replicate, Parameter, HasOneFit, PackValue, HasOneConf}
 use Rattle.ppc_pack.proofs.ConfLemmas.{has_one_conf}
 use Rattle.ppc_pack.proofs.pack.Pack.conf.Goals as goal
 

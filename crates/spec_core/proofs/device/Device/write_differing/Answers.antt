@@ -1,12 +1,5 @@
 use mathlib.Core.Bool.{beq}
-use Rattle.std.proofs.Common.{◌≡◌, Bool, true, false, not, cond, List, [], ◌∷◌, ◌++◌, length, map, slice_set, sym, ap, ◌∙◌, arith, append-nil}
-use Rattle.std.specs.List.{filter, range_with_len}
-use Rattle.std.proofs.lemmas.List.{get_or_read, get_or-set_other}
-use Rattle.aig_core.specs.Value.{xor}
-use Rattle.spec_core.specs.Device.{DeviceValue}
-use Rattle.spec_core.specs.Differences.{config_bit, differs_at, write_of}
-use Rattle.spec_core.specs.Sweep.{bits_under}
-use Rattle.tl_io.proofs.BitLemmas.{length-written}
+use Rattle.spec_core.proofs.Common.{◌≡◌, Bool, true, false, not, cond, List, [], ◌∷◌, ◌++◌, length, map, slice_set, sym, ap, ◌∙◌, arith, append-nil, filter, range_with_len, get_or_read, get_or-set_other, xor, DeviceValue, config_bit, differs_at, write_of, bits_under, length-written}
 use Rattle.spec_core.proofs.WriteLemmas.{written-push, writes_few, one_more, test_differs}
 use Rattle.spec_core.proofs.device.Device.write_differing.Goals as goal
 use Rattle.spec_core.proofs.device.Device.write_differing.Goals.{then-index-bit, else-index-bit}

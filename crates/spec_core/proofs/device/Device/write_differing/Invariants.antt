@@ -1,8 +1,4 @@
-use Rattle.std.proofs.Common.{◌≡◌, ℕ, ◌≤◌, map}
-use Rattle.std.specs.List.{filter, range_with_len}
-use Rattle.tl_io.specs.Writes.{written}
-use Rattle.spec_core.specs.Differences.{config_bit, differs_at, write_of}
-use Rattle.spec_core.specs.Sweep.{bits_under}
+use Rattle.spec_core.proofs.Common.{◌≡◌, ℕ, ◌≤◌, map, filter, range_with_len, written, config_bit, differs_at, write_of, bits_under}
 use Rattle.spec_core.proofs.device.Device.write_differing.Given as goal
 
 abbrev pub invariant-loop-address : goal.invariant-loop-address

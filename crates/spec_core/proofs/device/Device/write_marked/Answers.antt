@@ -1,11 +1,5 @@
-use Rattle.std.proofs.Common.{◌≡◌, Bool, false, List, [], ◌∷◌, ◌++◌, length, slice_set, sym, ap, ◌∙◌, arith, length-append, append_assoc, append-nil}
-use Rattle.std.proofs.lemmas.List.{length-set}
-use Rattle.dirty_idx.specs.Marks.{is_marked}
-use Rattle.spec_core.specs.Device.{writes_where}
-use Rattle.spec_core.specs.Differences.{config_bit, write_of}
-use Rattle.spec_core.specs.Sweep.{EvaluationValue, bits_under}
+use Rattle.spec_core.proofs.Common.{◌≡◌, Bool, false, List, [], ◌∷◌, ◌++◌, length, slice_set, sym, ap, ◌∙◌, arith, length-append, append_assoc, append-nil, length-set, is_marked, writes_where, config_bit, write_of, EvaluationValue, bits_under, length-written}
 use Rattle.spec_core.proofs.MarkLemmas.{unmarked}
-use Rattle.tl_io.proofs.BitLemmas.{length-written}
 use Rattle.spec_core.proofs.WriteLemmas.{written-push, writes_few, least_written, fewer_left, none_written}
 use Rattle.spec_core.proofs.ChangeLemmas.{length-bits_under, addresses_only}
 use Rattle.spec_core.proofs.device.Device.write_marked.Goals as goal

@@ -1,9 +1,4 @@
-use Rattle.std.proofs.Common.{◌≡◌, ◌++◌, length}
-use Rattle.std.specs.List.{filter, range_with_len}
-use Rattle.tl_io.specs.Writes.{written}
-use Rattle.dirty_idx.specs.Marks.{is_marked}
-use Rattle.spec_core.specs.Sweep.{bits_under}
-use Rattle.spec_core.specs.Device.{writes_where}
+use Rattle.spec_core.proofs.Common.{◌≡◌, ◌++◌, length, filter, range_with_len, written, is_marked, bits_under, writes_where}
 use Rattle.spec_core.proofs.device.Device.write_marked.Given as goal
 
 abbrev pub invariant-loop-address : goal.invariant-loop-address

@@ -1,6 +1,4 @@
-use Rattle.std.proofs.Common.{◌<◌, length, get_or, false, arith}
-use Rattle.tl_io.specs.declared.Assign.{Assign}
-use Rattle.list_laws.proofs.Members.{In-get_or}
+use Rattle.spec_core.proofs.Common.{◌<◌, length, get_or, false, arith, Assign, In-get_or}
 use Rattle.spec_core.proofs.evaluation.Evaluation.assign.Goals as goal
 
 pub store-requires : goal.store-requires

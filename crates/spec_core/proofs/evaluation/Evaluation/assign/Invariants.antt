@@ -1,5 +1,4 @@
-use Rattle.std.proofs.Common.{◌≡◌, drop}
-use Rattle.spec_core.specs.Sweep.{with_assigned}
+use Rattle.spec_core.proofs.Common.{◌≡◌, drop, with_assigned}
 use Rattle.spec_core.proofs.evaluation.Evaluation.assign.Given as goal
 
 abbrev pub invariant-loop-assign : goal.invariant-loop-assign

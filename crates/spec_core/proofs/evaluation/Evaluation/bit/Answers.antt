@@ -1,11 +1,4 @@
-use Rattle.std.proofs.Common.{◌*◌, ◌<◌, length, get_or, sym, ap, ◌∙◌, arith}
-use Rattle.std.proofs.lemmas.Option.{slice_get-get_or}
-use Rattle.list_laws.proofs.Members.{In-get_or}
-use Rattle.aig_core.specs.declared.lit.Lit.{Lit}
-use Rattle.aig_core.specs.Aig.{node_count}
-use Rattle.aig_core.specs.Value.{value_of}
-use Rattle.spec_core.specs.Differences.{config_bit}
-use Rattle.spec_core.specs.Sweep.{EvaluationValue, bits_under}
+use Rattle.spec_core.proofs.Common.{◌*◌, ◌<◌, length, get_or, sym, ap, ◌∙◌, arith, slice_get-get_or, In-get_or, Lit, node_count, value_of, config_bit, EvaluationValue, bits_under}
 use Rattle.spec_core.proofs.ChangeLemmas.{bit_of}
 use Rattle.spec_core.proofs.evaluation.Evaluation.bit.Goals as goal
 

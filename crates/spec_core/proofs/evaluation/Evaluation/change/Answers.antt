@@ -1,8 +1,4 @@
-use Rattle.std.proofs.Common.{List, Bool, ap, ◌∙◌, subst}
-use Rattle.aig_core.specs.Value.{FitsGraph}
-use Rattle.ppc_pack.specs.Pack.{PackValue}
-use Rattle.dirty_idx.specs.Readers.{ReadersValue}
-use Rattle.spec_core.specs.Sweep.{EvaluationValue, Belong, IsSweeping, IsSwept}
+use Rattle.spec_core.proofs.Common.{List, Bool, ap, ◌∙◌, subst, FitsGraph, PackValue, ReadersValue, EvaluationValue, Belong, IsSweeping, IsSwept}
 use Rattle.spec_core.proofs.ChangeLemmas.{Belong-idle, change_done}
 use Rattle.spec_core.proofs.evaluation.Evaluation.change.Goals as goal
 

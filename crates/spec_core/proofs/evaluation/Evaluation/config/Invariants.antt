@@ -1,5 +1,4 @@
-use Rattle.std.proofs.Common.{◌≡◌, take}
-use Rattle.spec_core.specs.Sweep.{bits_under}
+use Rattle.spec_core.proofs.Common.{◌≡◌, take, bits_under}
 use Rattle.spec_core.proofs.evaluation.Evaluation.config.Given as goal
 
 abbrev pub invariant-loop-address : goal.invariant-loop-address

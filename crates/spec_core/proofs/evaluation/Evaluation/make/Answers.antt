@@ -1,6 +1,4 @@
-use Rattle.std.proofs.Common.{false, List, length, replicate, ap, ◌∙◌}
-use Rattle.aig_core.specs.Aig.{node_count}
-use Rattle.aig_core.specs.declared.lit.Lit.{Lit}
+use Rattle.spec_core.proofs.Common.{false, List, length, replicate, ap, ◌∙◌, node_count, Lit}
 use Rattle.spec_core.proofs.ChangeLemmas.{Belong-idle}
 use Rattle.spec_core.proofs.KeepLemmas.{start_params, IsIdle-start}
 use Rattle.spec_core.proofs.evaluation.Evaluation.make.Goals as goal

@@ -1,6 +1,4 @@
-use Rattle.std.proofs.Common.{◌<◌, ap}
-use Rattle.aig_core.specs.Aig.{node_count}
-use Rattle.spec_core.specs.Sweep.{EvaluationValue}
+use Rattle.spec_core.proofs.Common.{◌<◌, ap, node_count, EvaluationValue}
 use Rattle.spec_core.proofs.StoreLemmas.{Belong-written}
 use Rattle.spec_core.proofs.evaluation.Evaluation.store.Goals as goal
 

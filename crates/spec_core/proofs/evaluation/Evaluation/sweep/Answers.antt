@@ -1,8 +1,4 @@
-use Rattle.std.proofs.Common.{sym, ap, subst, arith}
-use Rattle.aig_core.specs.Aig.{IsAnd, IsNode}
-use Rattle.aig_core.proofs.NodeLemmas.{node_at}
-use Rattle.ppc_pack.specs.Pack.{PackValue}
-use Rattle.spec_core.specs.Sweep.{EvaluationValue, Belong, product_of}
+use Rattle.spec_core.proofs.Common.{sym, ap, subst, arith, IsAnd, IsNode, node_at, PackValue, EvaluationValue, Belong, product_of}
 use Rattle.spec_core.proofs.LeastLemmas.{places_fall}
 use Rattle.spec_core.proofs.SweepLemmas.{visited, IsSweeping-more, swept}
 use Rattle.spec_core.proofs.evaluation.Evaluation.sweep.Goals as goal

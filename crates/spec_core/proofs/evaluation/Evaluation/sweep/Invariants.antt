@@ -1,6 +1,4 @@
-use Rattle.std.proofs.Common.{◌≡◌, ◌+◌, Bool, List}
-use Rattle.aig_core.specs.Value.{FitsGraph}
-use Rattle.spec_core.specs.Sweep.{IsSweeping}
+use Rattle.spec_core.proofs.Common.{◌≡◌, ◌+◌, Bool, List, FitsGraph, IsSweeping}
 use Rattle.spec_core.proofs.LeastLemmas.{places_left}
 use Rattle.spec_core.proofs.evaluation.Evaluation.sweep.Given as goal
 

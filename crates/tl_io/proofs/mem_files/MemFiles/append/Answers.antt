@@ -1,8 +1,4 @@
-use Rattle.std.proofs.Common.{◌≡◌, ◌≤◌, ◌+◌, ◌∙◌, ◌++◌, Some, ap, subst, sym, refl, rules, arith, length, vec_len, IsOk}
-use Rattle.std.specs.Prelude.{vec_capacity}
-use Rattle.tl_io.specs.Store.{Store, appended, written_bytes, written_room}
-use Rattle.tl_io.specs.Content.{extended}
-use Rattle.tl_io.specs.Shelf.{files_but, written_at}
+use Rattle.tl_io.proofs.Common.{◌≡◌, ◌≤◌, ◌+◌, ◌∙◌, ◌++◌, Some, ap, subst, sym, refl, rules, arith, length, vec_len, IsOk, vec_capacity, Store, appended, written_bytes, written_room, extended, files_but, written_at}
 use Rattle.tl_io.proofs.StoreLemmas.{IsWriting, writing_there, appended_grown, appended_others, appended_in, first_appended, written_bytes_in, written_room_in}
 use Rattle.tl_io.proofs.mem_files.MemFiles.append.Goals as goal
 

@@ -1,9 +1,4 @@
-use Rattle.std.proofs.Common.{◌≡◌, ◌∙◌, ap, sym, Some, None, List}
-use Rattle.std.specs.Prelude.{position}
-use Rattle.std.specs.FinMap.{get}
-use Rattle.tl_io.specs.declared.mem_file.MemFile.{MemFile}
-use Rattle.tl_io.specs.MemFiles.{is_named}
-use Rattle.tl_io.specs.Store.{Store}
+use Rattle.tl_io.proofs.Common.{◌≡◌, ◌∙◌, ap, sym, Some, None, List, position, get, MemFile, is_named, Store}
 use Rattle.tl_io.proofs.FirstNamed.{first_named, get-files_of, get-files_none}
 use Rattle.tl_io.proofs.mem_files.MemFiles.bytes.Goals as goal
 

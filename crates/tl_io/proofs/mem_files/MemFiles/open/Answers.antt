@@ -1,9 +1,4 @@
-use Rattle.std.proofs.Common.{◌≡◌, ◌∙◌, ap, sym, Some, None, is_some, List}
-use Rattle.std.specs.Prelude.{position}
-use Rattle.std.specs.FinMap.{get}
-use Rattle.tl_io.specs.declared.mem_file.MemFile.{MemFile}
-use Rattle.tl_io.specs.MemFiles.{is_named}
-use Rattle.tl_io.specs.Store.{Store, opened}
+use Rattle.tl_io.proofs.Common.{◌≡◌, ◌∙◌, ap, sym, Some, None, is_some, List, position, get, MemFile, is_named, Store, opened}
 use Rattle.tl_io.proofs.FirstNamed.{is_some_there, get-files_none}
 use Rattle.tl_io.proofs.StoreLemmas.{opened_there, opened_none}
 use Rattle.tl_io.proofs.mem_files.MemFiles.open.Goals as goal

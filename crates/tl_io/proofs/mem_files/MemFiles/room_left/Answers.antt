@@ -1,5 +1,4 @@
-use Rattle.std.proofs.Common.{◌≡◌, ◌∙◌, ap, sym, arith, length, vec_len}
-use Rattle.tl_io.specs.Store.{written_bytes, written_room}
+use Rattle.tl_io.proofs.Common.{◌≡◌, ◌∙◌, ap, sym, arith, length, vec_len, written_bytes, written_room}
 use Rattle.tl_io.proofs.StoreLemmas.{written_bytes_in, written_room_in}
 use Rattle.tl_io.proofs.mem_files.MemFiles.room_left.Goals as goal
 

@@ -1,6 +1,5 @@
-use Rattle.std.proofs.Common.{arith, ◌∙◌, length, ◌≤◌}
+use Rattle.tl_io.proofs.Common.{arith, ◌∙◌, length, ◌≤◌, NAME_ROOM}
 use Rattle.tl_io.proofs.Takes.{take_front_of, take_capped}
-use Rattle.tl_io.specs.declared.told_name.TheConstants.{NAME_ROOM}
 use Rattle.tl_io.proofs.told_name.ToldName.set.Goals as goal
 
 pub returns : goal.returns

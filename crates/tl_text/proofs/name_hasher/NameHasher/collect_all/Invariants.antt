@@ -1,6 +1,4 @@
-use Rattle.std.proofs.Common.{◌≡◌, drop}
-use Rattle.std.specs.List.{fold}
-use Rattle.tl_text.specs.NameHash.{collected}
+use Rattle.tl_text.proofs.Common.{◌≡◌, drop, fold, collected}
 use Rattle.tl_text.proofs.name_hasher.NameHasher.collect_all.Given as goal
 
 abbrev pub invariant-loop-byte : goal.invariant-loop-byte

@@ -1,6 +1,4 @@
-use Rattle.std.proofs.Common.{◌≡◌, drop}
-use Rattle.std.specs.List.{fold}
-use Rattle.tl_text.specs.NameHash.{folded_in}
+use Rattle.tl_text.proofs.Common.{◌≡◌, drop, fold, folded_in}
 use Rattle.tl_text.proofs.name_hasher.NameHasher.fold_all.Given as goal
 
 abbrev pub invariant-loop-chunk : goal.invariant-loop-chunk

@@ -1,5 +1,4 @@
-use Rattle.std.proofs.Common.{◌∙◌, ap, ℕ, List}
-use Rattle.tl_text.specs.NameIndex.{place_of}
+use Rattle.tl_text.proofs.Common.{◌∙◌, ap, ℕ, List, place_of}
 use Rattle.tl_text.proofs.name_index.NameIndex.place.Goals as goal
 
 pub returns : goal.returns

@@ -1,5 +1,4 @@
-use Rattle.std.proofs.Common.{◌≡◌, drop}
-use Rattle.tl_text.specs.NameSets.{with_names}
+use Rattle.tl_text.proofs.Common.{◌≡◌, drop, with_names}
 use Rattle.tl_text.proofs.name_index.NameIndex.with_names.Given as goal
 
 abbrev pub invariant-loop-name : goal.invariant-loop-name

@@ -1,5 +1,4 @@
-use Rattle.blif_flat.proofs.Common.{◌≡◌, ◌++◌, map, drop}
-use Rattle.blif_flat.specs.{ModelValue, subckts_of}
+use Rattle.blif_flat.proofs.Common.{◌≡◌, ◌++◌, map, drop, ModelValue, subckts_of}
 use Rattle.blif_flat.proofs.circuit.net_table.SubcktLines.make.Given as goal
 
 abbrev pub invariant-loop-model : goal.invariant-loop-model

@@ -1,5 +1,4 @@
-use Rattle.blif_flat.proofs.Common.{◌∙◌, sym, subst, ap}
-use Rattle.blif_flat.specs.{place_of, Finds}
+use Rattle.blif_flat.proofs.Common.{◌∙◌, sym, subst, ap, place_of, Finds}
 use Rattle.blif_flat.proofs.Models.NameSetLemmas.{finds}
 use Rattle.blif_flat.proofs.model.ports.ModelIndex.find.Goals as goal
 

@@ -1,5 +1,4 @@
-use Rattle.blif_flat.proofs.Common.{◌≡◌, []}
-use Rattle.blif_flat.specs.{with_names, model_names}
+use Rattle.blif_flat.proofs.Common.{◌≡◌, [], with_names, model_names}
 use Rattle.blif_flat.proofs.Models.NameSetLemmas.{same_model_names, few_model_names, all_names}
 use Rattle.blif_flat.proofs.model.ports.ModelIndex.make.Goals as goal
 

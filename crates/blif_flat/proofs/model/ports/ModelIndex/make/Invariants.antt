@@ -1,5 +1,4 @@
-use Rattle.blif_flat.proofs.Common.{◌≡◌, [], drop}
-use Rattle.blif_flat.specs.{with_names, model_names}
+use Rattle.blif_flat.proofs.Common.{◌≡◌, [], drop, with_names, model_names}
 use Rattle.blif_flat.proofs.model.ports.ModelIndex.make.Given as goal
 
 abbrev pub invariant-loop-model : goal.invariant-loop-model

@@ -1,5 +1,4 @@
-use Rattle.blif_flat.proofs.Common.{◌≡◌, ◌++◌, map, drop}
-use Rattle.blif_flat.specs.{edge_rows}
+use Rattle.blif_flat.proofs.Common.{◌≡◌, ◌++◌, map, drop, edge_rows}
 use Rattle.blif_flat.proofs.model.walk.ModelGraph.make.Given as goal
 
 abbrev pub invariant-loop-model : goal.invariant-loop-model
