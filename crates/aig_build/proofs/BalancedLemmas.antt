@@ -1,19 +1,16 @@
 -- The balanced AND of a list: it only adds nodes, doesn't depend on how many halvings are allowed, and has the value of the product of all.
-use Rattle.aig_build.proofs.Common.{◌≡◌, ℕ, zero, suc, ◌+◌, ◌*◌, ◌<◌, ◌≤◌, Bool, true, false, ◌&&◌, min, max, List, [], ◌∷◌, ◌++◌, length, refl, sym, ap, ◌∙◌, arith, length-append, take-append-drop, length-take, length-drop, All-head, All-tail, All-take, All-drop, All-weaker, Lit, Pair, Aig, AreNormal, IsLit, first_and, Answer, and_of, with_pairs, product_of, value_of, values_from, Extends, Extends-refl, Extends-trans, length-Extends, and_grows, AreBase, Makes, Makes-and, Makes-literal, Makes-one, value_of-more, product, front_half, back_half, balanced, balanced_and}
-use Rattle.std.specs.List.{All}
+use Rattle.aig_build.proofs.Common.{◌≡◌, ℕ, zero, suc, ◌+◌, ◌*◌, ◌<◌, ◌≤◌, Bool, true, ◌&&◌, min, max, List, [], ◌∷◌, ◌++◌, length, refl, sym, ap, ◌∙◌, arith, take-append-drop, length-take, length-drop, All-head, All-tail, All-take, All-drop, All-weaker, Lit, Pair, Aig, AreNormal, IsLit, first_and, Answer, and_of, with_pairs, product_of, value_of, values_from, Extends, Extends-refl, Extends-trans, length-Extends, and_grows, AreBase, Makes, Makes-and, Makes-literal, Makes-one, value_of-more, product, front_half, back_half, balanced, balanced_and, All}
 use Rattle.std.specs.Int.{div_ceil}
 
 -- it only adds nodes
 pub balanced-grows : (first depth : ℕ) (pairs : List Pair) (lits : List Lit) → Extends pairs (balanced first depth pairs lits).pairs
-balanced-grows first zero pairs lits = Extends-refl pairs
-balanced-grows first (suc depth) pairs [] = Extends-refl pairs
-balanced-grows first (suc depth) pairs (a ∷ []) = Extends-refl pairs
 balanced-grows first (suc depth) pairs (a ∷ b ∷ rest) =
     let front : Answer = balanced first depth pairs (front_half (a ∷ b ∷ rest)) in
     let back : Answer = balanced first depth front.pairs (back_half (a ∷ b ∷ rest)) in
     Extends-trans pairs front.pairs (product_of first back.pairs front.lit back.lit).pairs (balanced-grows first depth pairs (front_half (a ∷ b ∷ rest)))
     (Extends-trans front.pairs back.pairs (product_of first back.pairs front.lit back.lit).pairs (balanced-grows first depth front.pairs (back_half (a ∷ b ∷ rest)))
     (and_grows first back.pairs (min front.lit back.lit) (max front.lit back.lit)))
+balanced-grows first depth pairs lits = Extends-refl pairs
 
 -- both halves of a list of two or more are shorter
 pub front_half-shorter : (lits : List Lit) (depth : ℕ) → 2 ≤ length lits → length lits ≤ suc depth → length (front_half lits) ≤ depth
@@ -24,13 +21,6 @@ back_half-shorter lits depth two few = omega (arith, length-drop (div_ceil (leng
 
 -- any number of halvings that suffices gives the same
 balanced-depth : (first m n : ℕ) (pairs : List Pair) (lits : List Lit) → length lits ≤ m → length lits ≤ n → balanced first m pairs lits ≡ balanced first n pairs lits
-balanced-depth first zero zero pairs lits lm ln = refl
-balanced-depth first zero (suc n) pairs [] lm ln = refl
-balanced-depth first zero (suc n) pairs (a ∷ rest) lm ln = absurd (omega arith)
-balanced-depth first (suc m) zero pairs [] lm ln = refl
-balanced-depth first (suc m) zero pairs (a ∷ rest) lm ln = absurd (omega arith)
-balanced-depth first (suc m) (suc n) pairs [] lm ln = refl
-balanced-depth first (suc m) (suc n) pairs (a ∷ []) lm ln = refl
 balanced-depth first (suc m) (suc n) pairs (a ∷ b ∷ rest) lm ln =
     let lits : List Lit = a ∷ b ∷ rest in
     let two : 2 ≤ length lits = omega arith in
@@ -39,12 +29,14 @@ balanced-depth first (suc m) (suc n) pairs (a ∷ b ∷ rest) lm ln =
     let after : Answer → Answer → Answer = λ x y. product_of first y.pairs x.lit y.lit in
     ap (λ (x : Answer). after x (balanced first m x.pairs (back_half lits))) f
     ∙ ap (λ (y : Answer). after (balanced first n pairs (front_half lits)) y) (k (balanced first n pairs (front_half lits)).pairs)
+balanced-depth first (suc m) (suc n) pairs lits lm ln = refl
+balanced-depth first zero zero pairs lits lm ln = refl
+balanced-depth first m n pairs [] lm ln = refl
+balanced-depth first m n pairs (a ∷ rest) lm ln = absurd (omega arith)
 
 -- the halving itself, for a list of two or more
 pub balanced_and-halves : (first : ℕ) (pairs : List Pair) (lits : List Lit) → 2 ≤ length lits
     → balanced_and first pairs lits ≡ product_of first (balanced_and first (balanced_and first pairs (front_half lits)).pairs (back_half lits)).pairs (balanced_and first pairs (front_half lits)).lit (balanced_and first (balanced_and first pairs (front_half lits)).pairs (back_half lits)).lit
-balanced_and-halves first pairs [] two = absurd (omega arith)
-balanced_and-halves first pairs (a ∷ []) two = absurd (omega arith)
 balanced_and-halves first pairs (a ∷ b ∷ rest) two =
     let lits : List Lit = a ∷ b ∷ rest in
     let n : ℕ = suc (length rest) in
@@ -54,6 +46,7 @@ balanced_and-halves first pairs (a ∷ b ∷ rest) two =
     let after : Answer → Answer → Answer = λ x y. product_of first y.pairs x.lit y.lit in
     ap (λ (x : Answer). after x (balanced first n x.pairs (back_half lits))) f
     ∙ ap (λ (y : Answer). after (balanced_and first pairs (front_half lits)) y) (k (balanced_and first pairs (front_half lits)).pairs)
+balanced_and-halves first pairs lits two = absurd (omega arith)
 
 -- all the literals are 1 under the values of the nodes
 abbrev pub all_true : List Lit → List Bool → Bool
@@ -61,8 +54,7 @@ all_true [] values = true
 all_true (lit ∷ lits) values = value_of values lit.0 && all_true lits values
 
 pub and_assoc : (a b c : Bool) → ((a && b) && c) ≡ (a && (b && c))
-and_assoc true b c = refl
-and_assoc false b c = refl
+and_assoc a b c = grind arith
 
 pub all_true-append : (xs ys : List Lit) (values : List Bool) → all_true (xs ++ ys) values ≡ (all_true xs values && all_true ys values)
 all_true-append [] ys values = refl
@@ -89,8 +81,7 @@ all_true-more first ps qs (lit ∷ lits) vs e below base =
     ∙ ap (λ b. value_of (values_from vs ps) lit.0 && b) (all_true-more first ps qs lits vs e (All-tail (IsBelow first ps) lit lits below) base)
 
 and_true : (b : Bool) → b ≡ (b && true)
-and_true true = refl
-and_true false = refl
+and_true b = grind arith
 
 -- the value of the balanced AND is the product of all
 pub Makes-balanced : (first depth : ℕ) (ps : List Pair) (lits : List Lit) → AreNormal first ps → 1 ≤ first → AreBelow first ps lits → length lits ≤ depth → Makes first ps (all_true lits) (balanced first depth ps lits)
@@ -124,25 +115,13 @@ Makes-balanced first (suc depth) ps (a ∷ b ∷ rest) normal some below few =
           ∙ ap (λ ls. all_true ls (values_from vs ps)) (take-append-drop (div_ceil (length lits) 2) lits);
     }
 
--- As the code makes it: g1 is g with the first half made, g2 is g1 with the second, and x and y are their literals.
-pub record Halves (g : Aig) (lits : List Lit) (g1 g2 : Aig) (x y : ℕ) : Type 0 where
-  pub two : 2 ≤ length lits
-  pub front : x ≡ (balanced_and (first_and g) g.pairs (front_half lits)).lit
-  pub front_pairs : g1 ≡ with_pairs g (balanced_and (first_and g) g.pairs (front_half lits)).pairs
-  pub back : y ≡ (balanced_and (first_and g1) g1.pairs (back_half lits)).lit
-  pub back_pairs : g2 ≡ with_pairs g1 (balanced_and (first_and g1) g1.pairs (back_half lits)).pairs
-
--- the product of the halves is the balanced AND
-pub and_of-halves : (g : Aig) (lits : List Lit) (g1 g2 : Aig) (x y : ℕ) → Halves g lits g1 g2 x y → and_of g2 x y ≡ balanced_and (first_and g) g.pairs lits
-and_of-halves g lits g1 g2 x y h =
-    rw (h.back_pairs, h.back, h.front_pairs, h.front) (sym (balanced_and-halves (first_and g) g.pairs lits h.two))
-
--- nothing but the pairs changes
-pub with_pairs-halves : (g : Aig) (lits : List Lit) (g1 g2 : Aig) (x y : ℕ) (ps : List Pair) → Halves g lits g1 g2 x y → with_pairs g2 ps ≡ with_pairs g ps
-with_pairs-halves g lits g1 g2 x y ps h = rw (h.back_pairs, h.front_pairs) refl
-
-pub max-halves : (g : Aig) (lits : List Lit) (g1 g2 : Aig) (x y : ℕ) → Halves g lits g1 g2 x y → g2.max ≡ g.max
-max-halves g lits g1 g2 x y h = rw (h.back_pairs, h.front_pairs) refl
+-- As the code makes it: g1 is g with the first half made, g2 is g1 with the second, and x and y are their literals. The product of the halves is the
+-- balanced AND, and nothing but the pairs changes.
+pub halved : (g : Aig) (lits front back : List Lit) (g1 g2 : Aig) (x y : ℕ) → 2 ≤ length lits → front ≡ front_half lits → back ≡ back_half lits
+    → x ≡ (balanced_and (first_and g) g.pairs front).lit → g1 ≡ with_pairs g (balanced_and (first_and g) g.pairs front).pairs
+    → y ≡ (balanced_and (first_and g1) g1.pairs back).lit → g2 ≡ with_pairs g1 (balanced_and (first_and g1) g1.pairs back).pairs
+    → (and_of g2 x y ≡ balanced_and (first_and g) g.pairs lits) × ((ps : List Pair) → with_pairs g2 ps ≡ with_pairs g ps) × (g2.max ≡ g.max)
+halved g lits front back g1 g2 x y two ef eb hx hg1 hy hg2 = rw (hg2, hy, hg1, hx, eb, ef) (sym (balanced_and-halves (first_and g) g.pairs lits two), (λ ps. refl), refl)
 
 -- a half has no more nodes than the whole
 pub balanced_and-front_length : (first : ℕ) (pairs : List Pair) (lits : List Lit) → 2 ≤ length lits → length (balanced_and first pairs (front_half lits)).pairs ≤ length (balanced_and first pairs lits).pairs
@@ -162,18 +141,6 @@ balanced_and-back_length first pairs lits two =
 -- a literal of a graph is one of a graph with more pairs
 pub IsLit-more : (g : Aig) (ps : List Pair) (lit : ℕ) → Extends g.pairs ps → IsLit g lit → IsLit (with_pairs g ps) lit
 IsLit-more g ps lit e l = let n : length g.pairs ≤ length ps = length-Extends g.pairs ps e in omega arith
-
--- the same, with the halves as the code splits them
-pub Halves-split : (g : Aig) (lits front back : List Lit) (g1 g2 : Aig) (x y : ℕ) → 2 ≤ length lits → front ≡ front_half lits → back ≡ back_half lits
-    → x ≡ (balanced_and (first_and g) g.pairs front).lit → g1 ≡ with_pairs g (balanced_and (first_and g) g.pairs front).pairs
-    → y ≡ (balanced_and (first_and g1) g1.pairs back).lit → g2 ≡ with_pairs g1 (balanced_and (first_and g1) g1.pairs back).pairs → Halves g lits g1 g2 x y
-Halves-split g lits front back g1 g2 x y two ef eb hx hg1 hy hg2 = record {
-  two = two;
-  front = hx ∙ ap (λ l. (balanced_and (first_and g) g.pairs l).lit) ef;
-  front_pairs = hg1 ∙ ap (λ l. with_pairs g (balanced_and (first_and g) g.pairs l).pairs) ef;
-  back = hy ∙ ap (λ l. (balanced_and (first_and g1) g1.pairs l).lit) eb;
-  back_pairs = hg2 ∙ ap (λ l. with_pairs g1 (balanced_and (first_and g1) g1.pairs l).pairs) eb;
-}
 
 -- what is too long for a part is too long for the whole
 pub full_weaker : {P : Type 0} (m n a b : ℕ) → m ≡ n → a ≤ b → (P → m < a) → P → n < b

@@ -1,22 +1,22 @@
 -- What the proofs of this crate cite of other crates, and its own definitions, passed on from one place.
 pub use Rattle.std.proofs.Common.{sym, subst, ◌≡◌, ℕ, zero, suc, min, max, List, [], ◌∷◌, ◌++◌, length, refl, ap, ◌∙◌, ◌+◌, ◌*◌, ◌<◌, ◌≤◌, Bool, true, false, ◌&&◌, arith, length-append, All, not, ◌||◌, cond, map, drop, get_or, append-nil, append_assoc, add-one, drop-cons, Some, inl, inr, ◌/◌, ◌%◌, replicate, Option, None, ap₂, slice_set, codes, reverse, subst₂, filter, rules, take, Err, ◌-◌, IfOk, vec_len}
-pub use Rattle.std.proofs.lemmas.List.{take-append-drop, length-take, length-drop, length-map, length-replicate}
+pub use Rattle.std.proofs.lemmas.List.{take-append-drop, length-take, length-drop, length-map, length-replicate, map-set, map-append}
 pub use Rattle.std.proofs.lemmas.List.Elements.{All-head, All-tail, All-take, All-drop, All-weaker, All-nil, All-cons, All-append, All-push, All-set, All-get_or, All-replicate, All-from_get_or}
 pub use Rattle.std.proofs.lemmas.Option.{slice_get_read, none-some, same_Some, slice_get_within, slice_get-map, get_or_from_slice_get, unwrap_or-slice_get}
 pub use Rattle.std.specs.Option.{option_map, option_and_then}
 pub use Rattle.std.specs.Prelude.{slice_get, unwrap_or, IsSome}
 pub use Rattle.aig_core.proofs.GrowthLemmas.{Extends, Extends-trans, and_again, and_grows, Extends-refl, length-Extends}
-pub use Rattle.aig_core.proofs.ProductLemmas.{AreBase, Makes, Makes-and, Makes-literal, Makes-one, value_of-more, product, AreBase-sources, Makes-complement, Makes-weaker, value_of-complement, complement-below, not-not, KeepsValues-Extends, Makes-fits, value_of-even}
+pub use Rattle.aig_core.proofs.ProductLemmas.{AreBase, Makes, Makes-and, Makes-literal, Makes-one, value_of-more, product, AreBase-sources, Makes-complement, Makes-weaker, value_of-complement, complement-below, not-not, Makes-fits, value_of-even}
 pub use Rattle.aig_core.proofs.ValueLemmas.{values_from, values_of, values_old}
 pub use Rattle.aig_core.specs.Aig.{Aig, AreNormal, IsLit, first_and}
 pub use Rattle.aig_core.specs.And.{complement, Answer, product_of, and_of, with_pairs}
 pub use Rattle.aig_core.specs.Roots.{RootsValue, lits_of, roots_of, AreRoots}
-pub use Rattle.aig_core.specs.Value.{value_of, KeepsValues, FitsGraph}
+pub use Rattle.aig_core.specs.Value.{value_of, FitsGraph}
 pub use Rattle.aig_core.specs.declared.lit.Kind.{Kind}
 pub use Rattle.aig_core.specs.declared.lit.Kind.TheVariants.{Regular, Parameter}
 pub use Rattle.aig_core.specs.declared.lit.Lit.{Lit}
 pub use Rattle.aig_core.specs.declared.lit.Pair.{Pair}
-pub use Rattle.depth_first.specs.DepthFirst.{PostsAll}
+pub use Rattle.depth_first.specs.DepthFirst.{PostsAll, Posts, skips, posts, none, more}
 pub use Rattle.list_laws.proofs.Apart.{AreApart, apart_once, joined_apart, filtered_apart}
 pub use Rattle.list_laws.proofs.Items.{member_at}
 pub use Rattle.list_laws.proofs.Members.{In-get, In-append, place_in, from_map, In-left, In-right, In-map, In-filter, In-get_or}
@@ -41,13 +41,10 @@ pub use Rattle.netlist.specs.declared.flat.Net.TheVariants.{Input, Latch, Cover}
 pub use Rattle.netlist.specs.declared.flat.OutPort.{OutPort}
 pub use Rattle.param_list.specs.Parameters.{param_names, regular_names, AreParameters, ParamsValue}
 pub use Rattle.param_list.specs.declared.params.Param.{Param}
-pub use Rattle.aig_build.specs.Balanced.{front_half, back_half}
-pub use Rattle.aig_build.specs.BalancedMade.{balanced, balanced_and}
 pub use Rattle.aig_build.specs.CoverGraph.{row_literals, Literals, flipped, cell_literals}
-pub use Rattle.aig_build.specs.CoverMade.{row_made, rows_made, cover_made, cover_of, HasCoverValue}
-pub use Rattle.aig_build.specs.CoverNodes.{IsCoverMade}
+pub use Rattle.aig_build.specs.CoverMade.{balanced, balanced_and, row_made, rows_made, rows_onto, cover_made, cover_of}
+pub use Rattle.aig_build.specs.CoverNodes.{front_half, back_half, IsCoverMade}
 pub use Rattle.aig_build.specs.NetlistCycle.{source_values, literal_values, HasSourceCycles}
 pub use Rattle.aig_build.specs.NetlistGraph.{input_names, source_kinds, IsSourceLiteral, an_input, a_latch, MakesAll, IsGraphOf, root_nets, HasTooManyNodes}
-pub use Rattle.aig_build.specs.RowsOnto.{rows_onto}
 pub use Rattle.aig_build.specs.Walked.{NetLitsValue, net_lit, net_lits, with_cover, Built, behind_made, gate_made, with_gate, walked, gate_of, order_of, IsHeld, HoldsNets, no_lit, marks_of, regular_lits, regular_next, start_nets, source_aig, root_lits, marked, index_behind, with_param_lits}
 pub use Rattle.aig_build.specs.declared.TheConstants.{MOST_NODES}

@@ -1,7 +1,6 @@
--- The nodes of rows and covers: their values are those that the definitions of a row and of a cover give.
-use Rattle.aig_build.proofs.Common.{◌≡◌, ℕ, ◌+◌, ◌*◌, ◌<◌, ◌≤◌, Bool, true, false, not, ◌&&◌, ◌||◌, cond, suc, List, [], ◌∷◌, ◌++◌, length, map, drop, get_or, refl, sym, ap, ◌∙◌, subst, append-nil, append_assoc, add-one, arith, All-nil, All-cons, All-head, All-tail, All-append, All-push, drop_past, Cell, Zero, One, Any, RowValue, CoverValue, allows, matches, some_row, cover_value, Lit, Pair, Aig, IsLit, AreNormal, first_and, complement, Answer, with_pairs, value_of, KeepsValues, values_from, values_of, Extends, Extends-refl, Extends-trans, length-Extends, AreBase, AreBase-sources, Makes, Makes-complement, Makes-weaker, value_of-more, value_of-complement, complement-below, not-not, KeepsValues-Extends, Makes-fits, balanced_and, flipped, cell_literals, row_literals, Literals, row_made, rows_made, cover_made, cover_of, HasCoverValue, rows_onto}
-use Rattle.std.proofs.Math.Seq.{drop-cons}
-use Rattle.std.specs.List.{All}
+-- The nodes of rows and covers: their values are those that the definitions of a row and of a cover give, and making them again over nodes that
+-- extend those that they left adds nothing and gives the same literals.
+use Rattle.aig_build.proofs.Common.{◌≡◌, ℕ, ◌+◌, ◌*◌, ◌<◌, ◌≤◌, Bool, true, false, not, ◌&&◌, ◌||◌, cond, suc, List, [], ◌∷◌, ◌++◌, length, map, drop, get_or, refl, sym, ap, ◌∙◌, subst, append-nil, append_assoc, add-one, arith, All-nil, All-cons, All-head, All-tail, All-append, All-push, drop_past, Cell, Zero, One, Any, RowValue, CoverValue, allows, matches, some_row, cover_value, Lit, Pair, Aig, IsLit, AreNormal, first_and, complement, Answer, with_pairs, value_of, values_from, Extends, Extends-refl, Extends-trans, length-Extends, AreBase, Makes, Makes-complement, Makes-weaker, value_of-more, value_of-complement, complement-below, balanced_and, flipped, cell_literals, row_literals, Literals, row_made, rows_made, cover_made, rows_onto, min, max, product_of, and_again, and_grows, front_half, back_half, balanced, drop-cons, All}
 use Rattle.std.proofs.Math.Bool.{and-true}
 use Rattle.aig_build.proofs.BalancedLemmas.{balanced-grows, all_true, all_true-append, IsBelow, AreBelow, AreBelow-more, all_true-more, Makes-balanced}
 
@@ -17,13 +16,12 @@ all_true-cell Zero input values = and-true (value_of values (complement input.0)
 
 -- the literals of a row are all 1 exactly where it matches
 all_true-row : (cells : List Cell) (inputs : List Lit) (values : List Bool) → length cells ≡ length inputs → all_true (row_literals cells inputs) values ≡ matches cells (values_at inputs values)
-all_true-row [] [] values width = refl
-all_true-row [] (input ∷ inputs) values width = absurd (omega arith)
-all_true-row (cell ∷ cells) [] values width = absurd (omega arith)
 all_true-row (cell ∷ cells) (input ∷ inputs) values width =
     all_true-append (cell_literals cell input) (row_literals cells inputs) values
     ∙ ap (λ b. b && all_true (row_literals cells inputs) values) (all_true-cell cell input values)
     ∙ ap (λ b. allows cell (value_of values input.0) && b) (all_true-row cells inputs values (omega arith))
+all_true-row [] [] values width = refl
+all_true-row cells inputs values width = absurd (omega arith)
 
 -- they are literals of the nodes so far, as the inputs are
 AreBelow-cell : (first : ℕ) (ps : List Pair) (cell : Cell) (input : Lit) → IsBelow first ps input → AreBelow first ps (cell_literals cell input)
@@ -32,12 +30,11 @@ AreBelow-cell first ps One input below = All-cons (IsBelow first ps) input [] be
 AreBelow-cell first ps Zero input below = All-cons (IsBelow first ps) (flipped input) [] (complement-below input.0 (first + length ps) below) (All-nil (IsBelow first ps))
 
 pub AreBelow-row : (first : ℕ) (ps : List Pair) (cells : List Cell) (inputs : List Lit) → AreBelow first ps inputs → AreBelow first ps (row_literals cells inputs)
-AreBelow-row first ps [] inputs below = All-nil (IsBelow first ps)
-AreBelow-row first ps (cell ∷ cells) [] below = All-nil (IsBelow first ps)
 AreBelow-row first ps (cell ∷ cells) (input ∷ inputs) below =
     All-append (IsBelow first ps) (cell_literals cell input) (row_literals cells inputs)
     (AreBelow-cell first ps cell input (All-head (IsBelow first ps) input inputs below))
     (AreBelow-row first ps cells inputs (All-tail (IsBelow first ps) input inputs below))
+AreBelow-row first ps cells inputs below = All-nil (IsBelow first ps)
 
 -- a row's literal is 1 exactly where the row matches
 pub Makes-row : (first : ℕ) (ps : List Pair) (cells : List Cell) (inputs : List Lit) → AreNormal first ps → 1 ≤ first → AreBelow first ps inputs → length cells ≡ length inputs → Makes first ps (λ values. matches cells (values_at inputs values)) (row_made first ps cells inputs)
@@ -67,13 +64,10 @@ HaveWidth inputs rows = All (λ (row : RowValue). length row.cells ≡ length in
 
 -- the rows so far don't match, nor does this one, nor a later one
 join_rows : (a b c : Bool) → ((a && (not b && true)) && not c) ≡ (a && not (b || c))
-join_rows true true c = refl
-join_rows true false c = refl
-join_rows false b c = refl
+join_rows a b c = grind arith
 
 join_none : (a : Bool) → a ≡ (a && not false)
-join_none true = refl
-join_none false = refl
+join_none a = grind arith
 
 -- the literals of the rows are all 1 exactly where those before them are and no row matches
 pub MakesAll-rows : (first : ℕ) (ps : List Pair) (lits : List Lit) (rows : List RowValue) (inputs : List Lit) → AreNormal first ps → 1 ≤ first → AreBelow first ps inputs → AreBelow first ps lits → HaveWidth inputs rows
@@ -136,8 +130,7 @@ cover_made-grows first ps cover inputs =
 
 -- the cover's literal from that of "no row matches"
 in_phase : (value none row : Bool) → none ≡ not row → cond value (not none) (not (not none)) ≡ cond value row (not row)
-in_phase true none row e = ap not e ∙ not-not row
-in_phase false none row e = ap (λ b. not (not b)) e ∙ ap not (not-not row)
+in_phase value none row e = grind arith
 
 phase_below : (value : Bool) (lit n : ℕ) → lit < 2 * n → cond value (complement lit) (complement (complement lit)) < 2 * n
 phase_below true lit n l = complement-below lit n l
@@ -164,23 +157,6 @@ Makes-cover first ps cover inputs normal some below widths =
           value_of-phase (values_from vs none.pairs) cover.value none.lit
           ∙ in_phase cover.value (value_of (values_from vs none.pairs) none.lit) (some_row cover.rows (values_at inputs (values_from vs ps))) (m.value vs base ∙ r.value vs base);
     }
-
--- as said of graphs: the value,
-pub HasCoverValue-cover_of : (g : Aig) (cover : CoverValue) (inputs : List Lit) → AreNormal (first_and g) g.pairs → All (λ (input : Lit). IsLit g input.0) inputs → HaveWidth inputs cover.rows
-    → HasCoverValue (with_pairs g (cover_of g cover inputs).pairs) cover inputs (cover_of g cover inputs).lit
-HasCoverValue-cover_of g cover inputs normal below widths =
-    let makes : Makes (first_and g) g.pairs (λ values. cover_value cover (values_at inputs values)) (cover_of g cover inputs) = Makes-cover (first_and g) g.pairs cover inputs normal (omega arith) below widths in
-    record {
-      value = λ sources values fits.
-          let m = Makes-fits g (λ values. cover_value cover (values_at inputs values)) (cover_of g cover inputs) sources values makes fits in
-          let same : values_at inputs (values_of g sources) ≡ values_at inputs values =
-          sym (values_at-more (first_and g) g.pairs (cover_of g cover inputs).pairs inputs (false ∷ sources) makes.grows below (AreBase-sources sources (length g.kinds) fits.given)) ∙ ap (values_at inputs) (sym m.1) in
-          m.0 ∙ ap (cover_value cover) same;
-    }
-
--- and that older literals keep their values
-pub KeepsValues-cover_of : (g : Aig) (cover : CoverValue) (inputs : List Lit) → AreNormal (first_and g) g.pairs → KeepsValues g (with_pairs g (cover_of g cover inputs).pairs)
-KeepsValues-cover_of g cover inputs normal = KeepsValues-Extends g (cover_of g cover inputs).pairs normal (cover_made-grows (first_and g) g.pairs cover inputs)
 
 -- a loop over the rows, at one more row
 rows_onto-drop : (first : ℕ) (ps : List Pair) (lits : List Lit) (rows : List RowValue) (inputs : List Lit) (i : ℕ) (row : RowValue) → i < length rows → row ≡ get_or rows i row
@@ -226,3 +202,49 @@ with_pairs-again g g0 g1 ps qs e0 e1 = rw (e1, e0) refl
 -- a row only adds nodes
 pub row_made-grows : (first : ℕ) (ps : List Pair) (cells : List Cell) (inputs : List Lit) → Extends ps (row_made first ps cells inputs).pairs
 row_made-grows first ps cells inputs = balanced-grows first (length (row_literals cells inputs)) ps (row_literals cells inputs)
+
+-- of a balanced AND
+pub balanced-again : (first depth : ℕ) (ps qs : List Pair) (lits : List Lit) → Extends (balanced first depth ps lits).pairs qs → balanced first depth qs lits ≡ record { pairs = qs; lit = (balanced first depth ps lits).lit }
+balanced-again first (suc depth) ps qs (a ∷ b ∷ rest) e =
+    let lits : List Lit = a ∷ b ∷ rest in
+    let x : Answer = balanced first depth ps (front_half lits) in
+    let y : Answer = balanced first depth x.pairs (back_half lits) in
+    let out : Answer = product_of first y.pairs x.lit y.lit in
+    let ey : Extends y.pairs qs = Extends-trans y.pairs out.pairs qs (and_grows first y.pairs (min x.lit y.lit) (max x.lit y.lit)) e in
+    let ex : Extends x.pairs qs = Extends-trans x.pairs y.pairs qs (balanced-grows first depth x.pairs (back_half lits)) ey in
+    let after : Answer → Answer → Answer = λ v w. product_of first w.pairs v.lit w.lit in
+    let rx : balanced first depth qs (front_half lits) ≡ record { pairs = qs; lit = x.lit } = balanced-again first depth ps qs (front_half lits) ex in
+    let ry : balanced first depth qs (back_half lits) ≡ record { pairs = qs; lit = y.lit } = balanced-again first depth x.pairs qs (back_half lits) ey in
+    ap (λ (v : Answer). after v (balanced first depth v.pairs (back_half lits))) rx
+    ∙ ap (λ (w : Answer). product_of first w.pairs x.lit w.lit) ry
+    ∙ and_again first y.pairs qs (min x.lit y.lit) (max x.lit y.lit) e
+balanced-again first depth ps qs lits e = refl
+
+-- of a row
+pub row_made-again : (first : ℕ) (ps qs : List Pair) (cells : List Cell) (inputs : List Lit) → Extends (row_made first ps cells inputs).pairs qs → row_made first qs cells inputs ≡ record { pairs = qs; lit = (row_made first ps cells inputs).lit }
+row_made-again first ps qs cells inputs e = balanced-again first (length (row_literals cells inputs)) ps qs (row_literals cells inputs) e
+
+-- of the rows of a cover
+pub rows_onto-again : (first : ℕ) (ps qs : List Pair) (lits : List Lit) (rows : List RowValue) (inputs : List Lit) → Extends (rows_onto first ps lits rows inputs).pairs qs
+    → rows_onto first qs lits rows inputs ≡ record { pairs = qs; lits = (rows_onto first ps lits rows inputs).lits }
+rows_onto-again first ps qs lits [] inputs e = refl
+rows_onto-again first ps qs lits (row ∷ rows) inputs e =
+    let m : Answer = row_made first ps row.cells inputs in
+    let more : List Lit = lits ++ record { 0 = complement m.lit } ∷ [] in
+    let em : Extends m.pairs qs = Extends-trans m.pairs (rows_onto first m.pairs more rows inputs).pairs qs (rows_onto-grows first m.pairs more rows inputs) e in
+    ap (λ (v : Answer). rows_onto first v.pairs (lits ++ record { 0 = complement v.lit } ∷ []) rows inputs) (row_made-again first ps qs row.cells inputs em)
+    ∙ rows_onto-again first m.pairs qs more rows inputs e
+
+pub rows_made-again : (first : ℕ) (ps qs : List Pair) (rows : List RowValue) (inputs : List Lit) → Extends (rows_made first ps rows inputs).pairs qs
+    → rows_made first qs rows inputs ≡ record { pairs = qs; lits = (rows_made first ps rows inputs).lits }
+rows_made-again first ps qs rows inputs e =
+    sym (rows_alone first qs rows inputs)
+    ∙ rows_onto-again first ps qs [] rows inputs (subst (λ (ls : Literals). Extends ls.pairs qs) (sym (rows_alone first ps rows inputs)) e)
+    ∙ ap (λ (ls : Literals). record { pairs = qs; lits = ls.lits }) (rows_alone first ps rows inputs)
+
+-- of a cover
+pub cover_made-again : (first : ℕ) (ps qs : List Pair) (cover : CoverValue) (inputs : List Lit) → Extends (cover_made first ps cover inputs).pairs qs → cover_made first qs cover inputs ≡ record { pairs = qs; lit = (cover_made first ps cover inputs).lit }
+cover_made-again first ps qs cover inputs e =
+    let rows : Literals = rows_made first ps cover.rows inputs in
+    let er : Extends rows.pairs qs = Extends-trans rows.pairs (balanced_and first rows.pairs rows.lits).pairs qs (balanced-grows first (length rows.lits) rows.pairs rows.lits) e in
+    rw (rows_made-again first ps qs cover.rows inputs er, balanced-again first (length rows.lits) rows.pairs qs rows.lits e) refl

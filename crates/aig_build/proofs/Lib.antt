@@ -1,12 +1,9 @@
 mod Common
 mod BalancedLemmas
 mod CoverLemmas
-mod AgainLemmas
-mod CoverNodeLemmas
 mod SignalLemmas
 mod SourceLemmas
 mod OnlyLemmas
 mod NetValueLemmas
-mod HoldLemmas
 mod NetlistLemmas
 mod NetlistExample

@@ -1,22 +1,20 @@
--- Whatever values fit the graph, the literal of each net has the value that evaluating the flat circuit in its order gives the net.
-use Rattle.aig_build.proofs.Common.{◌≡◌, ℕ, zero, suc, ◌+◌, ◌*◌, ◌/◌, ◌%◌, ◌<◌, ◌≤◌, Bool, true, false, List, [], ◌∷◌, ◌++◌, length, map, replicate, get_or, Option, Some, None, refl, sym, ap, ap₂, ◌∙◌, subst, inl, inr, arith, slice_set, slice_get, unwrap_or, option_map, option_and_then, All-nil, All-cons, All-head, All-tail, All-get_or, All-set, All-replicate, none-some, same_Some, slice_get_within, slice_get-map, get_or_from_slice_get, In, In-get, at_within, get_left, get_right, RowValue, CoverValue, cover_value, ModelValue, LibraryValue, IsWellFormedBody, IsWellFormed, Net, Input, Latch, Cover, FlatCoverValue, FlatValue, input_values, body_at, IsThere, IsWithinBounds, cover_behind, net_value, gate_value, evaluated, flat_values, Param, param_names, regular_names, Kind, Regular, Parameter, Lit, Pair, AreNormal, Answer, value_of, Extends, AreBase, Makes, value_of-even, value_of-more, values_from, values_old, cover_made, input_names, source_kinds, IsSourceLiteral, an_input, a_latch, source_values, NetLitsValue, no_lit, net_lit, net_lits, Built, gate_made, with_gate, walked}
-use Rattle.std.proofs.lemmas.List.{length-map, length-replicate, length-append, map-set}
+-- Whatever values fit the graph, the literal of each net has the value that evaluating the flat circuit in its order gives the net; and each net has a
+-- literal of the graph, before a cover is made and after it.
+use Rattle.aig_build.proofs.Common.{◌≡◌, ℕ, zero, suc, ◌+◌, ◌*◌, ◌/◌, ◌%◌, ◌<◌, ◌≤◌, Bool, false, List, [], ◌∷◌, ◌++◌, length, map, replicate, get_or, Option, Some, None, refl, sym, ap, ap₂, ◌∙◌, subst, inl, inr, arith, slice_set, slice_get, unwrap_or, option_map, option_and_then, All-nil, All-cons, All-head, All-tail, All-get_or, All-set, All-replicate, none-some, same_Some, slice_get_within, slice_get-map, get_or_from_slice_get, In, In-get, at_within, get_left, get_right, RowValue, CoverValue, cover_value, ModelValue, LibraryValue, IsWellFormedBody, IsWellFormed, Net, Input, Latch, Cover, FlatCoverValue, FlatValue, input_values, body_at, IsThere, IsWithinBounds, cover_behind, net_value, gate_value, evaluated, flat_values, Param, Kind, Lit, Pair, AreNormal, Answer, value_of, Extends, AreBase, Makes, value_of-even, value_of-more, values_from, values_old, cover_made, input_names, source_kinds, IsSourceLiteral, an_input, a_latch, source_values, NetLitsValue, no_lit, net_lit, net_lits, Built, gate_made, with_gate, walked, drop, drop-cons, slice_get_read, set_length, Aig, IsLit, first_and, with_pairs, length-Extends, cover_of, with_cover, behind_made, gate_of, order_of, IsHeld, HoldsNets, length-map, length-replicate, length-append, map-set, All}
 use Rattle.netlist.specs.declared.command.Body.{Body}
-use Rattle.netlist.specs.declared.command.Body.TheVariants.{Cover as CoverBody, Latch as LatchBody, Subckt as SubcktBody}
+use Rattle.netlist.specs.declared.command.Body.TheVariants.{Cover as CoverBody}
 use Rattle.netlist.specs.declared.command.Command.{Command}
 use Rattle.netlist.proofs.NameLemmas.{all_members}
 use Rattle.netlist.specs.Places.{cover_in}
 use Rattle.netlist.specs.Evaluation as evaluation
 use Rattle.aig_build.proofs.BalancedLemmas.{IsBelow, AreBelow, AreBelow-more}
 use Rattle.aig_build.proofs.CoverLemmas.{values_at, HaveWidth, Makes-cover}
-use Rattle.aig_build.proofs.SignalLemmas.{AreSourced, IsBehind, behind_at, gate_is}
+use Rattle.aig_build.proofs.SignalLemmas.{AreSourced, IsBehind, behind_at, gate_is, walked-grows}
 
 -- the cover behind a flat one has rows of its width
 body_rows : (o : Option Body) (cover : CoverValue) → option_and_then cover_in o ≡ Some cover → ((b : Body) → o ≡ Some b → IsWellFormedBody b) → (row : RowValue) → In cover.rows row → length row.cells ≡ length cover.inputs
-body_rows None cover e formed = absurd (none-some cover e)
 body_rows (Some (CoverBody c)) cover e formed = let same : c ≡ cover = same_Some c cover e in subst (λ (y : CoverValue). (row : RowValue) → In y.rows row → length row.cells ≡ length y.inputs) same (formed (CoverBody c) refl)
-body_rows (Some (LatchBody l)) cover e formed = absurd (none-some cover e)
-body_rows (Some (SubcktBody s)) cover e formed = absurd (none-some cover e)
+body_rows o cover e formed = absurd (none-some cover e)
 
 command_formed : (o : Option Command) (b : Body) → option_map (λ (c : Command). c.body) o ≡ Some b → ((c : Command) → o ≡ Some c → IsWellFormedBody c.body) → IsWellFormedBody b
 command_formed None b e formed = absurd (none-some b e)
@@ -58,18 +56,7 @@ module _ (library : LibraryValue) (flat : FlatValue) (params : List Param) (form
 
   -- the sources: the inputs and the latches
   pub source_count : length (source_kinds flat params) ≡ length (input_names flat params) + length flat.latches
-  source_count =
-      let r : List Kind = replicate (length (regular_names flat params)) Regular in
-      let p : List Kind = replicate (length params) Parameter in
-      let l : List Kind = replicate (length flat.latches) Regular in
-      let a : length (r ++ (p ++ l)) ≡ length r + length (p ++ l) = length-append r (p ++ l) in
-      let b : length (p ++ l) ≡ length p + length l = length-append p l in
-      let c : length r ≡ length (regular_names flat params) = length-replicate (length (regular_names flat params)) Regular in
-      let d : length p ≡ length params = length-replicate (length params) Parameter in
-      let e : length l ≡ length flat.latches = length-replicate (length flat.latches) Regular in
-      let f : length (input_names flat params) ≡ length (regular_names flat params) + length (param_names params) = length-append (regular_names flat params) (param_names params) in
-      let g : length (param_names params) ≡ length params = length-map params (λ (q : Param). q.name) in
-      omega arith
+  source_count = omega (arith, length-append {A = Kind}, length-append {A = List ℕ}, length-replicate {A = Kind}, length-map params (λ (q : Param). q.name))
 
   -- a source's literal is one of every graph over the sources
   pub source_below : (net : Net) (lit : ℕ) (ps : List Pair) → IsThere flat net → IsSourceLiteral flat params net lit → lit < 2 * (first + length ps)
@@ -198,3 +185,50 @@ module _ (library : LibraryValue) (flat : FlatValue) (params : List Param) (form
     -- the literal of each net after the whole order
     pub flat_right : (nets : NetLitsValue) → AreSourced flat params nets → nets.covers ≡ replicate (length flat.covers) no_lit → IsRight (walked library flat first (record { pairs = []; nets = nets }) flat.order) (flat_values library flat xs s)
     flat_right nets sourced none = walked_right flat.order (record { pairs = []; nets = nets }) (replicate (length flat.covers) false) (λ k i. bounds.order_there k i) (start_right nets sourced none)
+
+module _ (flat : FlatValue) (g : Aig) (nets : NetLitsValue) (holds : HoldsNets flat g nets) where
+  pub held : (net : Net) → IsThere flat net → IsHeld nets net
+  held (Input i) there = let n : length nets.inputs ≡ length flat.inputs = holds.inputs in let l : i < length flat.inputs = there in omega arith
+  held (Latch j) there = let n : nets.latches + length flat.latches ≤ first_and g = holds.latches in let s = holds.small in let l : j < length flat.latches = there in omega (arith, holds.small)
+  held (Cover k) there = let n : length nets.covers ≡ length flat.covers = holds.covers in let l : k < length flat.covers = there in omega arith
+
+  pub held_lit : (net : Net) → IsThere flat net → IsLit g (net_lit nets net).0
+  held_lit (Input i) there = below_or_zero (first_and g) g.pairs nets.inputs i (slice_get nets.inputs i) (omega arith) refl holds.input_lits
+  held_lit (Latch j) there = let n : nets.latches + length flat.latches ≤ first_and g = holds.latches in let l : j < length flat.latches = there in omega arith
+  held_lit (Cover k) there = below_or_zero (first_and g) g.pairs nets.covers k (slice_get nets.covers k) (omega arith) refl holds.cover_lits
+
+  pub held_lits : (ns : List Net) → ((net : Net) → In ns net → IsThere flat net) → All (λ (lit : Lit). IsLit g lit.0) (net_lits nets ns)
+  held_lits [] there = All-nil (λ (lit : Lit). IsLit g lit.0)
+  held_lits (net ∷ ns) there = All-cons (λ (lit : Lit). IsLit g lit.0) (net_lit nets net) (net_lits nets ns) (held_lit net (there net (inl refl))) (held_lits ns (λ n i. there n (inr i)))
+
+-- after a cover
+pub holds_next : (flat : FlatValue) (g new : Aig) (nets : NetLitsValue) (ps : List Pair) (k : ℕ) (lit : Lit) → HoldsNets flat g nets → Extends g.pairs ps → new ≡ with_pairs g ps → IsLit new lit.0 → HoldsNets flat new (with_cover nets k lit)
+holds_next flat g new nets ps k lit holds grows same is =
+    subst (λ (h : Aig). HoldsNets flat h (with_cover nets k lit)) (sym same) (record {
+      inputs = holds.inputs;
+      covers = set_length nets.covers k lit ∙ holds.covers;
+      latches = holds.latches;
+      small = holds.small;
+      input_lits = AreBelow-more (first_and g) g.pairs ps nets.inputs grows holds.input_lits;
+      cover_lits = All-set (IsBelow (first_and g) ps) nets.covers k lit (subst (λ (h : Aig). IsLit h lit.0) same is) (AreBelow-more (first_and g) g.pairs ps nets.covers grows holds.cover_lits);
+    })
+
+-- the flat cover that is read at a place
+pub cover_read : (flat : FlatValue) (items : List FlatCoverValue) (k : ℕ) (c : FlatCoverValue) → items ≡ flat.covers → c ≡ get_or items k c → k < length flat.covers → slice_get flat.covers k ≡ Some c
+cover_read flat items k c same is there = slice_get_read flat.covers (length flat.covers) k c refl there (subst (λ xs. c ≡ get_or xs k c) same is)
+
+-- what is made at a place
+pub gate_at : (library : LibraryValue) (flat : FlatValue) (g : Aig) (nets : NetLitsValue) (k : ℕ) (items : List FlatCoverValue) (c : FlatCoverValue) (cover : CoverValue) (lits : List Lit) → items ≡ flat.covers → c ≡ get_or items k c → k < length flat.covers
+    → cover_behind library c ≡ Some cover → lits ≡ net_lits nets c.inputs → gate_of library flat g nets k ≡ cover_of g cover lits
+gate_at library flat g nets k items c cover lits read is there behind same =
+    ap (gate_made library (first_and g) (record { pairs = g.pairs; nets = nets })) (cover_read flat items k c read is there) ∙ ap (λ o. behind_made (first_and g) g.pairs o (net_lits nets c.inputs)) behind ∙ ap (cover_of g cover) (sym same)
+
+-- one cover has no more nodes than what is left of an order
+pub order_gate_length : (library : LibraryValue) (flat : FlatValue) (g : Aig) (nets : NetLitsValue) (order : List ℕ) (i d : ℕ) → i < length order
+    → length (gate_of library flat g nets (get_or order i d)).pairs ≤ length (order_of library flat g nets (drop i order)).pairs
+order_gate_length library flat g nets order i d l =
+    let k : ℕ = get_or order i d in
+    let made : Answer = gate_of library flat g nets k in
+    let b : Built = with_gate (record { pairs = g.pairs; nets = nets }) k made in
+    subst (λ ks. length made.pairs ≤ length (order_of library flat g nets ks).pairs) (sym (drop-cons order i d l))
+    (length-Extends made.pairs (walked library flat (first_and g) b (drop (suc i) order)).pairs (walked-grows library flat (first_and g) b (drop (suc i) order)))

@@ -4,7 +4,7 @@ use Rattle.aig_build.proofs.Common.{◌≡◌, ℕ, true, false, List, [], ◌�
 use Rattle.netlist.specs.declared.command.Body.TheVariants.{Cover as CoverBody}
 use Rattle.aig_core.proofs.ValueExample.{pair}
 use Rattle.aig_build.specs.NetlistGraph.{source_kinds, input_names, IsSourceLiteral, an_input, Makes, a_source, a_cover, MakesAll, none, more, AreRootsMade, IsGraphOf}
-use Rattle.aig_build.proofs.CoverNodeLemmas.{cover_is}
+use Rattle.aig_build.proofs.OnlyLemmas.{cover_is}
 
 abbrev choice : CoverValue
 choice = record {

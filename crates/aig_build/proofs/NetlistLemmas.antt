@@ -1,21 +1,19 @@
 -- The graph that the code makes of a flat circuit is its graph, and its roots have the outputs and the next states of a clock cycle.
-use Rattle.aig_build.proofs.Common.{◌≡◌, ℕ, ◌+◌, ◌<◌, ◌≤◌, Bool, false, List, [], ◌∷◌, ◌++◌, length, map, reverse, replicate, refl, sym, ap, ap₂, ◌∙◌, subst, subst₂, inl, inr, arith, All-from_get_or, All-replicate, unwrap_or-slice_get, In, In-append, place_in, from_map, LibraryValue, IsWellFormed, Net, Input, Latch, Cover, OutPort, FlatLatch, FlatValue, cover_numbers, reads_at, PostsAll, IsThere, IsWithinBounds, net_value, flat_values, flat_outputs, flat_next, input_values, HasCycles, Param, AreParameters, Lit, Aig, IsLit, with_pairs, RootsValue, lits_of, roots_of, AreRoots, value_of, FitsGraph, MOST_NODES, Literals, input_names, source_kinds, root_nets, MakesAll, IsGraphOf, HasTooManyNodes, source_values, literal_values, HasSourceCycles, NetLitsValue, no_lit, net_lit, net_lits, Built, marks_of, regular_lits, regular_next, start_nets, source_aig, order_of, root_lits, HoldsNets}
+use Rattle.aig_build.proofs.Common.{◌≡◌, ℕ, ◌+◌, ◌<◌, ◌≤◌, Bool, false, List, [], ◌∷◌, ◌++◌, length, map, reverse, replicate, refl, sym, ap, ap₂, ◌∙◌, subst, subst₂, inl, inr, arith, All-from_get_or, All-replicate, unwrap_or-slice_get, In, In-append, place_in, from_map, LibraryValue, IsWellFormed, Net, Input, Cover, OutPort, FlatLatch, FlatValue, cover_numbers, reads_at, PostsAll, IsThere, IsWithinBounds, net_value, flat_values, flat_outputs, flat_next, input_values, HasCycles, Param, AreParameters, Lit, Aig, IsLit, with_pairs, RootsValue, lits_of, roots_of, AreRoots, value_of, FitsGraph, MOST_NODES, Literals, input_names, source_kinds, root_nets, MakesAll, IsGraphOf, HasTooManyNodes, source_values, literal_values, HasSourceCycles, NetLitsValue, no_lit, net_lit, net_lits, Built, marks_of, regular_lits, regular_next, start_nets, source_aig, order_of, root_lits, HoldsNets, length-map, length-replicate, length-append, map-append}
 use Rattle.std.proofs.lemmas.Simd.{map-map}
-use Rattle.std.proofs.lemmas.List.{length-map, length-replicate, length-append, map-append}
 use Rattle.netlist.specs.Flattened.{HasValues}
 use Rattle.netlist.specs.Runs.{IsCycle}
 use Rattle.aig_core.proofs.FitLemmas.{is_values_of}
 use Rattle.aig_build.proofs.SignalLemmas.{AreKnown, order_made}
 use Rattle.aig_build.proofs.SourceLemmas.{length-marked, length-regular, length-param_lits, regular_next-le, start_latches, start_sourced}
-use Rattle.aig_build.proofs.NetValueLemmas.{source_count, source_below, IsRight, net_right, flat_right}
-use Rattle.aig_build.proofs.HoldLemmas.{held_lit}
+use Rattle.aig_build.proofs.NetValueLemmas.{source_count, source_below, IsRight, net_right, flat_right, held_lit}
 
 -- the covers among joined nets
 numbers-append : (xs ys : List Net) → cover_numbers (xs ++ ys) ≡ cover_numbers xs ++ cover_numbers ys
 numbers-append [] ys = refl
-numbers-append (Input i ∷ xs) ys = numbers-append xs ys
-numbers-append (Latch j ∷ xs) ys = numbers-append xs ys
 numbers-append (Cover k ∷ xs) ys = ap (λ l. k ∷ l) (numbers-append xs ys)
+numbers-append (Input i ∷ xs) ys = numbers-append xs ys
+numbers-append (net ∷ xs) ys = numbers-append xs ys
 
 -- what drives the roots is there
 module _ (library : LibraryValue) (flat : FlatValue) (bounds : IsWithinBounds library flat) where
@@ -118,12 +116,7 @@ module _ (library : LibraryValue) (flat : FlatValue) (params : List Param) (form
   module _ (x : List ℕ → Bool) (s values : List Bool) (g : Aig) (same : g ≡ with_pairs g0 final.pairs) (fits : FitsGraph g (source_values flat params x s) values) where
     states : length s ≡ length flat.latches
     states =
-        let a : length (source_values flat params x s) ≡ length (map x (input_names flat params)) + length s = length-append (map x (input_names flat params)) s in
-        let b : length (map x (input_names flat params)) ≡ length (input_names flat params) = length-map (input_names flat params) x in
-        let n : length (source_kinds flat params) ≡ length (input_names flat params) + length flat.latches = source_count library flat params formed bounds in
-        let k : length g.kinds ≡ length (source_kinds flat params) = ap (λ (h : Aig). length h.kinds) same in
-        let e : length (source_values flat params x s) ≡ length g.kinds = fits.given in
-        omega arith
+        omega (arith, fits.given, ap (λ (h : Aig). length h.kinds) same, source_count library flat params formed bounds, length-append (map x (input_names flat params)) s, length-map (input_names flat params) x)
 
     right : IsRight library flat params formed bounds x s states final (flat_values library flat (input_values flat x) s)
     right = flat_right library flat params formed bounds x s states nets0 (start_sourced flat params bounds.inputs_once are) refl

@@ -1,13 +1,11 @@
 -- Covers made in the order of a depth-first walk, each once, give the nodes and the literals of the signals that are made again at every use.
-use Rattle.aig_build.proofs.Common.{◌≡◌, ℕ, ◌+◌, ◌<◌, List, [], ◌∷◌, ◌++◌, length, Option, Some, None, refl, sym, ap, ◌∙◌, subst, inl, inr, reverse, slice_get, unwrap_or, IsSome, In, In-left, In-right, at_within, set_here, set_other, set_length, same_or, CoverValue, LibraryValue, Net, Input, Latch, Cover, FlatCoverValue, FlatValue, cover_behind, cover_numbers, inputs_at, reads_at, IsThere, IsWithinBounds, Param, Lit, Pair, Answer, Extends, Extends-refl, Extends-trans, cover_made, IsCoverMade, NetLitsValue, no_lit, net_lit, net_lits, with_cover, Built, behind_made, gate_made, with_gate, walked}
+use Rattle.aig_build.proofs.Common.{◌≡◌, ℕ, ◌+◌, ◌<◌, List, [], ◌∷◌, ◌++◌, length, Option, Some, None, refl, sym, ap, ◌∙◌, subst, inl, inr, reverse, slice_get, unwrap_or, IsSome, In, In-left, In-right, at_within, set_here, set_other, set_length, same_or, CoverValue, LibraryValue, Net, Input, Latch, Cover, FlatCoverValue, FlatValue, cover_behind, cover_numbers, inputs_at, reads_at, IsThere, IsWithinBounds, Param, Lit, Pair, Answer, Extends, Extends-refl, Extends-trans, cover_made, IsCoverMade, NetLitsValue, no_lit, net_lit, net_lits, with_cover, Built, behind_made, gate_made, with_gate, walked, Posts, skips, posts, PostsAll, none, more}
 use mathlib.Core.List.{reverse_aux, reverse-reverse}
-use Rattle.depth_first.specs.DepthFirst.{Posts, skips, posts, PostsAll, none, more}
 use Rattle.depth_first.proofs.PostLemmas.{nodes_done}
 use Rattle.aig_build.specs.NetlistGraph.{source_kinds, IsSourceLiteral, Makes, a_source, a_cover, MakesAll}
 use Rattle.aig_build.specs.NetlistGraph as graph
-use Rattle.aig_build.proofs.CoverLemmas.{cover_made-grows}
-use Rattle.aig_build.proofs.AgainLemmas.{cover_made-again}
-use Rattle.aig_build.proofs.CoverNodeLemmas.{cover_is}
+use Rattle.aig_build.proofs.CoverLemmas.{cover_made-grows, cover_made-again}
+use Rattle.aig_build.proofs.OnlyLemmas.{cover_is}
 
 -- each step only adds nodes
 behind-grows : (first : ℕ) (ps : List Pair) (o : Option CoverValue) (lits : List Lit) → Extends ps (behind_made first ps o lits).pairs

@@ -1,7 +1,6 @@
 -- The literals of the inputs as the code gives them: the regular ones in their order, then the parameters in the order of their list.
-use Rattle.aig_build.proofs.Common.{◌≡◌, ℕ, zero, suc, ◌+◌, ◌*◌, ◌<◌, ◌≤◌, Bool, true, false, not, List, [], ◌∷◌, length, map, filter, Some, replicate, refl, sym, ap, ◌∙◌, subst, inl, inr, arith, slice_set, slice_get, unwrap_or, option_map, none-some, same_Some, slice_get_within, slice_get-map, In, In-map, In-filter, from_map, place_in, at_within, get_left, set_here, set_other, set_length, same_or, replicate_at, same_list, get_right, Input, FlatValue, has_name, AreApart, joined_apart, filtered_apart, apart_once, Param, param_names, regular_names, AreParameters, Lit, input_names, IsSourceLiteral, an_input, a_latch, NetLitsValue, no_lit, net_lit, marked, index_behind, regular_lits, regular_next, with_param_lits, marks_of, start_nets}
+use Rattle.aig_build.proofs.Common.{◌≡◌, ℕ, zero, suc, ◌+◌, ◌*◌, ◌<◌, ◌≤◌, Bool, true, false, not, List, [], ◌∷◌, length, map, filter, Some, replicate, refl, sym, ap, ◌∙◌, subst, inl, inr, arith, slice_set, slice_get, unwrap_or, option_map, none-some, same_Some, slice_get_within, slice_get-map, In, In-map, In-filter, from_map, place_in, at_within, get_left, set_here, set_other, set_length, same_or, replicate_at, same_list, get_right, Input, FlatValue, has_name, AreApart, joined_apart, filtered_apart, apart_once, Param, param_names, regular_names, AreParameters, Lit, input_names, IsSourceLiteral, an_input, a_latch, NetLitsValue, no_lit, net_lit, marked, index_behind, regular_lits, regular_next, with_param_lits, marks_of, start_nets, length-map, length-replicate, length-append}
 use Rattle.std.proofs.lemmas.Bool.{both_ways, cases_Bool}
-use Rattle.std.proofs.lemmas.List.{length-map, length-replicate, length-append}
 use Rattle.tl_text.specs.Once.{AreOnce}
 use Rattle.tl_text.proofs.NameSetLemmas.{has_in, in_has}
 use Rattle.aig_build.proofs.SignalLemmas.{AreSourced}
@@ -191,11 +190,7 @@ module _ (flat : FlatValue) (params : List Param) (once : AreOnce flat.inputs) (
   start_next = next_is (marks_of flat params) marks_are
 
   pub start_latches : (start_nets flat params).latches ≡ 1 + length (input_names flat params)
-  start_latches =
-      let n : regular_next 1 (marks_of flat params) ≡ 1 + length (regular_names flat params) = start_next in
-      let a : length (input_names flat params) ≡ length (regular_names flat params) + length (param_names params) = length-append (regular_names flat params) (param_names params) in
-      let b : length (param_names params) ≡ length params = length-map params (λ (q : Param). q.name) in
-      omega arith
+  start_latches = omega (arith, start_next, length-append (regular_names flat params) (param_names params), length-map params (λ (q : Param). q.name))
 
   pub start_sourced : AreSourced flat params (start_nets flat params)
   start_sourced = sourced (marks_of flat params) marks_are (replicate (length flat.covers) no_lit) (start_nets flat params).latches start_latches
@@ -203,7 +198,4 @@ module _ (flat : FlatValue) (params : List Param) (once : AreOnce flat.inputs) (
   -- there are no more regular inputs than inputs
   pub few_regular : length (regular_names flat params) ≤ length flat.inputs
   few_regular =
-      let n : regular_next 1 (marks_of flat params) ≡ 1 + length (regular_names flat params) = start_next in
-      let m : length (marks_of flat params) ≡ length flat.inputs = length-marked (replicate (length flat.inputs) false) params ∙ length-replicate (length flat.inputs) false in
-      let l : regular_next 1 (marks_of flat params) ≤ 1 + length (marks_of flat params) = regular_next-le 1 (marks_of flat params) in
-      omega arith
+      omega (arith, start_next, regular_next-le 1 (marks_of flat params), length-marked (replicate (length flat.inputs) false) params, length-replicate (length flat.inputs) false)

@@ -1,14 +1,27 @@
--- Rows and covers as the code makes them, and what they mean.
-use Rattle.std.specs.Prelude.{◌≡◌, ℕ, Bool, if◌then◌else◌, List, [], ◌∷◌, map}
+-- The balanced AND of a list, rows and covers as the code makes them.
+use Rattle.std.specs.Prelude.{ℕ, zero, suc, if◌then◌else◌, List, [], ◌∷◌, ◌++◌, length}
 use Rattle.netlist.specs.declared.cell.Cell.{Cell}
-use Rattle.netlist.specs.CoverValue.{RowValue, CoverValue, cover_value}
+use Rattle.netlist.specs.CoverValue.{RowValue, CoverValue}
 use Rattle.aig_core.specs.declared.lit.Lit.{Lit}
 use Rattle.aig_core.specs.declared.lit.Pair.{Pair}
 use Rattle.aig_core.specs.Aig.{Aig, first_and}
-use Rattle.aig_core.specs.And.{complement, Answer}
-use Rattle.aig_core.specs.Value.{value_of, FitsGraph}
-use Rattle.aig_build.specs.BalancedMade.{balanced_and}
+use Rattle.aig_core.specs.And.{complement, Answer, product_of}
 use Rattle.aig_build.specs.CoverGraph.{row_literals, Literals}
+use Rattle.aig_build.specs.CoverNodes.{front_half, back_half}
+
+-- the balanced AND of a list: of none the constant 1, of one that literal, else the product of the balanced ANDs of its halves, the first half made first; at most `depth` halvings
+abbrev pub balanced : ℕ → ℕ → List Pair → List Lit → Answer
+balanced first zero pairs lits = record { pairs = pairs; lit = 1 }
+balanced first (suc depth) pairs [] = record { pairs = pairs; lit = 1 }
+balanced first (suc depth) pairs (a ∷ []) = record { pairs = pairs; lit = a.0 }
+balanced first (suc depth) pairs (a ∷ b ∷ rest) =
+    let front : Answer = balanced first depth pairs (front_half (a ∷ b ∷ rest)) in
+    let back : Answer = balanced first depth front.pairs (back_half (a ∷ b ∷ rest)) in
+    product_of first back.pairs front.lit back.lit
+
+-- as many halvings as the list is long always suffice
+abbrev pub balanced_and : ℕ → List Pair → List Lit → Answer
+balanced_and first pairs lits = balanced first (length lits) pairs lits
 
 -- a row is the balanced AND of its literals
 abbrev pub row_made : ℕ → List Pair → List Cell → List Lit → Answer
@@ -22,6 +35,13 @@ rows_made first pairs (row ∷ rows) inputs =
     let others : Literals = rows_made first made.pairs rows inputs in
     record { pairs = others.pairs; lits = record { 0 = complement made.lit } ∷ others.lits }
 
+-- the same, after the literals so far
+abbrev pub rows_onto : ℕ → List Pair → List Lit → List RowValue → List Lit → Literals
+rows_onto first pairs lits [] inputs = record { pairs = pairs; lits = lits }
+rows_onto first pairs lits (row ∷ rows) inputs =
+    let made : Answer = row_made first pairs row.cells inputs in
+    rows_onto first made.pairs (lits ++ record { 0 = complement made.lit } ∷ []) rows inputs
+
 -- a cover is the complement of the balanced AND of its rows' complements; with output character 0 it is complemented once more
 abbrev pub cover_made : ℕ → List Pair → CoverValue → List Lit → Answer
 cover_made first pairs cover inputs =
@@ -32,7 +52,3 @@ cover_made first pairs cover inputs =
 -- a cover over the nodes of a graph
 abbrev pub cover_of : Aig → CoverValue → List Lit → Answer
 cover_of g cover inputs = cover_made (first_and g) g.pairs cover inputs
-
--- Whatever values fit the graph, a literal has the cover's value over the values of its inputs' literals.
-pub record HasCoverValue (g : Aig) (cover : CoverValue) (inputs : List Lit) (lit : ℕ) : Type 0 where
-  pub value : (sources values : List Bool) → FitsGraph g sources values → value_of values lit ≡ cover_value cover (map (λ (input : Lit). value_of values input.0) inputs)

@@ -1,11 +1,18 @@
 -- The AND nodes of products, rows and covers, as relations: nodes that stand become nodes that then stand, and a literal.
-use Rattle.std.specs.Prelude.{◌≡◌, ℕ, ◌≤◌, if◌then◌else◌, List, [], ◌∷◌, length}
+use Rattle.std.specs.Prelude.{◌≡◌, ℕ, ◌≤◌, if◌then◌else◌, List, [], ◌∷◌, length, take, drop}
+use Rattle.std.specs.Int.{div_ceil}
 use Rattle.netlist.specs.CoverValue.{RowValue, CoverValue}
 use Rattle.aig_core.specs.declared.lit.Lit.{Lit}
 use Rattle.aig_core.specs.declared.lit.Pair.{Pair}
 use Rattle.aig_core.specs.And.{complement, Answer, product_of}
-use Rattle.aig_build.specs.Balanced.{front_half, back_half}
 use Rattle.aig_build.specs.CoverGraph.{row_literals, Literals}
+
+-- the first half of a list, the longer one where the halves differ, and the rest
+abbrev pub front_half : List Lit → List Lit
+front_half lits = take (div_ceil (length lits) 2) lits
+
+abbrev pub back_half : List Lit → List Lit
+back_half lits = drop (div_ceil (length lits) 2) lits
 
 -- The balanced AND of a list: of none the constant 1, of one that literal, else the product of the balanced ANDs of its halves, the first half made first.
 pub data IsBalanced (first : ℕ) : List Pair → List Lit → Answer → Type 0 where

@@ -1,12 +1,9 @@
 -- What public clauses say.
-pub mod Balanced
 pub mod CoverGraph
 pub mod CoverNodes
 pub mod NetlistGraph
 pub mod NetlistCycle
 pub mod Refusals
 -- What only bodies are compared with.
-pub mod BalancedMade
 pub mod CoverMade
-pub mod RowsOnto
 pub mod Walked

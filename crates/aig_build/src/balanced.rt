@@ -2,7 +2,7 @@
 ghost use Rattle.std.specs.Prelude.{◌≡◌, ◌+◌, ◌*◌, ◌/◌, ◌<◌, ◌≤◌, length, IfOk, OnOk, All, Err};
 ghost use Rattle.aig_core.specs.Aig.{IsLit, first_and};
 ghost use Rattle.aig_core.specs.And.{with_pairs};
-ghost use Rattle.aig_build.specs.BalancedMade.{balanced_and};
+ghost use Rattle.aig_build.specs.CoverMade.{balanced_and};
 
 use aig_core::{AigErr, Graph, Lit};
 

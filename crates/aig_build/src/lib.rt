@@ -9,16 +9,15 @@
 //!
 //! `specs/NetlistGraph.antt` defines the graph of a netlist without any memory: a signal is built over its inputs, each of
 //! which is built before it, from left to right, and again at every use. Building it again adds no node, since no AND is
-//! created twice (`proofs/AgainLemmas.antt`). So the code builds each cover once, in the flat circuit's order, and remembers
+//! created twice (`proofs/CoverLemmas.antt`). So the code builds each cover once, in the flat circuit's order, and remembers
 //! its literal. `proofs/SignalLemmas.antt` shows that this gives the same nodes with the same indices: the order is the
 //! depth-first postorder from the roots, in which the signals first meet the covers.
 //!
 //! `specs/CoverNodes.antt` has products, rows and covers as relations between the nodes before, the nodes after and a
-//! literal. `specs/BalancedMade.antt` and `specs/CoverMade.antt` have them as functions, and `proofs/CoverNodeLemmas.antt`
-//! shows that both are the same. `proofs/CoverLemmas.antt` shows that the literal has the value of the cover.
-//! `proofs/NetValueLemmas.antt` shows that the literal of each net has the value which evaluating the flat circuit gives it,
-//! so the roots have the outputs and the next states of the source circuit's cycle (`specs/NetlistCycle.antt`).
-//! `proofs/NetlistExample.antt` works out a multiplexer.
+//! literal. `specs/CoverMade.antt` has them as functions, and `proofs/OnlyLemmas.antt` shows that both are the same.
+//! `proofs/CoverLemmas.antt` shows that the literal has the value of the cover. `proofs/NetValueLemmas.antt` shows that the
+//! literal of each net has the value which evaluating the flat circuit gives it, so the roots have the outputs and the next
+//! states of the source circuit's cycle (`specs/NetlistCycle.antt`). `proofs/NetlistExample.antt` works out a multiplexer.
 #![tactic(auto)]
 
 mod balanced;

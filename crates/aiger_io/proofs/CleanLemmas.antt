@@ -1,10 +1,9 @@
 -- The library of a text is well formed, its names are clean, and those of its ports short.
-use Rattle.aiger_io.proofs.Common.{◌≡◌, lit<, ℕ, zero, suc, ◌+◌, ◌-◌, ◌/◌, ◌<◌, ◌≤◌, List, [], ◌∷◌, ◌++◌, length, drop, Some, Ok, inl, inr, refl, sym, ap, ◌∙◌, subst, arith, length-drop, slice_get, lines, length-replicate, same_Some, In, In-append, In-left, In-right, RowValue, LibraryValue, Ports, ports_of, input_ports, output_ports, clock_ports, Cell, One, Command, AreOnce, named_count, Circuit, circuit_of, IsLibraryIn, mark_of, variable_name, next_name, cell_of, cover_command, port_name, item_commands, commands_from, commands_of, model_of, library_of, item_count, no_name, no_symbols, Header, Item, Input, Latch, Output, And, left_apart, right_apart, ◌*◌, ◌^◌, true, false, ◌&&◌, ◌⊎◌, decimal, codes, length-append, and_parts, length-decimal-le, slice_get_within, In-get_or, most_underscores, AreClean, IsCleanBody, IsCleanModel, HasCleanNames, ModelValue, IsClean, is_special, ordinary_clean, word_clean, one_clean, more_clean, byte_ordinary, decimal_ordinary, marked_ordinary, own_name, default_name, is_literal, is_variable, SymbolsValue}
-use Rattle.netlist.specs.WellFormed.{IsWellFormedBody, IsWellFormedModel, IsWellFormed}
+use Rattle.aiger_io.proofs.Common.{◌≡◌, lit<, ℕ, zero, suc, ◌+◌, ◌-◌, ◌/◌, ◌<◌, ◌≤◌, List, [], ◌∷◌, ◌++◌, length, drop, Some, Ok, inl, inr, refl, sym, ap, ◌∙◌, subst, arith, length-drop, slice_get, lines, length-replicate, same_Some, In, In-append, In-left, In-right, RowValue, LibraryValue, Ports, ports_of, input_ports, output_ports, clock_ports, Cell, Command, AreOnce, named_count, Circuit, circuit_of, IsLibraryIn, mark_of, variable_name, next_name, cell_of, cover_command, port_name, item_commands, commands_from, commands_of, model_of, library_of, item_count, no_name, no_symbols, Header, Item, Input, Latch, Output, And, left_apart, right_apart, ◌*◌, ◌^◌, true, false, ◌&&◌, ◌⊎◌, decimal, codes, length-append, and_parts, length-decimal-le, slice_get_within, In-get_or, AreClean, IsCleanBody, HasCleanNames, IsClean, is_special, ordinary_clean, word_clean, one_clean, more_clean, byte_ordinary, decimal_ordinary, marked_ordinary, own_name, default_name, is_literal, is_variable, SymbolsValue, rules}
+use Rattle.netlist.specs.WellFormed.{IsWellFormedBody, IsWellFormed}
 use Rattle.aiger_io.proofs.PortLemmas.{AreNamed, symbols_named, ports_once, IsPortName, by_symbol, by_default, port_name_of, inputs_length, outputs_length}
-use Rattle.aiger_io.proofs.ReadLemmas.{IsCircuitOf, circuit_read}
+use Rattle.aiger_io.proofs.LineLemmas.{IsCircuitOf, circuit_read, symbols_sized, header_small}
 use Rattle.aiger_io.proofs.RowLemmas.{lines_few, lines_short, In-drop}
-use Rattle.aiger_io.proofs.LineLemmas.{symbols_sized, header_small}
 use Rattle.netlist.specs.ShortPorts.{HasShortPorts}
 use Rattle.aiger_io.proofs.PlaceLemmas.{AreItems, IsItemAt, of_input, of_output, literal_low, variable_low, items_known}
 
@@ -20,23 +19,13 @@ module _ (P : Command → Type 0) (mark : List ℕ) (h : Header) (inputs outputs
 
 -- one row for as many inputs
 one_row : (inputs : List (List ℕ)) (cells : List Cell) → length cells ≡ length inputs → (row : RowValue) → In (record { cells = cells } ∷ []) row → length row.cells ≡ length inputs
-one_row inputs cells e row (inl same) = ap (λ (r : RowValue). length r.cells) same ∙ e
-one_row inputs cells e row (inr i) = absurd i
+one_row inputs cells e row e2 = grind arith
 
 cover_formed : (line : ℕ) (inputs : List (List ℕ)) (output : List ℕ) (cells : List Cell) (c : Command) → length cells ≡ length inputs → c ≡ cover_command line inputs output cells → IsWellFormedBody c.body
 cover_formed line inputs output cells c e same = subst (λ (d : Command). IsWellFormedBody d.body) (sym same) (one_row inputs cells e)
 
 item_formed : (mark : List ℕ) (h : Header) (inputs outputs : List (List ℕ)) (p : ℕ) (item : Item) (c : Command) → In (item_commands mark h inputs outputs p item) c → IsWellFormedBody c.body
-item_formed mark h inputs outputs p (Input own) c (inl same) = cover_formed (p + 2) (port_name inputs p ∷ []) (variable_name mark (own / 2)) (One ∷ []) c refl same
-item_formed mark h inputs outputs p (Input own) c (inr i) = absurd i
-item_formed mark h inputs outputs p (Latch own next init) c (inl same) = cover_formed (p + 2) (variable_name mark (next / 2) ∷ []) (next_name mark (p - h.inputs)) (cell_of next ∷ []) c refl same
-item_formed mark h inputs outputs p (Latch own next init) c (inr (inl same)) = subst (λ (d : Command). IsWellFormedBody d.body) (sym same) tt
-item_formed mark h inputs outputs p (Latch own next init) c (inr (inr i)) = absurd i
-item_formed mark h inputs outputs p (Output l) c (inl same) = cover_formed (p + 2) (variable_name mark (l / 2) ∷ []) (port_name outputs (p - (h.inputs + h.latches))) (cell_of l ∷ []) c refl same
-item_formed mark h inputs outputs p (Output l) c (inr i) = absurd i
-item_formed mark h inputs outputs p (And own left right) c (inl same) =
-    cover_formed (p + 2) (variable_name mark (right / 2) ∷ variable_name mark (left / 2) ∷ []) (variable_name mark (own / 2)) (cell_of right ∷ cell_of left ∷ []) c refl same
-item_formed mark h inputs outputs p (And own left right) c (inr i) = absurd i
+item_formed mark h inputs outputs p item c e = grind (arith, cover_formed)
 
 commands_formed : (mark : List ℕ) (c : Circuit) (command : Command) → In (commands_of mark c) command → IsWellFormedBody command.body
 commands_formed mark c command (inl same) = subst (λ (d : Command). IsWellFormedBody d.body) (sym same) (λ row i. absurd i)
@@ -44,24 +33,14 @@ commands_formed mark c command (inr i) =
     all_commands (λ (d : Command). IsWellFormedBody d.body) mark c.header c.inputs c.outputs 0 c.items (λ q item d at j. item_formed mark c.header c.inputs c.outputs (0 + q) item d j) command i
 
 circuit_ports : (c : Circuit) → AreOnce c.inputs → AreOnce c.outputs → (p : Ports) → AreOnce (ports_of p (model_of c))
-circuit_ports c i o input_ports = i
-circuit_ports c i o output_ports = o
-circuit_ports c i o clock_ports = tt
+circuit_ports c i o p = grind arith
 
 pub circuit_formed : (c : Circuit) → AreOnce c.inputs → AreOnce c.outputs → IsWellFormed (library_of c)
-circuit_formed c i o = record {
-  some = lit< tt;
-  once = ((λ j. j), tt);
-  each = λ m j. elim j [
-    | inl same ↦ subst IsWellFormedModel (sym same) (record { ports = circuit_ports c i o; commands = commands_formed (mark_of (c.inputs ++ c.outputs)) c })
-    | inr k ↦ absurd k
-  ];
-}
+circuit_formed c i o = search (rules, lit<, circuit_ports, commands_formed)
 
 -- what was read has few names
 pub small_names : (text : List ℕ) (c : Circuit) (r : IsCircuitOf text c) → length text ≤ 67108864 → named_count r.header < 4294967296
 small_names text c r l =
-    let n : length r.items ≡ item_count r.header = r.all.count in
     let w : length r.items ≤ 0 + length (drop 1 (lines text)) = r.all.within in
     omega (arith, length-drop 1 (lines text), lines_few text)
 
@@ -86,10 +65,7 @@ text_formed text l library made =
 -- the commands of each line are among all
 pub of_item : (mark : List ℕ) (h : Header) (inputs outputs : List (List ℕ)) (p : ℕ) (items : List Item) (q : ℕ) (item : Item) (d : Command) → slice_get items q ≡ Some item → In (item_commands mark h inputs outputs (p + q) item) d → In (commands_from mark h inputs outputs p items) d
 of_item mark h inputs outputs p [] q item d e i = absurd (cc)
-of_item mark h inputs outputs p (first ∷ items) zero item d e i =
-    let same : first ≡ item = same_Some first item e in
-    let z : p + zero ≡ p = omega arith in
-    In-left (item_commands mark h inputs outputs p first) (commands_from mark h inputs outputs (p + 1) items) d (subst (λ n. In (item_commands mark h inputs outputs n first) d) z (subst (λ t. In (item_commands mark h inputs outputs (p + zero) t) d) (sym same) i))
+of_item mark h inputs outputs p (first ∷ items) zero item d e i = grind (arith, same_Some)
 of_item mark h inputs outputs p (first ∷ items) (suc q) item d e i =
     let z : p + suc q ≡ p + 1 + q = omega arith in
     In-right (item_commands mark h inputs outputs p first) (commands_from mark h inputs outputs (p + 1) items) d (of_item mark h inputs outputs (p + 1) items q item d e (subst (λ n. In (item_commands mark h inputs outputs n item) d) z i))
@@ -99,10 +75,7 @@ letter_ordinary : (b : ℕ) → 93 ≤ b → b < 123 → is_special b ≡ false
 letter_ordinary b low high = byte_ordinary b (omega arith) high (λ e. omega arith)
 
 pub default_clean : (letter k : ℕ) → (letter ≡ 105) ⊎ (letter ≡ 111) → k < 2 ^ 64 → IsClean (default_name letter k)
-default_clean letter k which l =
-    let low : 93 ≤ letter = grind arith in
-    let high : letter < 123 = grind arith in
-    ordinary_clean (default_name letter k) (omega arith) (marked_ordinary 0 letter (decimal k) (letter_ordinary letter low high) (decimal_ordinary k l))
+default_clean letter k which l = grind (arith, ordinary_clean, marked_ordinary, decimal, letter_ordinary, decimal_ordinary)
 
 -- names of commands
 cover_clean : (line : ℕ) (inputs : List (List ℕ)) (output : List ℕ) (cells : List Cell) (c : Command) → AreClean inputs → IsClean output → c ≡ cover_command line inputs output cells → IsCleanBody c.body
@@ -121,9 +94,7 @@ pub record IsKept (c : Circuit) : Type 0 where
 
 module _ (c : Circuit) (kept : IsKept c) where
   name_clean : (letter n : ℕ) → 93 ≤ letter → letter < 123 → n < 2 ^ 64 → IsClean (own_name (mark_of (c.inputs ++ c.outputs)) letter n)
-  name_clean letter n low high l =
-      ordinary_clean (own_name (mark_of (c.inputs ++ c.outputs)) letter n) (omega (arith, length-append (mark_of (c.inputs ++ c.outputs)) (letter ∷ decimal n)))
-      (marked_ordinary (1 + most_underscores (c.inputs ++ c.outputs)) letter (decimal n) (letter_ordinary letter low high) (decimal_ordinary n l))
+  name_clean letter n low high l = search (rules, ordinary_clean, length-append, decimal, marked_ordinary, letter_ordinary, decimal_ordinary)
 
   read_clean : (l : ℕ) → is_literal c.header.variables l ≡ true → IsClean (variable_name (mark_of (c.inputs ++ c.outputs)) (l / 2))
   read_clean l t = let m : c.header.variables ≤ 1073741824 = kept.most in let u : l ≤ 2 * c.header.variables + 1 = literal_low c.header.variables l t in name_clean 118 (l / 2) (omega arith) (omega arith) (omega arith)
@@ -138,21 +109,16 @@ module _ (c : Circuit) (kept : IsKept c) where
   output_clean k l = let n : length c.outputs ≡ c.header.outputs = kept.outputs in kept.clean (port_name c.outputs k) (In-right c.inputs c.outputs (port_name c.outputs k) (In-get_or c.outputs k [] (omega arith)))
 
   item_clean : (q : ℕ) (item : Item) (d : Command) → q < 4294967296 → IsItemAt c.header q item → In (item_commands (mark_of (c.inputs ++ c.outputs)) c.header c.inputs c.outputs (0 + q) item) d → IsCleanBody d.body
-  item_clean q (Input own) d l at (inl same) =
-      cover_clean (0 + q + 2) (port_name c.inputs (0 + q) ∷ []) (variable_name (mark_of (c.inputs ++ c.outputs)) (own / 2)) (One ∷ []) d
-      (one_clean (port_name c.inputs (0 + q)) (input_clean q (of_input c.header q at.kind))) (own_variable own at.range) same
+  item_clean q (Input own) d l at (inl same) = search (rules, cover_clean, one_clean, input_clean, of_input, own_variable)
   item_clean q (Input own) d l at (inr i) = absurd i
   item_clean q (Latch own next init) d l at (inl same) =
       let r = and_parts (is_variable c.header.variables own) (is_literal c.header.variables next) at.range in
       cover_clean (0 + q + 2) (variable_name (mark_of (c.inputs ++ c.outputs)) (next / 2) ∷ []) (next_name (mark_of (c.inputs ++ c.outputs)) (0 + q - c.header.inputs)) (cell_of next ∷ []) d
       (one_clean (variable_name (mark_of (c.inputs ++ c.outputs)) (next / 2)) (read_clean next r.1)) (name_clean 120 (0 + q - c.header.inputs) (omega arith) (omega arith) (omega arith)) same
-  item_clean q (Latch own next init) d l at (inr (inl same)) =
-      let r = and_parts (is_variable c.header.variables own) (is_literal c.header.variables next) at.range in
-      subst (λ (e : Command). IsCleanBody e.body) (sym same) (name_clean 120 (0 + q - c.header.inputs) (omega arith) (omega arith) (omega arith), own_variable own r.0, (λ control e. absurd (cc)))
+  item_clean q (Latch own next init) d l at (inr (inl same)) = grind (arith, and_parts, name_clean, own_variable)
   item_clean q (Latch own next init) d l at (inr (inr i)) = absurd i
   item_clean q (Output o) d l at (inl same) =
       let w = of_output c.header q at.kind in
-      let low : c.header.inputs + c.header.latches ≤ q = w.0 in
       let high : q < c.header.inputs + c.header.latches + c.header.outputs = w.1 in
       cover_clean (0 + q + 2) (variable_name (mark_of (c.inputs ++ c.outputs)) (o / 2) ∷ []) (port_name c.outputs (0 + q - (c.header.inputs + c.header.latches))) (cell_of o ∷ []) d
       (one_clean (variable_name (mark_of (c.inputs ++ c.outputs)) (o / 2)) (read_clean o at.range)) (output_clean (0 + q - (c.header.inputs + c.header.latches)) (omega arith)) same
@@ -175,12 +141,7 @@ module _ (c : Circuit) (kept : IsKept c) where
   ports_clean clock_ports x i = absurd i
 
   pub circuit_clean : HasCleanNames (library_of c)
-  circuit_clean = record {
-    each = λ m i. elim i [
-      | inl same ↦ subst IsCleanModel (sym same) (record { name = word_clean (codes "aag") (lit< tt) refl; ports = ports_clean; commands = commands_clean })
-      | inr k ↦ absurd k
-    ];
-  }
+  circuit_clean = search (rules, word_clean, codes, lit<, ports_clean, commands_clean)
 
 -- of a text
 port_clean : (said : SymbolsValue) (most : ℕ) (x : List ℕ) → AreNamed most said → length said.names < 4294967296 → IsPortName said x → IsClean x
@@ -201,7 +162,6 @@ text_kept text c l is =
     let few : named_count r.header < 4294967296 = small_names text c r l in
     let size : length r.said.names ≡ named_count r.header = said_size text c r in
     let names : length r.said.names < 4294967296 = omega arith in
-    let w : length r.items ≤ 0 + length (drop 1 (lines text)) = r.all.within in
     subst IsKept (sym r.is) (record {
       most = (header_small r.header r.whole).most;
       items = items_known r.header [] r.items (drop 1 (lines text)) (λ p item e. absurd (cc)) r.items_are;
@@ -217,10 +177,7 @@ pub text_clean : (text : List ℕ) → length text ≤ 67108864 → (library : L
 text_clean text l library made = subst HasCleanNames (sym made.made) (circuit_clean made.circuit (text_kept text made.circuit l made.is))
 
 circuit_short : (c : Circuit) → IsKept c → HasShortPorts (library_of c)
-circuit_short c kept m e name i =
-    let same : model_of c ≡ m = cc in
-    let j : In ((model_of c).inputs ++ ((model_of c).clocks ++ (model_of c).outputs)) name = subst (λ (n : ModelValue). In (n.inputs ++ (n.clocks ++ n.outputs)) name) (sym same) i in
-    kept.short name j
+circuit_short c kept m e name i = grind arith
 
 pub text_short : (text : List ℕ) → length text ≤ 67108864 → (library : LibraryValue) → IsLibraryIn (circuit_of text) library → HasShortPorts library
 text_short text l library made = subst HasShortPorts (sym made.made) (circuit_short made.circuit (text_kept text made.circuit l made.is))

@@ -1,12 +1,13 @@
 -- What the proofs of this crate cite of other crates, and its own definitions, passed on from one place.
 pub use Rattle.std.proofs.Common.{◌≡◌, lit<, ℕ, zero, suc, ◌+◌, ◌-◌, ◌*◌, ◌/◌, ◌^◌, ◌<◌, ◌≤◌, max, Bool, true, false, cond, ◌&&◌, ◌||◌, eqb, get_or, take, drop, List, [], ◌∷◌, ◌++◌, length, map, decimal, Some, inl, inr, refl, sym, ap, ◌∙◌, subst, arith, replicate, true≢false, leb, Option, None, Result, Ok, Err, leb-true, ◌⊎◌, codes, length-append, length-drop, ◌%◌, not, append-nil, append_assoc, ltb, unwrap_or, length-take, take-append-drop, drop-drop, take_all, drop-cons, eq-eqb, min, Bor, rules, tests}
-pub use Rattle.std.proofs.Math.Seq.{take-append_seam, drop-append_seam}
-pub use Rattle.std.proofs.lemmas.Bool.{cond-true, cond-false, cases_Bool, and_parts, or_cases, le-leb, and_from, or_right, false_from_ne_true, cases_lt, ltb-true, lt-ltb, not-true, eqb-true, eqb-false, ne_eqb, or_from, ltb-false, le-ltb, or_parts, and_left, not-false}
+pub use Rattle.std.proofs.Math.ListN.{get_or-append}
+pub use Rattle.std.proofs.Math.Seq.{get_or-append_seam, take-append_seam, drop-append_seam}
+pub use Rattle.std.proofs.lemmas.Bool.{cond-true, cond-false, cases_Bool, and_parts, or_cases, le-leb, and_from, or_right, false_from_ne_true, cases_lt, ltb-true, lt-ltb, not-true, eqb-true, eqb-false, ne_eqb, or_from, ltb-false, le-ltb, or_parts, and_left, not-false, and_right, or_left, lt-leb, not_from_false}
 pub use Rattle.std.proofs.lemmas.Bool.Decides.{nat_tests}
 pub use Rattle.std.proofs.lemmas.Fmt.{decimal_is_IsNumeral, length-decimal-le, decimal_digit}
 pub use Rattle.std.proofs.lemmas.Iterator.Consumers.{map_from_collect}
 pub use Rattle.std.proofs.lemmas.Iterator.Splits.{YieldsList-from_slice_split}
-pub use Rattle.std.proofs.lemmas.List.{length-map, length-replicate, map-append}
+pub use Rattle.std.proofs.lemmas.List.{drop-map, length-map, length-replicate, map-append}
 pub use Rattle.std.proofs.lemmas.List.Concat.{flat_map-append}
 pub use Rattle.std.proofs.lemmas.List.FromFn.{length-map-range_with_len, get_or-map-range_with_len, length-range_with_len, get_or-range_with_len}
 pub use Rattle.std.proofs.lemmas.List.Splits.{slice_split_none, slice_split_at, join_with_byte-slice_split, length-slice_split}
@@ -62,25 +63,14 @@ pub use Rattle.tl_text.specs.NameSets.{has_name, with_name}
 pub use Rattle.tl_text.specs.Once.{AreOnce}
 pub use Rattle.tl_text.specs.Tokens.{is_blank}
 pub use Rattle.tl_text.specs.WrittenText.{words_text, line_text}
-pub use Rattle.aiger_io.specs.AigerText.{IsOfFormatWith, IsAigerText, IsOfFormat}
-pub use Rattle.aiger_io.specs.Bodies.{capped, capped_numbers, capped_header, capped_result, named_count, capped_item, capped_number, capped_symbol, IsHeaderOf, twice_from, seen_from, symbol_value}
+pub use Rattle.aiger_io.specs.AigerText.{IsOfFormatWith, IsAigerText, IsOfFormat, IsHeaderRow, IsLaterRow, kind_of_item, AreInSections, by_symbol, IsNumber, AreNumbers, Symbol, IsComment, count_of, IsSymbolRow, MayStand, IsLetterOf, AreSymbolRows, AllStand, header_numbers, AreItemRows, IsSection, IsItemRow, IsNameOf, by_default, AreNamesOf}
+pub use Rattle.aiger_io.specs.Reader.{capped, capped_numbers, capped_header, capped_result, named_count, capped_item, capped_number, capped_symbol, IsHeaderOf, twice_from, seen_from, symbol_value, is_header, header_with, header_by, header_in, header_of, other_header, kind_at, is_literal, is_variable, item_count, is_in_range, items_from, one_number, init_of, latch_with, latch_of, and_with, and_of, item_of, item_with, item_at, number_of, numbers_of, in_front, and_then, words_of, default_name, input_names, output_names, port_names, first_twice, is_twice, is_port, name_at, names_from, circuit_of, IsLibraryIn, circuit_with, unless, named_circuit, circuit_behind, circuit_under, IsParsed, circuit_in, named_behind, SymbolsValue, no_symbols, symbols_from, no_name, first_of, place_of, may_stand, with_symbol, symbol_of, symbol_at, is_bad_name, kind_of, symbol_by, symbol_with, is_bad_byte}
 pub use Rattle.aiger_io.specs.Circuit.{Circuit}
 pub use Rattle.aiger_io.specs.CircuitLibrary.{mark_of, own_name, variable_name, next_name, cell_of, cover_command, zero_command, literal_command, latch_command, port_name, model_of, library_of, item_commands, commands_of, commands_from, library_weight}
-pub use Rattle.aiger_io.specs.GraphCircuit.{graph_circuit, input_count, lit_at, IsWrittenFrom, input_at, input_item, latch_item, output_item, gate_item, graph_items, IsGraphsCircuit, graph_header}
-pub use Rattle.aiger_io.specs.Header.{is_header, header_with, header_by, header_in, header_of, other_header}
-pub use Rattle.aiger_io.specs.HeaderRow.{IsHeaderRow, IsLaterRow}
-pub use Rattle.aiger_io.specs.ItemRow.{kind_of_item, AreInSections}
-pub use Rattle.aiger_io.specs.Items.{kind_at, is_literal, is_variable, item_count, is_in_range, items_from, one_number, init_of, latch_with, latch_of, and_with, and_of, item_of, item_with, item_at}
-pub use Rattle.aiger_io.specs.Numbers.{number_of, numbers_of, in_front, and_then, words_of}
-pub use Rattle.aiger_io.specs.PortName.{by_symbol}
-pub use Rattle.aiger_io.specs.PortNames.{default_name, input_names, output_names, port_names, first_twice, is_twice, is_port, name_at, names_from}
-pub use Rattle.aiger_io.specs.Reader.{circuit_of, IsLibraryIn, circuit_with, unless, named_circuit, circuit_behind, circuit_under, IsParsed, circuit_in, named_behind}
+pub use Rattle.aiger_io.specs.GraphCircuit.{graph_circuit, input_count, lit_at, IsWrittenFrom, input_at, input_item, latch_item, output_item, gate_item, graph_items, IsGraphsCircuit, graph_header, lines_text, symbols_text}
 pub use Rattle.aiger_io.specs.Refusals.{refusal_of}
 pub use Rattle.aiger_io.specs.Refused.{IsPort, IsAlike, Begins, BeginsWithSymbols, IsItemHere, IsRefused, later, bad_header, missing, malformed, out_of_range, malformed_symbol, bad_symbol, alike, StandsTwice, IsNameRefused}
 pub use Rattle.aiger_io.specs.Run.{literal_value, FitsLines, output_literal, next_literal, init_bit, output_literals, next_literals, IsDefined, zero_variable, input, latch, gate, init_bits, IsCircuitCycle, CircuitRuns, HasSameRuns}
-pub use Rattle.aiger_io.specs.Spelling.{IsNumber, AreNumbers}
-pub use Rattle.aiger_io.specs.SymbolRow.{Symbol, IsComment, count_of, IsSymbolRow, MayStand, IsLetterOf, AreSymbolRows, AllStand}
-pub use Rattle.aiger_io.specs.Symbols.{SymbolsValue, no_symbols, symbols_from, no_name, first_of, place_of, may_stand, with_symbol, symbol_of, symbol_at, is_bad_name, kind_of, symbol_by, symbol_with, is_bad_byte}
 pub use Rattle.aiger_io.specs.WrittenText.{circuit_text, numbered, numbered_text, header_words, item_words, symbol_text, init_words, item_text}
 pub use Rattle.aiger_io.specs.declared.aag_err.AagErr.{AagErr}
 pub use Rattle.aiger_io.specs.declared.aag_err.AagErr.TheVariants.{BadSymbol, Malformed}

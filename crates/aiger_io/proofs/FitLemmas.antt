@@ -1,6 +1,5 @@
 -- Values that fit a circuit's library fit its lines, and values that fit the lines give values of all names that fit the library.
-use Rattle.aiger_io.proofs.Common.{◌≡◌, ℕ, zero, suc, ◌+◌, ◌-◌, ◌/◌, ◌%◌, ◌<◌, max, Bool, true, false, cond, not, ◌&&◌, ◌||◌, eqb, List, [], ◌∷◌, ◌++◌, length, map, Option, Some, None, inl, inr, refl, sym, ap, ◌∙◌, subst, arith, append-nil, slice_get, option_map, none-some, same_Some, slice_get-map, slice_get-get_or, In, place_in, In-get, at_within, CoverValue, allows, cover_value, Fits, ModelValue, IsClock, listed, controls, Place, is_latch, own_places, flat, none, AreLatches, state_of, Cell, One, Command, in_has, Circuit, mark_of, variable_name, next_name, cell_of, cover_command, zero_command, literal_command, latch_command, port_name, item_commands, commands_from, model_of, library_of, kind_at, literal_value, FitsLines, Header, Item, Input, Latch, Output, And, lit<, ◌*◌, ◌^◌, ◌≤◌, get_or, take, drop, decimal, bytes_eq, replicate, bytes_decides, digits_value, decimal_is_IsNumeral, slice_get_within, take-append_seam, drop-append_seam, In-left, In-right, underscores, most_underscores, few_underscores, many_underscores, AreOnce, has_in, own_name, is_literal, is_variable, output_literal, next_literal, output_literals, next_literals, right_apart, not_in_both, nat_tests}
-use Rattle.std.proofs.lemmas.Bool.{cond-true, cond-false, cases_Bool, or_left, true≢false, and_parts, or_cases}
+use Rattle.aiger_io.proofs.Common.{◌≡◌, ℕ, zero, suc, ◌+◌, ◌-◌, ◌/◌, ◌%◌, ◌<◌, max, Bool, true, false, cond, not, ◌&&◌, ◌||◌, eqb, List, [], ◌∷◌, ◌++◌, length, map, Option, Some, None, inl, inr, refl, sym, ap, ◌∙◌, subst, arith, append-nil, slice_get, option_map, none-some, same_Some, slice_get-map, slice_get-get_or, In, place_in, In-get, at_within, CoverValue, allows, cover_value, Fits, ModelValue, IsClock, listed, controls, Place, is_latch, own_places, flat, none, AreLatches, state_of, Cell, One, Command, in_has, Circuit, mark_of, variable_name, next_name, cell_of, cover_command, zero_command, literal_command, latch_command, port_name, item_commands, commands_from, model_of, library_of, kind_at, literal_value, FitsLines, Header, Item, Input, Latch, Output, And, lit<, ◌*◌, ◌^◌, ◌≤◌, get_or, take, drop, decimal, bytes_eq, replicate, bytes_decides, digits_value, decimal_is_IsNumeral, slice_get_within, take-append_seam, drop-append_seam, In-left, In-right, underscores, most_underscores, few_underscores, many_underscores, AreOnce, has_in, own_name, is_literal, is_variable, output_literal, next_literal, output_literals, next_literals, right_apart, not_in_both, nat_tests, cond-true, cond-false, cases_Bool, or_left, true≢false, and_parts, or_cases, take-append-drop, rules}
 use Rattle.netlist.specs.Instances.{CoverAt, LatchAt, IsMainInput}
 use Rattle.netlist.specs.Models.{Path, body_at, subckts_of, model_at, has_name, is_input}
 use Rattle.netlist.specs.declared.command.Body.{Body}
@@ -8,9 +7,7 @@ use Rattle.netlist.specs.declared.command.Body.TheVariants as body
 use Rattle.netlist.specs.declared.latch.Latch.{Latch as LatchValue}
 use Rattle.netlist.proofs.PlaceLemmas.{inside, command_of}
 use Rattle.aiger_io.proofs.CleanLemmas.{IsKept, of_item, all_commands}
-use Rattle.aiger_io.proofs.LatchLemmas.{latch_indices, top_place, own_latches, state_at, command_of_latch, latch_of}
-use Rattle.aiger_io.proofs.PlaceLemmas.{AreKinds, of_input, of_latch, kind_of_item, IsPicked, picked_at, of_output, of_gate}
-use Rattle.aiger_io.specs.declared.item.Kind.TheVariants as kind
+use Rattle.aiger_io.proofs.PlaceLemmas.{latch_indices, top_place, own_latches, state_at, command_of_latch, latch_of, AreKinds, of_input, of_latch, kind_of_item, IsPicked, picked_at, of_output, of_gate}
 
 -- the values of covers with one row
 pub plain : (b : Bool) → (b && true) || false ≡ b
@@ -43,8 +40,7 @@ module _ (c : Circuit) where
   only_path [] m e = (refl, sym (same_Some (model_of c) m e))
   only_path (k ∷ outer) m e =
       let u = inside (library_of c) outer k m e in
-      let r = only_path outer u.model u.at in
-      absurd (none-some u.subckt (ap (λ l. slice_get l k) (sym no_subckts) ∙ ap (λ (x : ModelValue). slice_get (subckts_of x.commands) k) (sym r.1) ∙ u.is))
+      absurd (none-some u.subckt (ap (λ l. slice_get l k) (sym no_subckts) ∙ ap (λ (x : ModelValue). slice_get (subckts_of x.commands) k) (sym (only_path outer u.model u.at).1) ∙ u.is))
 
   pub are_latches : AreLatches (library_of c) (model_of c) (latches_of c)
   are_latches = record { at = refl; order = flat [] (none no_subckts refl) (sym (own_latches (mark_of (c.inputs ++ c.outputs)) c.header c.inputs c.outputs 1 0 c.items) ∙ sym (append-nil (own_places is_latch [] 0 (model_of c).commands))) }
@@ -87,18 +83,13 @@ command_is c d (inr i) = all_commands (IsCommandOf c) (mark_of (c.inputs ++ c.ou
 
 -- no input is a clock
 body_of_cover : (line : ℕ) (inputs : List (List ℕ)) (output : List ℕ) (cells : List Cell) (d : Command) (l : LatchValue) → d ≡ cover_command line inputs output cells → d.body ≡ body.Latch l → ⊥
-body_of_cover line inputs output cells d l is e = let q : (cover_command line inputs output cells).body ≡ body.Latch l = ap (λ (k : Command). k.body) (sym is) ∙ e in cc
+body_of_cover line inputs output cells d l is e = cc (ap (λ (k : Command). k.body) is)
 
 pub latch_body : (line : ℕ) (input output : List ℕ) (init : Bool) (d : Command) (l : LatchValue) → d ≡ latch_command line input output init → d.body ≡ body.Latch l → l ≡ record { input = input; output = output; control = None; init = init }
 latch_body line input output init d l is e = let q : body.Latch (record { input = input; output = output; control = None; init = init }) ≡ body.Latch l = ap (λ (k : Command). k.body) (sym is) ∙ e in cc
 
 pub latch_command_is : (c : Circuit) (d : Command) (l : LatchValue) → IsCommandOf c d → d.body ≡ body.Latch l → l.control ≡ None
-latch_command_is c d l (zero_is is) e = let q : (zero_command 1 (variable_name (mark_of (c.inputs ++ c.outputs)) 0)).body ≡ body.Latch l = ap (λ (k : Command). k.body) (sym is) ∙ e in absurd (cc)
-latch_command_is c d l (input_is q own at is) e = absurd (body_of_cover _ _ _ _ d l is e)
-latch_command_is c d l (next_is q own next init at is) e = absurd (body_of_cover _ _ _ _ d l is e)
-latch_command_is c d l (latch_is q own next init at is) e = ap (λ (k : LatchValue). k.control) (latch_body _ _ _ _ d l is e)
-latch_command_is c d l (output_is q o at is) e = absurd (body_of_cover _ _ _ _ d l is e)
-latch_command_is c d l (gate_is q own left right at is) e = absurd (body_of_cover _ _ _ _ d l is e)
+latch_command_is c d l e e2 = grind (arith, body_of_cover, latch_body)
 
 -- the command of a latch or a cover of an instance
 pub record IsOwnCommand (c : Circuit) (path : Path) (i : ℕ) (b : Body) : Type 0 where
@@ -108,10 +99,7 @@ pub record IsOwnCommand (c : Circuit) (path : Path) (i : ℕ) (b : Body) : Type 
   pub is : command.body ≡ b
 
 pub own_command : (c : Circuit) (path : Path) (i : ℕ) (b : Body) (m : ModelValue) → model_at (library_of c) path ≡ Some m → body_at m i ≡ Some b → IsOwnCommand c path i b
-own_command c path i b m at is =
-    let r = only_path c path m at in
-    let k = command_of (slice_get (model_of c).commands i) b (ap (λ (x : ModelValue). body_at x i) (sym r.1) ∙ is) in
-    record { top = r.0; command = k.0; at = k.1; is = k.2 }
+own_command c path i b m at is = grind (arith, only_path, command_of)
 
 pub no_clock : (c : Circuit) (name : List ℕ) → IsClock (library_of c) name → ⊥
 no_clock c name (listed m e t) = true≢false (sym t ∙ ap (λ (x : ModelValue). has_name x.clocks name) (sym (same_Some (model_of c) m e)))
@@ -140,9 +128,7 @@ module _ (c : Circuit) (kept : IsKept c) (x : List ℕ → Bool) (states : List 
   input_value : (k own : ℕ) → slice_get c.items k ≡ Some (Input own) → slice_get (map x c.inputs) k ≡ Some (value [] (variable_name (mark_of (c.inputs ++ c.outputs)) (own / 2)))
   input_value k own e =
       let low : k < c.header.inputs = of_input c.header k (kept.items k (Input own) e).kind in
-      let n : length c.inputs ≡ c.header.inputs = kept.inputs in
       let z : 0 + k ≡ k = omega arith in
-      let name : List ℕ = port_name c.inputs (0 + k) in
       let at : slice_get c.inputs k ≡ Some (port_name c.inputs (0 + k)) = slice_get-get_or c.inputs k [] (omega arith) ∙ ap (λ m. Some (port_name c.inputs m)) (sym z) in
       let main : IsMainInput (library_of c) (port_name c.inputs (0 + k)) = record { model = model_of c; at = refl; is = or_left (has_name c.inputs (port_name c.inputs (0 + k))) false (in_has c.inputs (port_name c.inputs (0 + k)) (In-get c.inputs k (port_name c.inputs (0 + k)) at)) } in
       let v : value [] (variable_name (mark_of (c.inputs ++ c.outputs)) (own / 2)) ≡ (value [] (port_name c.inputs (0 + k)) && true) || false =
@@ -151,16 +137,14 @@ module _ (c : Circuit) (kept : IsKept c) (x : List ℕ → Bool) (states : List 
 
   latch_value : (k own next : ℕ) (init : Bool) → slice_get c.items (c.header.inputs + k) ≡ Some (Latch own next init) → slice_get states k ≡ Some (value [] (variable_name (mark_of (c.inputs ++ c.outputs)) (own / 2)))
   latch_value k own next init e =
-      let w = of_latch c.header (c.header.inputs + k) (kept.items (c.header.inputs + k) (Latch own next init) e).kind in
-      let high : c.header.inputs + k < c.header.inputs + c.header.latches = w.1 in
+      let high : c.header.inputs + k < c.header.inputs + c.header.latches = (of_latch c.header (c.header.inputs + k) (kept.items (c.header.inputs + k) (Latch own next init) e).kind).1 in
       let b = at_within states k (omega arith) in
       let f = command_of_latch (mark_of (c.inputs ++ c.outputs)) c.header c.inputs c.outputs 1 0 c.items (circuit_kinds c kept) (c.header.inputs + k) own next init e in
-      let z : 0 + (c.header.inputs + k) - max 0 c.header.inputs ≡ k = omega arith in
-      let s : 1 + f.number ≡ suc f.number = omega arith in
-      let index : slice_get (latch_indices 1 c.items) k ≡ Some (suc f.number) = subst (λ m. slice_get (latch_indices 1 c.items) m ≡ Some (1 + f.number)) z f.index ∙ ap (λ m. Some m) s in
+      let s : 1 + f.0 ≡ suc f.0 = omega arith in
+      let index : slice_get (latch_indices 1 c.items) k ≡ Some (suc f.0) = subst (λ m. slice_get (latch_indices 1 c.items) m ≡ Some (1 + f.0)) (omega arith) (f.1).index ∙ ap (λ m. Some m) s in
       let l : LatchValue = record { input = next_name (mark_of (c.inputs ++ c.outputs)) (0 + (c.header.inputs + k) - c.header.inputs); output = variable_name (mark_of (c.inputs ++ c.outputs)) (own / 2); control = None; init = init } in
-      let at : LatchAt (library_of c) [] (suc f.number) l = record { model = model_of c; at = refl; is = command_in c (suc f.number) (latch_command f.line (next_name (mark_of (c.inputs ++ c.outputs)) (0 + (c.header.inputs + k) - c.header.inputs)) (variable_name (mark_of (c.inputs ++ c.outputs)) (own / 2)) init) f.at } in
-      b.1 ∙ ap (λ t. Some t) (sym (fits.latches [] (suc f.number) l at ∙ state_at 1 c.items states k (suc f.number) b.0 index b.1))
+      let at : LatchAt (library_of c) [] (suc f.0) l = record { model = model_of c; at = refl; is = command_in c (suc f.0) (latch_command (f.1).line (next_name (mark_of (c.inputs ++ c.outputs)) (0 + (c.header.inputs + k) - c.header.inputs)) (variable_name (mark_of (c.inputs ++ c.outputs)) (own / 2)) init) (f.1).at } in
+      b.1 ∙ ap (λ t. Some t) (sym (fits.latches [] (suc f.0) l at ∙ state_at 1 c.items states k (suc f.0) b.0 index b.1))
 
   gate_value : (own left right : ℕ) → In c.items (And own left right) → value [] (variable_name (mark_of (c.inputs ++ c.outputs)) (own / 2)) ≡ literal_value (λ v. value [] (variable_name (mark_of (c.inputs ++ c.outputs)) v)) left && literal_value (λ v. value [] (variable_name (mark_of (c.inputs ++ c.outputs)) v)) right
   gate_value own left right i =
@@ -200,16 +184,11 @@ built c x f path name =
     cond (starts (mark_of (c.inputs ++ c.outputs)) name) (own_value f (next_literals c.items) (drop (length (mark_of (c.inputs ++ c.outputs))) name))
     (port_value c.inputs c.outputs (output_literals c.items) x f name)
 
-front_is : (n : ℕ) (name mark : List ℕ) → take n name ≡ mark → name ≡ mark ++ drop n name
-front_is zero name mark e = ap (λ m. m ++ name) e
-front_is (suc n) [] mark e = ap (λ m. m ++ []) e
-front_is (suc n) (b ∷ bs) mark e = ap (λ l. b ∷ l) (front_is n bs (take n bs) refl) ∙ ap (λ m. m ++ drop n bs) e
-
 no_start : (names : List (List ℕ)) (name : List ℕ) → In names name → starts (mark_of names) name ≡ false
 no_start names name i = elim (cases_Bool (starts (mark_of names) name)) [
   | inl t ↦ (
       let e : take (length (mark_of names)) name ≡ mark_of names = (bytes_decides (take (length (mark_of names)) name) (mark_of names)).0 t in
-      let u : underscores name ≡ underscores (mark_of names ++ drop (length (mark_of names)) name) = ap underscores (front_is (length (mark_of names)) name (mark_of names) e) in
+      let u : underscores name ≡ underscores (mark_of names ++ drop (length (mark_of names)) name) = ap underscores (sym (take-append-drop (length (mark_of names)) name) ∙ ap (λ m. m ++ drop (length (mark_of names)) name) e) in
       let l : 1 + most_underscores names ≤ underscores (replicate (1 + most_underscores names) 95 ++ drop (length (mark_of names)) name) = many_underscores (1 + most_underscores names) (drop (length (mark_of names)) name) in
       let m : underscores name ≤ most_underscores names = few_underscores names name i in absurd (omega arith))
   | inr f ↦ f
@@ -229,10 +208,7 @@ not_input xs ys name once j = elim (cases_Bool (has_name xs name)) [ inl t ↦ a
 
 module _ (c : Circuit) (x : List ℕ → Bool) (f : ℕ → Bool) where
   own_built : (path : Path) (letter n : ℕ) → built c x f path (own_name (mark_of (c.inputs ++ c.outputs)) letter n) ≡ own_value f (next_literals c.items) (letter ∷ decimal n)
-  own_built path letter n =
-      cond-true (starts (mark_of (c.inputs ++ c.outputs)) (own_name (mark_of (c.inputs ++ c.outputs)) letter n)) _ _
-      ((bytes_decides (take (length (mark_of (c.inputs ++ c.outputs))) (own_name (mark_of (c.inputs ++ c.outputs)) letter n)) (mark_of (c.inputs ++ c.outputs))).1 (take-append_seam (mark_of (c.inputs ++ c.outputs)) (letter ∷ decimal n)))
-      ∙ ap (own_value f (next_literals c.items)) (drop-append_seam (mark_of (c.inputs ++ c.outputs)) (letter ∷ decimal n))
+  own_built path letter n = search (rules, cond-true, starts, take-append_seam, decimal, own_value, drop-append_seam)
 
   pub variable_built : (path : Path) (v : ℕ) → v < 2 ^ 64 → built c x f path (variable_name (mark_of (c.inputs ++ c.outputs)) v) ≡ f v
   variable_built path v l = own_built path 118 v ∙ ap f (decimal_is_IsNumeral v l).1
@@ -278,9 +254,6 @@ cover_body line inputs output cells d cover is e = let q : (cover_command line i
 zero_body : (line : ℕ) (output : List ℕ) (d : Command) (cover : CoverValue) → d ≡ zero_command line output → d.body ≡ body.Cover cover → cover ≡ record { inputs = []; output = output; value = true; rows = [] }
 zero_body line output d cover is e = let q : (zero_command line output).body ≡ body.Cover cover = ap (λ (k : Command). k.body) (sym is) ∙ e in cc
 
-latch_no_cover : (line : ℕ) (input output : List ℕ) (init : Bool) (d : Command) (cover : CoverValue) → d ≡ latch_command line input output init → d.body ≡ body.Cover cover → ⊥
-latch_no_cover line input output init d cover is e = let q : (latch_command line input output init).body ≡ body.Cover cover = ap (λ (k : Command). k.body) (sym is) ∙ e in cc
-
 module _ (c : Circuit) (kept : IsKept c) (once : AreOnce (c.inputs ++ c.outputs)) (x : List ℕ → Bool) (states : List Bool) (f : ℕ → Bool) (fits : FitsLines c (map x c.inputs) states f) where
   read_small : (l : ℕ) → is_literal c.header.variables l ≡ true → l / 2 < 2 ^ 64
   read_small l t = let m : c.header.variables ≤ 1073741824 = kept.most in grind (arith, nat_tests)
@@ -303,33 +276,26 @@ module _ (c : Circuit) (kept : IsKept c) (once : AreOnce (c.inputs ++ c.outputs)
   cover_built path d cover (input_is q own at is) e =
       let k = kept.items q (Input own) at in
       let low : q < c.header.inputs = of_input c.header q k.kind in
-      let n : length c.inputs ≡ c.header.inputs = kept.inputs in
       let z : 0 + q ≡ q = omega arith in
       let there : slice_get c.inputs q ≡ Some (port_name c.inputs (0 + q)) = slice_get-get_or c.inputs q [] (omega arith) ∙ ap (λ m. Some (port_name c.inputs m)) (sym z) in
       let v : x (port_name c.inputs (0 + q)) ≡ f (own / 2) = same_Some (x (port_name c.inputs (0 + q))) (f (own / 2)) (sym (slice_get-map x c.inputs q ∙ ap (option_map x) there) ∙ fits.inputs q own at) in
       subst (λ (k : CoverValue). built c x f path k.output ≡ cover_value k (map (built c x f path) k.inputs)) (sym (cover_body (0 + q + 2) (port_name c.inputs (0 + q) ∷ []) (variable_name (mark_of (c.inputs ++ c.outputs)) (own / 2)) (One ∷ []) d cover is e))
       (variable_built c x f path (own / 2) (own_small own k.range) ∙ sym v ∙ sym (input_built c x f path (port_name c.inputs (0 + q)) (In-get c.inputs q (port_name c.inputs (0 + q)) there)) ∙ sym (plain (built c x f path (port_name c.inputs (0 + q)))))
   cover_built path d cover (next_is q own next init at is) e =
-      let k = kept.items q (Latch own next init) at in
-      let r = and_parts (is_variable c.header.variables own) (is_literal c.header.variables next) k.range in
+      let r = and_parts (is_variable c.header.variables own) (is_literal c.header.variables next) (kept.items q (Latch own next init) at).range in
       let w : q < length c.items = slice_get_within c.items q (Latch own next init) at in
-      let n : length c.items < 4294967296 = kept.count in
       let picked = picked_at c.header next_literal c.header.inputs (c.header.inputs + c.header.latches) (nexts_picked c.header) 0 c.items (circuit_kinds c kept) q (Latch own next init) next at refl in
-      let z : 0 + q - max 0 c.header.inputs ≡ 0 + q - c.header.inputs = omega arith in
       literal_built path (0 + q + 2) next (next_name (mark_of (c.inputs ++ c.outputs)) (0 + q - c.header.inputs)) d cover (read_small next r.1)
-      (next_built c x f path (0 + q - c.header.inputs) next (omega arith) (subst (λ m. slice_get (next_literals c.items) m ≡ Some next) z picked)) is e
-  cover_built path d cover (latch_is q own next init at is) e = absurd (latch_no_cover _ _ _ _ d cover is e)
+      (next_built c x f path (0 + q - c.header.inputs) next (omega arith) (subst (λ m. slice_get (next_literals c.items) m ≡ Some next) (omega arith) picked)) is e
+  cover_built path d cover (latch_is q own next init at is) e = absurd (cc (ap (λ (k : Command). k.body) is))
   cover_built path d cover (output_is q l at is) e =
       let k = kept.items q (Output l) at in
       let w = of_output c.header q k.kind in
-      let low : c.header.inputs + c.header.latches ≤ q = w.0 in
       let high : q < c.header.inputs + c.header.latches + c.header.outputs = w.1 in
-      let n : length c.outputs ≡ c.header.outputs = kept.outputs in
       let picked = picked_at c.header output_literal (c.header.inputs + c.header.latches) (c.header.inputs + c.header.latches + c.header.outputs) (outputs_picked c.header) 0 c.items (circuit_kinds c kept) q (Output l) l at refl in
-      let z : 0 + q - max 0 (c.header.inputs + c.header.latches) ≡ 0 + q - (c.header.inputs + c.header.latches) = omega arith in
       literal_built path (0 + q + 2) l (port_name c.outputs (0 + q - (c.header.inputs + c.header.latches))) d cover (read_small l k.range)
       (output_built c x f path (0 + q - (c.header.inputs + c.header.latches)) l (port_name c.outputs (0 + q - (c.header.inputs + c.header.latches))) once
-      (slice_get-get_or c.outputs (0 + q - (c.header.inputs + c.header.latches)) [] (omega arith)) (subst (λ m. slice_get (output_literals c.items) m ≡ Some l) z picked)) is e
+      (slice_get-get_or c.outputs (0 + q - (c.header.inputs + c.header.latches)) [] (omega arith)) (subst (λ m. slice_get (output_literals c.items) m ≡ Some l) (omega arith) picked)) is e
   cover_built path d cover (gate_is q own left right at is) e =
       let k = kept.items q (And own left right) at in
       let r = and_parts (is_variable c.header.variables own) (is_literal c.header.variables left && is_literal c.header.variables right) k.range in
@@ -341,21 +307,18 @@ module _ (c : Circuit) (kept : IsKept c) (once : AreOnce (c.inputs ++ c.outputs)
       ∙ ap (λ b. (allows (cell_of right) (built c x f path (variable_name (mark_of (c.inputs ++ c.outputs)) (right / 2))) && (allows (cell_of left) b && true)) || false) (sym (variable_built c x f path (left / 2) (read_small left t.0))))
 
   latch_built : (path : Path) (i : ℕ) (d : Command) (l : LatchValue) → slice_get (model_of c).commands i ≡ Some d → d.body ≡ body.Latch l → built c x f path l.output ≡ state_of (latches_of c) states [] i
-  latch_built path zero d l at e =
-      let same : zero_command 1 (variable_name (mark_of (c.inputs ++ c.outputs)) 0) ≡ d = same_Some (zero_command 1 (variable_name (mark_of (c.inputs ++ c.outputs)) 0)) d at in
-      let q : (zero_command 1 (variable_name (mark_of (c.inputs ++ c.outputs)) 0)).body ≡ body.Latch l = ap (λ (k : Command). k.body) same ∙ e in absurd (cc)
+  latch_built path zero d l at e = grind (arith, same_Some)
   latch_built path (suc n) d l at e =
       let g = latch_of (mark_of (c.inputs ++ c.outputs)) c.header c.inputs c.outputs 1 0 c.items (circuit_kinds c kept) n d l at e in
-      let k = kept.items g.place (Latch g.own g.next g.init) g.at in
+      let k = kept.items g.place (Latch g.own g.next g.init) (g.are).item in
       let r = and_parts (is_variable c.header.variables g.own) (is_literal c.header.variables g.next) k.range in
-      let w = of_latch c.header g.place k.kind in
-      let low : c.header.inputs ≤ g.place = w.0 in
+      let low : c.header.inputs ≤ g.place = (of_latch c.header g.place k.kind).0 in
       let z : 0 + g.place - max 0 c.header.inputs ≡ g.place - c.header.inputs = omega arith in
       let y : g.place ≡ c.header.inputs + (g.place - c.header.inputs) = omega arith in
       let s : 1 + n ≡ suc n = omega arith in
-      let index : slice_get (latch_indices 1 c.items) (g.place - c.header.inputs) ≡ Some (suc n) = subst (λ m. slice_get (latch_indices 1 c.items) m ≡ Some (1 + n)) z g.index ∙ ap (λ m. Some m) s in
-      let state : slice_get states (g.place - c.header.inputs) ≡ Some (f (g.own / 2)) = fits.latches (g.place - c.header.inputs) g.own g.next g.init (subst (λ m. slice_get c.items m ≡ Some (Latch g.own g.next g.init)) y g.at) in
-      ap (λ (k : LatchValue). built c x f path k.output) g.is ∙ variable_built c x f path (g.own / 2) (own_small g.own r.0) ∙ sym (state_at 1 c.items states (g.place - c.header.inputs) (suc n) (f (g.own / 2)) index state)
+      let index : slice_get (latch_indices 1 c.items) (g.place - c.header.inputs) ≡ Some (suc n) = subst (λ m. slice_get (latch_indices 1 c.items) m ≡ Some (1 + n)) z (g.are).index ∙ ap (λ m. Some m) s in
+      let state : slice_get states (g.place - c.header.inputs) ≡ Some (f (g.own / 2)) = fits.latches (g.place - c.header.inputs) g.own g.next g.init (subst (λ m. slice_get c.items m ≡ Some (Latch g.own g.next g.init)) y (g.are).item) in
+      ap (λ (k : LatchValue). built c x f path k.output) (latch_body _ _ _ _ d l (same_Some d _ (sym at ∙ (g.are).at)) e) ∙ variable_built c x f path (g.own / 2) (own_small g.own r.0) ∙ sym (state_at 1 c.items states (g.place - c.header.inputs) (suc n) (f (g.own / 2)) index state)
 
   pub fits_library : Fits (library_of c) x (state_of (latches_of c) states) (built c x f)
   fits_library = record {
@@ -369,6 +332,5 @@ module _ (c : Circuit) (kept : IsKept c) (once : AreOnce (c.inputs ++ c.outputs)
     latches = λ path i l at.
         let k = own_command c path i (body.Latch l) at.model at.at at.is in
         latch_built path i k.command l k.at k.is ∙ ap (λ p. state_of (latches_of c) states p i) (sym k.top);
-    connections = λ path k pair at.
-        absurd (none-some at.subckt (ap (λ l. slice_get l k) (sym (no_subckts c)) ∙ ap (λ (m : ModelValue). slice_get (subckts_of m.commands) k) (sym (only_path c path at.model at.at).1) ∙ at.is));
+    connections = λ path k pair at. grind (arith, none-some, no_subckts, only_path);
   }

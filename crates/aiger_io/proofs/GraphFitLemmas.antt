@@ -1,19 +1,15 @@
 -- Values that fit the lines of a graph's circuit are those of the graph's nodes: from the one to the other, and that there is one fit.
-use Rattle.aiger_io.proofs.Common.{◌≡◌, ℕ, ◌+◌, ◌-◌, ◌*◌, ◌/◌, ◌%◌, ◌<◌, ◌≤◌, Bool, true, false, cond, not, ◌&&◌, eqb, List, ◌++◌, length, map, Some, inl, inr, refl, sym, ap, ◌∙◌, subst, arith, length-append, slice_get, range_with_len, cases_lt, and_parts, length-map-range_with_len, get_or-map-range_with_len, same_Some, slice_get_within, get_or_from_slice_get, map_agree, place_in, at_within, get_left, same_list, get_right, Aig, first_and, node_count, pair_of, AreNormal, RootsValue, xor, node_value, value_of, FitsGraph, HasOneFit, Pair, FlatValue, Param, Circuit, input_count, lit_at, graph_circuit, IsWrittenFrom, is_literal, is_variable, literal_value, FitsLines, IsDefined, zero_variable, input, latch, gate, Item, Input, Latch, And}
+use Rattle.aiger_io.proofs.Common.{◌≡◌, ℕ, ◌+◌, ◌-◌, ◌*◌, ◌/◌, ◌%◌, ◌<◌, ◌≤◌, Bool, false, cond, not, ◌&&◌, eqb, List, ◌++◌, length, map, Some, inl, inr, refl, sym, ap, ◌∙◌, subst, arith, length-append, slice_get, range_with_len, cases_lt, length-map-range_with_len, get_or-map-range_with_len, same_Some, slice_get_within, get_or_from_slice_get, map_agree, place_in, at_within, get_left, same_list, get_right, Aig, first_and, node_count, pair_of, AreNormal, RootsValue, node_value, value_of, FitsGraph, HasOneFit, Pair, FlatValue, Param, Circuit, input_count, lit_at, graph_circuit, IsWrittenFrom, literal_value, FitsLines, IsDefined, Item, Input, Latch, And, rules}
 use Rattle.std.proofs.Math.Bool.{and_comm}
 use Rattle.list_laws.proofs.Ranges.{of_range}
 use Rattle.aiger_io.specs.Run as run
 use Rattle.aiger_io.proofs.GraphItemLemmas.{IsGraphItem, an_input, an_output, a_latch, a_gate, item_is, input_there, latch_there, gate_there}
-use Rattle.aiger_io.proofs.PlaceLemmas.{variable_low}
+use Rattle.aiger_io.proofs.PlaceLemmas.{defined_low}
 use Rattle.aiger_io.proofs.RoundTripLemmas.{IsFormed}
-
--- a complement as a choice and as a sum
-phase_is : (b t : Bool) → xor b t ≡ cond t (not b) b
-phase_is b t = grind arith
 
 -- the value of a literal, where its node and its variable have one value
 pub literal_same : (values : List Bool) (value : ℕ → Bool) (l : ℕ) → node_value values (l / 2) ≡ value (l / 2) → value_of values l ≡ literal_value value l
-literal_same values value l e = phase_is (node_value values (l / 2)) (eqb (l % 2) 1) ∙ ap (λ b. cond (eqb (l % 2) 1) (not b) b) e
+literal_same values value l e = (grind arith) ∙ ap (λ b. cond (eqb (l % 2) 1) (not b) b) e
 
 -- the values of sources and of all nodes, from those of variables
 abbrev pub source_list : Aig → (ℕ → Bool) → List Bool
@@ -40,18 +36,13 @@ module _ (flat : FlatValue) (params : List Param) (regular : List ℕ) (g : Aig)
   module _ (x s values : List Bool) (inputs : length x ≡ input_count regular params) (states : length s ≡ length flat.latches) (fits : FitsGraph g (x ++ s) values) where
     -- the value of a source, and that of each kind of line
     source_is : (k : ℕ) (b : Bool) → slice_get (x ++ s) k ≡ Some b → b ≡ node_value values (1 + k)
-    source_is k b e =
-        let l : k < length (x ++ s) = slice_get_within (x ++ s) k b e in
-        let n : length (x ++ s) ≡ length g.kinds = fits.given in
-        let z : k ≡ 1 + k - 1 = omega arith in
-        sym (fits.source (1 + k) (omega arith) (omega arith) ∙ get_or_from_slice_get (x ++ s) (1 + k - 1) b false (subst (λ m. slice_get (x ++ s) m ≡ Some b) z e))
+    source_is k b e = grind (arith, slice_get_within, get_or_from_slice_get)
 
     input_fits : (k own : ℕ) → IsGraphItem (input_count regular params) flat.latches g roots k (Input own) → slice_get x k ≡ Some (node_value values (own / 2))
     input_fits k own (an_input low is) =
         let q : own ≡ 2 * (1 + k) = cc in
-        let z : 1 + k ≡ own / 2 = omega arith in
         let b = at_within x k (omega arith) in
-        b.1 ∙ ap (λ v. Some v) (source_is k b.0 (get_left x s k b.0 b.1)) ∙ ap (λ v. Some (node_value values v)) z
+        b.1 ∙ ap (λ v. Some v) (source_is k b.0 (get_left x s k b.0 b.1)) ∙ ap (λ v. Some (node_value values v)) (omega arith)
     input_fits k own (a_latch j l at there is) = absurd (cc)
     input_fits k own (an_output j l at there is) = absurd (cc)
     input_fits k own (a_gate j pair at there is) = absurd (cc)
@@ -61,9 +52,8 @@ module _ (flat : FlatValue) (params : List Param) (regular : List ℕ) (g : Aig)
     latch_fits k own next init (a_latch j l at there is) =
         let q : own ≡ 2 * (1 + input_count regular params + j) = cc in
         let w : j < length flat.latches = slice_get_within flat.latches j l there in
-        let z : 1 + (length x + k) ≡ own / 2 = omega arith in
         let b = at_within s k (omega arith) in
-        b.1 ∙ ap (λ v. Some v) (source_is (length x + k) b.0 (get_right x s k b.0 b.1)) ∙ ap (λ v. Some (node_value values v)) z
+        b.1 ∙ ap (λ v. Some v) (source_is (length x + k) b.0 (get_right x s k b.0 b.1)) ∙ ap (λ v. Some (node_value values v)) (omega arith)
     latch_fits k own next init (an_output j l at there is) = absurd (cc)
     latch_fits k own next init (a_gate j pair at there is) = absurd (cc)
 
@@ -73,14 +63,12 @@ module _ (flat : FlatValue) (params : List Param) (regular : List ℕ) (g : Aig)
     gate_fits p own left right (an_output j l at there is) = absurd (cc)
     gate_fits p own left right (a_gate j pair at there is) =
         let q : own ≡ 2 * (first_and g + j) = cc in
-        let a : pair.y.0 ≡ left = cc in
         let b : pair.x.0 ≡ right = cc in
-        let n : own / 2 ≡ first_and g + j = omega arith in
         let z : j ≡ first_and g + j - first_and g = omega arith in
-        ap (node_value values) n
+        ap (node_value values) (omega arith)
         ∙ fits.node (first_and g + j) pair (record { above = omega arith; is = subst (λ m. slice_get g.pairs m ≡ Some pair) z there })
         ∙ and_comm (value_of values pair.x.0) (value_of values pair.y.0)
-        ∙ ap (λ v. v && value_of values pair.x.0) (literal_same values (node_value values) pair.y.0 refl ∙ ap (literal_value (node_value values)) a)
+        ∙ ap (λ v. v && value_of values pair.x.0) (literal_same values (node_value values) pair.y.0 refl ∙ ap (literal_value (node_value values)) cc)
         ∙ ap (λ v. literal_value (node_value values) left && v) (literal_same values (node_value values) pair.x.0 refl ∙ ap (literal_value (node_value values)) b)
 
     -- all lines
@@ -97,8 +85,7 @@ module _ (flat : FlatValue) (params : List Param) (regular : List ℕ) (g : Aig)
     -- what is given is the variable's value
     input_known : (k : ℕ) → k < input_count regular params → slice_get x k ≡ Some (value (1 + k))
     input_known k l =
-        let z : 2 * (1 + k) / 2 ≡ 1 + k = omega arith in
-        fits.inputs k (2 * (1 + k)) (input_there (input_count regular params) flat.latches g roots k l) ∙ ap (λ v. Some (value v)) z
+        fits.inputs k (2 * (1 + k)) (input_there (input_count regular params) flat.latches g roots k l) ∙ ap (λ v. Some (value v)) (omega arith)
 
     latch_known : (k : ℕ) → k < length flat.latches → slice_get s k ≡ Some (value (1 + input_count regular params + k))
     latch_known k l =
@@ -108,31 +95,21 @@ module _ (flat : FlatValue) (params : List Param) (regular : List ℕ) (g : Aig)
 
     -- the values of all nodes fit
     source_known : (n : ℕ) → 1 ≤ n → n < first_and g → node_value (node_list g value) n ≡ node_value (source_list g value) (n - 1)
-    source_known n low high =
-        let z : 1 + (n - 1) ≡ n = omega arith in
-        node_at g value n (omega arith) ∙ ap value (sym z) ∙ sym (source_at g value (n - 1) (omega arith))
+    source_known n low high = grind (arith, node_at, source_at)
 
     node_known : (normal : AreNormal (first_and g) g.pairs) (n : ℕ) (p : Pair) → first_and g ≤ n → pair_of g n ≡ Some p → node_value (node_list g value) n ≡ value_of (node_list g value) p.x.0 && value_of (node_list g value) p.y.0
     node_known normal n p low is =
         let l : n - first_and g < length g.pairs = slice_get_within g.pairs (n - first_and g) p is in
         let kept = normal.each (n - first_and g) p is in
-        let ordered : p.x.0 / 2 < p.y.0 / 2 = kept.ordered in
         let below : p.y.0 / 2 < first_and g + (n - first_and g) = kept.below in
-        let z : 2 * (first_and g + (n - first_and g)) / 2 ≡ n = omega arith in
-        node_at g value n (omega arith) ∙ ap value (sym z)
+        node_at g value n (omega arith) ∙ ap value (sym (omega arith))
         ∙ fits.ands (2 * (first_and g + (n - first_and g))) p.y.0 p.x.0 (gate_there (input_count regular params) flat.latches g roots (n - first_and g) p is)
         ∙ and_comm (literal_value value p.y.0) (literal_value value p.x.0)
         ∙ ap (λ v. v && literal_value value p.y.0) (sym (literal_same (node_list g value) value p.x.0 (node_at g value (p.x.0 / 2) (omega arith))))
         ∙ ap (λ v. value_of (node_list g value) p.x.0 && v) (sym (literal_same (node_list g value) value p.y.0 (node_at g value (p.y.0 / 2) (omega arith))))
 
     pub nodes_fit : AreNormal (first_and g) g.pairs → FitsGraph g (source_list g value) (node_list g value)
-    nodes_fit normal = record {
-      given = length-map-range_with_len value 1 (length g.kinds);
-      count = length-map-range_with_len value 0 (node_count g);
-      constant = node_at g value 0 (omega arith) ∙ fits.zero_is;
-      source = source_known;
-      node = λ n p is. node_known normal n p is.above is.is;
-    }
+    nodes_fit normal = search (rules, length-map-range_with_len, node_at, source_known, node_known)
 
     -- where as many values are given as there are sources, they are the sources' values
     given_known : (k : ℕ) (b : Bool) → length x ≡ input_count regular params → length s ≡ length flat.latches → slice_get (x ++ s) k ≡ Some b → b ≡ value (1 + k)
@@ -141,18 +118,15 @@ module _ (flat : FlatValue) (params : List Param) (regular : List ℕ) (g : Aig)
         elim (cases_lt k (input_count regular params)) [
           | inl low ↦ same_Some b (value (1 + k)) (sym e ∙ get_left x s k (value (1 + k)) (input_known k low))
           | inr high ↦ (
-              let j : length x + (k - length x) ≡ k = omega arith in
               let m : 1 + input_count regular params + (k - length x) ≡ 1 + k = omega arith in
               let known : slice_get s (k - length x) ≡ Some (value (1 + k)) = latch_known (k - length x) (omega (arith, length-append x s)) ∙ ap (λ v. Some (value v)) m in
-              same_Some b (value (1 + k)) (sym e ∙ subst (λ i. slice_get (x ++ s) i ≡ Some (value (1 + k))) j (get_right x s (k - length x) (value (1 + k)) known)))
+              same_Some b (value (1 + k)) (sym e ∙ subst (λ i. slice_get (x ++ s) i ≡ Some (value (1 + k))) (omega arith) (get_right x s (k - length x) (value (1 + k)) known)))
         ]
 
     pub given_list : length x ≡ input_count regular params → length s ≡ length flat.latches → source_list g value ≡ x ++ s
     given_list inputs states =
-        let n : length g.kinds ≡ input_count regular params + length flat.latches = from.sources in
         let m : length (source_list g value) ≡ length g.kinds = length-map-range_with_len value 1 (length g.kinds) in
-        let both : length (source_list g value) ≡ length (x ++ s) = omega (arith, length-append x s) in
-        same_list (source_list g value) (x ++ s) both (λ k a b at there.
+        same_list (source_list g value) (x ++ s) (omega (arith, length-append x s)) (λ k a b at there.
         let l : k < length (source_list g value) = slice_get_within (source_list g value) k a at in
         sym (get_or_from_slice_get (source_list g value) k a false at) ∙ source_at g value k (omega arith) ∙ sym (given_known k b inputs states there))
 
@@ -160,7 +134,6 @@ module _ (flat : FlatValue) (params : List Param) (regular : List ℕ) (g : Aig)
   module _ (x s : List Bool) (value other : ℕ → Bool) (fits : FitsLines written x s value) (fit : FitsLines written x s other) where
     sources_agree : (n : ℕ) → 1 ≤ n → n < 1 + length g.kinds → value n ≡ other n
     sources_agree n low high =
-        let m : length g.kinds ≡ input_count regular params + length flat.latches = from.sources in
         elim (cases_lt (n - 1) (input_count regular params)) [
           | inl l ↦ (let z : 1 + (n - 1) ≡ n = omega arith in
               subst (λ v. value v ≡ other v) z (same_Some (value (1 + (n - 1))) (other (1 + (n - 1))) (sym (input_known x s value fits (n - 1) l) ∙ input_known x s other fit (n - 1) l)))
@@ -178,31 +151,13 @@ module _ (flat : FlatValue) (params : List Param) (regular : List ℕ) (g : Aig)
 
   -- what the lines define are nodes
   module _ (formed : IsFormed written) where
-    own_small : (own : ℕ) → is_variable written.header.variables own ≡ true → own / 2 < node_count g
-    own_small own t =
-        let n : length g.kinds ≡ input_count regular params + length flat.latches = from.sources in
-        let l : own ≤ 2 * written.header.variables = (variable_low written.header.variables own t).1 in omega arith
-
     defined_small : (v : ℕ) → IsDefined written v → v < node_count g
-    defined_small v (zero_variable e) = let q : v ≡ 0 = e in omega arith
-    defined_small v (input own i e) = let p = place_in written.items (Input own) i in subst (λ n. n < node_count g) (sym e) (own_small own (formed.items p.0 (Input own) p.1).range)
-    defined_small v (latch own next init i e) =
-        let p = place_in written.items (Latch own next init) i in
-        subst (λ n. n < node_count g) (sym e) (own_small own (and_parts (is_variable written.header.variables own) (is_literal written.header.variables next) (formed.items p.0 (Latch own next init) p.1).range).0)
-    defined_small v (gate own left right i e) =
-        let p = place_in written.items (And own left right) i in
-        subst (λ n. n < node_count g) (sym e)
-        (own_small own (and_parts (is_variable written.header.variables own) (is_literal written.header.variables left && is_literal written.header.variables right) (formed.items p.0 (And own left right) p.1).range).0)
+    defined_small v d = omega (arith, from.sources, defined_low written formed.items v d)
 
     -- there is one fit
     pub written_fit : AreNormal (first_and g) g.pairs → ((given : List Bool) → length given ≡ length g.kinds → HasOneFit g given) → run.HasOneFit written
     written_fit normal one = record {
-      exists = λ x s inputs states.
-          let n : length g.kinds ≡ input_count regular params + length flat.latches = from.sources in
-          let i : length x ≡ input_count regular params = inputs in
-          let l : length s ≡ length flat.latches = states in
-          let fit = one (x ++ s) (omega (arith, length-append x s)) in
-          (node_value fit.values, lines_fit x s fit.values inputs states fit.fits);
+      exists = λ x s inputs states. grind (arith, length-append, lines_fit);
       agree = λ x s value other a b v defined.
           let low : v < node_count g = defined_small v defined in
           let same : node_list g value ≡ node_list g other = nodes_agree x s value other a b normal (one (source_list g value) (length-map-range_with_len value 1 (length g.kinds))) in

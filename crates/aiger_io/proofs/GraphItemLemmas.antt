@@ -1,7 +1,9 @@
--- The items of a graph's circuit: which one stands at each place, and what is picked from them.
-use Rattle.aiger_io.proofs.Common.{◌≡◌, ℕ, zero, suc, ◌+◌, ◌<◌, List, [], ◌∷◌, ◌++◌, length, map, drop, drop-cons, Some, inl, inr, refl, sym, ap, ◌∙◌, subst, arith, length-append, append-nil, slice_get, flat_map, range_with_len, option_map, length-map, flat_map-append, length-range_with_len, get_or-range_with_len, none-some, same_Some, slice_get-map, slice_get-get_or, slice_get_within, get_or_from_slice_get, In, In-get, In-right, get_left, drop_past, mapped_at, get_right, Aig, first_and, RootsValue, lits_of, Lit, Pair, FlatLatch, lit_at, input_item, latch_item, output_item, gate_item, graph_items, output_literal, next_literal, init_bit, output_literals, next_literals, init_bits, numbered, Item}
+-- The items of a graph's circuit: which one stands at each place, and what is picked from them. The circuit goes together: its header does, and its items
+-- stand at their places, in range.
+use Rattle.aiger_io.proofs.Common.{◌≡◌, ℕ, zero, suc, ◌+◌, ◌<◌, List, [], ◌∷◌, ◌++◌, length, map, drop, drop-cons, Some, inl, inr, refl, sym, ap, ◌∙◌, subst, arith, length-append, append-nil, slice_get, flat_map, range_with_len, option_map, length-map, flat_map-append, length-range_with_len, get_or-range_with_len, none-some, same_Some, slice_get-map, slice_get-get_or, slice_get_within, get_or_from_slice_get, In, In-get, In-right, get_left, drop_past, mapped_at, get_right, Aig, first_and, RootsValue, lits_of, Lit, Pair, FlatLatch, lit_at, input_item, latch_item, output_item, gate_item, graph_items, output_literal, next_literal, init_bit, output_literals, next_literals, init_bits, numbered, Item, ◌*◌, ◌/◌, ◌^◌, ◌≤◌, true, ◌&&◌, leb, and_from, le-leb, In-left, In-map, at_within, node_count, IsLit, AreNormal, FlatValue, OutPort, Param, Circuit, input_count, input_at, graph_circuit, IsWrittenFrom, is_literal, is_variable}
 use Rattle.aiger_io.proofs.PortLemmas.{append_at}
-use Rattle.aiger_io.proofs.PlaceLemmas.{of_gate}
+use Rattle.aiger_io.proofs.PlaceLemmas.{of_gate, IsItemAt, input_here, latch_here, output_here, gate_here, variable_in, literal_in}
+use Rattle.aiger_io.proofs.RoundTripLemmas.{IsFormed}
 
 -- of things by numbers
 numbered_from : {X Y : Type 0} (f : ℕ → X → Y) (n : ℕ) (xs : List X) (k : ℕ) (y : Y) → slice_get (numbered f n xs) k ≡ Some y → (x : X) × (slice_get xs k ≡ Some x) × (y ≡ f (n + k) x)
@@ -56,12 +58,7 @@ module _ (inputs : ℕ) (latches : List FlatLatch) (g : Aig) (roots : RootsValue
   output_length = length-map roots.outputs output_item
 
   pub items_count : length (graph_items inputs latches g roots) ≡ inputs + length latches + length roots.outputs + length g.pairs
-  items_count =
-      let i : length input_part ≡ inputs = input_length in
-      let l : length latch_part ≡ length latches = latch_length in
-      let o : length output_part ≡ length roots.outputs = output_length in
-      let a : length gate_part ≡ length g.pairs = numbered_length gate_item (first_and g) g.pairs in
-      omega (arith, length-append input_part (latch_part ++ (output_part ++ gate_part)), length-append latch_part (output_part ++ gate_part), length-append output_part gate_part)
+  items_count = grind (arith, input_part, input_length, latch_part, latch_length, output_part, output_length, gate_part, numbered_length, length-append)
 
   -- from a place to its item
   input_is : (p : ℕ) (item : Item) → slice_get input_part p ≡ Some item → IsGraphItem inputs latches g roots p item
@@ -70,14 +67,12 @@ module _ (inputs : ℕ) (latches : List FlatLatch) (g : Aig) (roots : RootsValue
       let l : p < length (range_with_len 1 inputs) = slice_get_within (range_with_len 1 inputs) p r.0 r.1 in
       let n : length (range_with_len 1 inputs) ≡ inputs = length-range_with_len 1 inputs in
       let low : p < inputs = omega arith in
-      let is : r.0 ≡ 1 + p = sym (get_or_from_slice_get (range_with_len 1 inputs) p r.0 0 r.1) ∙ get_or-range_with_len 1 inputs p 0 low in
-      an_input low (r.2 ∙ ap input_item is)
+      an_input low (r.2 ∙ ap input_item (sym (get_or_from_slice_get (range_with_len 1 inputs) p r.0 0 r.1) ∙ get_or-range_with_len 1 inputs p 0 low))
 
   latch_is : (p k : ℕ) (item : Item) → p ≡ inputs + k → slice_get latch_part k ≡ Some item → IsGraphItem inputs latches g roots p item
   latch_is p k item at e =
       let r = numbered_from (latch_item inputs roots.next) 0 latches k item e in
-      let z : 0 + k ≡ k = omega arith in
-      a_latch k r.0 at r.1 (r.2 ∙ ap (λ m. latch_item inputs roots.next m r.0) z)
+      a_latch k r.0 at r.1 (r.2 ∙ ap (λ m. latch_item inputs roots.next m r.0) (omega arith))
 
   output_is : (p k : ℕ) (item : Item) → p ≡ inputs + length latches + k → slice_get output_part k ≡ Some item → IsGraphItem inputs latches g roots p item
   output_is p k item at e = let r = mapped_at output_item roots.outputs k item e in an_output k r.0 at r.1 r.2
@@ -133,8 +128,7 @@ none_numbered pick f n (x ∷ xs) none = ap (λ l. l ++ flat_map pick (numbered 
 
 -- what is picked from four parts
 four_parts : {B : Type 0} (pick : Item → List B) (a b c d : List Item) → flat_map pick (a ++ (b ++ (c ++ d))) ≡ flat_map pick a ++ (flat_map pick b ++ (flat_map pick c ++ flat_map pick d))
-four_parts pick a b c d =
-    flat_map-append pick a (b ++ (c ++ d)) ∙ ap (λ l. flat_map pick a ++ l) (flat_map-append pick b (c ++ d) ∙ ap (λ l. flat_map pick b ++ l) (flat_map-append pick c d))
+four_parts pick a b c d = grind (arith, flat_map-append)
 
 -- what is picked from outputs, and from latches
 output_each : (lits : List Lit) → flat_map output_literal (map output_item lits) ≡ lits_of lits
@@ -144,7 +138,6 @@ output_each (l ∷ lits) = ap (λ ls. l.0 ∷ ls) (output_each lits)
 next_each : (inputs : ℕ) (next : List Lit) (k : ℕ) (latches : List FlatLatch) → k + length latches ≡ length next → flat_map next_literal (numbered (latch_item inputs next) k latches) ≡ lits_of (drop k next)
 next_each inputs next k [] e = sym (ap lits_of (drop_past next k (let z : k + length {A = FlatLatch} [] ≡ length next = e in omega arith)))
 next_each inputs next k (latch ∷ latches) e =
-    let z : k + length (latch ∷ latches) ≡ length next = e in
     let w : suc k + length latches ≡ length next = omega arith in
     ap (λ ls. lit_at next k ∷ ls) (next_each inputs next (suc k) latches w) ∙ sym (ap lits_of (drop-cons next k (record { 0 = 0 }) (omega arith)))
 
@@ -157,25 +150,66 @@ module _ (inputs : ℕ) (latches : List FlatLatch) (g : Aig) (roots : RootsValue
   -- what inputs and AND gates don't give
   picked : {B : Type 0} (pick : Item → List B) → ((n : ℕ) → pick (input_item n) ≡ []) → ((n : ℕ) (p : Pair) → pick (gate_item n p) ≡ [])
       → flat_map pick (graph_items inputs latches g roots) ≡ flat_map pick (numbered (latch_item inputs roots.next) 0 latches) ++ (flat_map pick (map output_item roots.outputs) ++ [])
-  picked pick of_input of_gate =
-      four_parts pick (map input_item (range_with_len 1 inputs)) (numbered (latch_item inputs roots.next) 0 latches) (map output_item roots.outputs) (numbered gate_item (first_and g) g.pairs)
-      ∙ ap (λ l. l ++ (flat_map pick (numbered (latch_item inputs roots.next) 0 latches) ++ (flat_map pick (map output_item roots.outputs) ++ flat_map pick (numbered gate_item (first_and g) g.pairs)))) (none_mapped pick input_item (range_with_len 1 inputs) of_input)
-      ∙ ap (λ l. flat_map pick (numbered (latch_item inputs roots.next) 0 latches) ++ (flat_map pick (map output_item roots.outputs) ++ l)) (none_numbered pick gate_item (first_and g) g.pairs of_gate)
+  picked pick of_input of_gate = grind (arith, four_parts, none_mapped, none_numbered, of_gate)
 
   pub output_literals_are : output_literals (graph_items inputs latches g roots) ≡ lits_of roots.outputs
-  output_literals_are =
-      picked output_literal (λ n. refl) (λ n p. refl)
-      ∙ ap (λ l. l ++ (flat_map output_literal (map output_item roots.outputs) ++ [])) (none_numbered output_literal (latch_item inputs roots.next) 0 latches (λ n latch. refl))
-      ∙ append-nil (flat_map output_literal (map output_item roots.outputs)) ∙ output_each roots.outputs
+  output_literals_are = grind (arith, picked, none_numbered, append-nil, output_each)
 
   pub next_literals_are : length roots.next ≡ length latches → next_literals (graph_items inputs latches g roots) ≡ lits_of roots.next
-  next_literals_are same =
-      picked next_literal (λ n. refl) (λ n p. refl)
-      ∙ ap (λ l. flat_map next_literal (numbered (latch_item inputs roots.next) 0 latches) ++ (l ++ [])) (none_mapped next_literal output_item roots.outputs (λ l. refl))
-      ∙ append-nil (flat_map next_literal (numbered (latch_item inputs roots.next) 0 latches)) ∙ next_each inputs roots.next 0 latches (omega arith)
+  next_literals_are same = grind (arith, picked, none_mapped, append-nil, next_each)
 
   pub init_bits_are : init_bits (graph_items inputs latches g roots) ≡ map (λ (l : FlatLatch). l.init) latches
-  init_bits_are =
-      picked init_bit (λ n. refl) (λ n p. refl)
-      ∙ ap (λ l. flat_map init_bit (numbered (latch_item inputs roots.next) 0 latches) ++ (l ++ [])) (none_mapped init_bit output_item roots.outputs (λ l. refl))
-      ∙ append-nil (flat_map init_bit (numbered (latch_item inputs roots.next) 0 latches)) ∙ init_each inputs roots.next 0 latches
+  init_bits_are = grind (arith, picked, none_mapped, append-nil, init_each)
+
+-- a literal among roots
+among : (lits : List Lit) (k : ℕ) (l : Lit) → slice_get lits k ≡ Some l → In (lits_of lits) l.0
+among lits k l e = In-map (λ (m : Lit). m.0) lits l (In-get lits k l e)
+
+module _ (flat : FlatValue) (params : List Param) (regular : List ℕ) (g : Aig) (roots : RootsValue) (from : IsWrittenFrom flat params regular g roots) (normal : AreNormal (first_and g) g.pairs) where
+  abbrev written : Circuit
+  written = graph_circuit flat params regular g roots
+
+  -- as many variables as nodes beside the constant
+  nodes : node_count g ≡ 1 + written.header.variables
+  nodes = let s : length g.kinds ≡ input_count regular params + length flat.latches = from.sources in omega arith
+
+  -- literals of the graph are in range, and so are outputs and next states
+  root_in : (l : ℕ) → IsLit g l → is_literal written.header.variables l ≡ true
+  root_in l low = let n : node_count g ≡ 1 + written.header.variables = nodes in let b : l < 2 * node_count g = low in literal_in written.header.variables l (omega arith)
+
+  output_in : (k : ℕ) (l : Lit) → slice_get roots.outputs k ≡ Some l → IsLit g l.0
+  output_in k l e = from.literals l.0 (In-left (lits_of roots.outputs) (lits_of roots.next) l.0 (among roots.outputs k l e))
+
+  next_in : (k : ℕ) → k < length flat.latches → is_literal written.header.variables (lit_at roots.next k) ≡ true
+  next_in k low =
+      let l = at_within roots.next k (omega arith) in
+      subst (λ m. is_literal written.header.variables m ≡ true) (sym (lit_at-is roots.next k l.0 l.1))
+      (root_in (l.0).0 (from.literals (l.0).0 (In-right (lits_of roots.outputs) (lits_of roots.next) (l.0).0 (among roots.next k l.0 l.1))))
+
+  -- each item at its place
+  placed : (p : ℕ) (item : Item) → IsGraphItem (input_count regular params) flat.latches g roots p item → IsItemAt written.header p item
+  placed p item (an_input low is) = grind (arith, input_here, variable_in)
+  placed p item (a_latch k latch at there is) = grind (arith, slice_get_within, variable_in, latch_here, and_from, next_in)
+  placed p item (an_output k l at there is) = grind (arith, slice_get_within, output_here, root_in, output_in)
+  placed p item (a_gate k pair at there is) =
+      let low : k < length g.pairs = slice_get_within g.pairs k pair there in
+      let kept = normal.each k pair there in
+      let below : pair.y.0 / 2 < first_and g + k = kept.below in
+      let own : is_variable written.header.variables (2 * (first_and g + k)) ≡ true = variable_in written.header.variables (first_and g + k) (omega arith) (omega arith) in
+      let higher : is_literal written.header.variables pair.y.0 ≡ true = literal_in written.header.variables pair.y.0 (omega arith) in
+      let lower : is_literal written.header.variables pair.x.0 ≡ true = literal_in written.header.variables pair.x.0 (omega arith) in
+      grind (arith, gate_here, and_from)
+
+  -- all of it
+  pub written_formed : node_count g ≤ 2 ^ 30 → IsFormed written
+  written_formed small =
+      let m : node_count g ≤ 1073741824 = small in
+      let o : length roots.outputs ≡ length flat.outputs = from.outputs in
+      record {
+        header = grind (arith, and_from, leb, le-leb);
+        few = omega arith;
+        count = items_count (input_count regular params) flat.latches g roots;
+        items = λ p item e. placed p item (item_is (input_count regular params) flat.latches g roots p item e);
+        inputs = omega (arith, length-append (map (input_at flat) regular) (map (λ (p : Param). p.name) params), length-map regular (input_at flat), length-map params (λ (p : Param). p.name));
+        outputs = length-map flat.outputs (λ (p : OutPort). p.name) ∙ sym o;
+      }

@@ -1,33 +1,79 @@
--- The circuit of a graph keeps what is said of it: its text is of the format and is read back, its lines have one fit, and its cycles and runs are those of
+-- What the library of a circuit weighs: each section's lines weigh the same. The circuit of a graph keeps what is said of it: its text is of the format and is read back, its lines have one fit, and its cycles and runs are those of
 -- the library whose graph it is.
-use Rattle.aiger_io.proofs.Common.{◌≡◌, ℕ, ◌+◌, ◌*◌, ◌/◌, ◌^◌, ◌<◌, ◌≤◌, Bool, false, List, [], ◌∷◌, ◌++◌, length, map, get_or, replicate, Some, refl, sym, ap, ◌∙◌, subst, arith, length-append, slice_get, length-map, length-replicate, same_Some, get_or_from_slice_get, In, In-left, In-right, map_agree, Aig, first_and, node_count, IsLit, AreNormal, RootsValue, lits_of, node_value, value_of, FitsGraph, HasOneFit, FlatValue, LibraryValue, Place, is_latch, FlatOrder, IsCycle, IsRun, FlatLatch, Param, regular_names, param_names, Circuit, input_count, input_at, graph_circuit, IsWrittenFrom, IsGraphsCircuit, literal_value, output_literals, next_literals, init_bits, IsCircuitCycle, CircuitRuns, HasSameRuns}
+use Rattle.aiger_io.proofs.Common.{◌≡◌, ℕ, ◌+◌, ◌*◌, ◌/◌, ◌^◌, ◌<◌, ◌≤◌, Bool, false, List, [], ◌∷◌, ◌++◌, length, map, get_or, replicate, Some, refl, sym, ap, ◌∙◌, subst, arith, length-append, slice_get, length-map, length-replicate, same_Some, get_or_from_slice_get, In, In-left, In-right, map_agree, Aig, first_and, node_count, IsLit, AreNormal, RootsValue, lits_of, node_value, value_of, FitsGraph, HasOneFit, FlatValue, LibraryValue, IsCycle, IsRun, FlatLatch, Param, regular_names, param_names, Circuit, input_count, input_at, graph_circuit, IsWrittenFrom, IsGraphsCircuit, literal_value, output_literals, next_literals, init_bits, IsCircuitCycle, CircuitRuns, HasSameRuns, inl, inr, mark_of, commands_from, model_of, library_of, library_weight, kind_of_item, AreInSections, Header, Item, Latch, Kind}
 use Rattle.aig_build.specs.NetlistCycle.{source_values, literal_values, HasSourceCycles}
 use Rattle.aig_build.specs.NetlistGraph.{input_names}
 use Rattle.netlist.specs.Evaluation.{net_value, flat_values}
 use Rattle.netlist.specs.FlatCycle.{flat_outputs, flat_next, flat_inits, run_outputs, run_states, input_values, HasCycles}
 use Rattle.netlist.proofs.OrderLemmas.{order_once}
 use Rattle.aiger_io.proofs.GraphFitLemmas.{literal_same, node_list, node_at, lines_fit, nodes_fit, given_list, written_fit}
-use Rattle.aiger_io.proofs.GraphFormLemmas.{written_formed}
-use Rattle.aiger_io.proofs.GraphItemLemmas.{output_literals_are, next_literals_are, init_bits_are}
-use Rattle.aiger_io.proofs.Format.SectionLemmas.{in_sections}
-use Rattle.aiger_io.proofs.WeightLemmas.{circuit_weighs}
-use Rattle.aiger_io.proofs.WrittenFormLemmas.{text_format, text_is, alike_refused}
+use Rattle.aiger_io.proofs.GraphItemLemmas.{written_formed, output_literals_are, next_literals_are, init_bits_are}
+use Rattle.aiger_io.proofs.Format.AigerTextLemmas.{in_sections}
+use Rattle.aiger_io.proofs.WrittenLemmas.{text_format, text_is, alike_refused}
+use Rattle.netlist.specs.Weight.{commands_weight, own_weight, Weighs, weighs, none}
+use Rattle.aiger_io.specs.declared.item.Kind.TheVariants as kind
+use Rattle.aiger_io.proofs.FitLemmas.{no_subckts}
+
+-- what a line's commands weigh
+abbrev kind_weight : Kind → ℕ
+kind_weight kind.Input = 2
+kind_weight kind.Latch = 4
+kind_weight kind.Output = 2
+kind_weight kind.And = 3
+
+abbrev weigh : List Item → ℕ
+weigh [] = 0
+weigh (item ∷ items) = kind_weight (kind_of_item item) + weigh items
+
+module _ (mark : List ℕ) (h : Header) (inputs outputs : List (List ℕ)) where
+  commands_weigh : (place : ℕ) (items : List Item) → commands_weight (commands_from mark h inputs outputs place items) ≡ weigh items
+  commands_weigh place [] = refl
+  commands_weigh place (Latch own next init ∷ items) = let b = commands_weigh (place + 1) items in grind (arith, b)
+  commands_weigh place (item ∷ items) = ap (λ n. kind_weight (kind_of_item item) + n) (commands_weigh (place + 1) items)
+
+weigh_both : (xs ys : List Item) → weigh (xs ++ ys) ≡ weigh xs + weigh ys
+weigh_both [] ys = omega arith
+weigh_both (x ∷ xs) ys = let b = weigh_both xs ys in omega (arith, b)
+
+-- a section
+section_weighs : (k : Kind) (items : List Item) → ((item : Item) → In items item → kind_of_item item ≡ k) → weigh items ≡ kind_weight k * length items
+section_weighs k [] each = grind arith
+section_weighs k (x ∷ xs) each = let a : kind_weight (kind_of_item x) ≡ kind_weight k = ap kind_weight (each x (inl refl)) in let b : weigh xs ≡ kind_weight k * length xs = section_weighs k xs (λ y i. each y (inr i)) in grind arith
+
+module _ (c : Circuit) (s : AreInSections c.header c.items) (inputs : length c.inputs ≡ c.header.inputs) (outputs : length c.outputs ≡ c.header.outputs) where
+  items_weigh : weigh c.items ≡ 2 * c.header.inputs + 4 * c.header.latches + 2 * c.header.outputs + 3 * c.header.ands
+  items_weigh =
+      ap weigh s.are ∙ omega (
+        arith,
+        (s.inputs_are).count_is,
+        (s.latches_are).count_is,
+        (s.outputs_are).count_is,
+        (s.ands_are).count_is,
+        section_weighs kind.Input s.inputs (s.inputs_are).each,
+        section_weighs kind.Latch s.latches (s.latches_are).each,
+        section_weighs kind.Output s.outputs (s.outputs_are).each,
+        section_weighs kind.And s.ands (s.ands_are).each,
+        weigh_both s.inputs (s.latches ++ (s.outputs ++ s.ands)),
+        weigh_both s.latches (s.outputs ++ s.ands),
+        weigh_both s.outputs s.ands,
+      )
+
+  pub circuit_weighs : Weighs (library_of c) (model_of c) (library_weight c.header)
+  circuit_weighs =
+      let own : own_weight (model_of c) ≡ 1 + length c.inputs + length c.outputs + 0 + (1 + commands_weight (commands_from (mark_of (c.inputs ++ c.outputs)) c.header c.inputs c.outputs 0 c.items)) = refl in
+      weighs 0 (none (no_subckts c) refl) (omega (arith, commands_weigh (mark_of (c.inputs ++ c.outputs)) c.header c.inputs c.outputs 0 c.items, items_weigh, own))
 
 -- names by their places
 names_at : (names : List (List ℕ)) (places : List ℕ) (all : List (List ℕ)) → map (slice_get names) places ≡ map (λ name. Some name) all → map (λ i. get_or names i []) places ≡ all
 names_at names [] [] e = refl
 names_at names (i ∷ places) (name ∷ all) e =
-    let here : slice_get names i ≡ Some name = cc in
     let rest : map (slice_get names) places ≡ map (λ (n : List ℕ). Some n) all = cc in
-    ap (λ n. n ∷ map (λ j. get_or names j []) places) (get_or_from_slice_get names i name [] here) ∙ ap (λ ns. name ∷ ns) (names_at names places all rest)
+    ap (λ n. n ∷ map (λ j. get_or names j []) places) (get_or_from_slice_get names i name [] cc) ∙ ap (λ ns. name ∷ ns) (names_at names places all rest)
 names_at names places all e = absurd (cc)
 
 -- all cycles of a library have as many states
 states_once : (library : LibraryValue) (x y : List ℕ → Bool) (s t outputs next others more : List Bool) → IsCycle library x s outputs next → IsCycle library y t others more → length s ≡ length t
-states_once library x y s t outputs next others more a b =
-    let main : a.main ≡ b.main = same_Some a.main b.main (sym (a.are_latches).at ∙ (b.are_latches).at) in
-    let same : a.latches ≡ b.latches = order_once library is_latch (subst (λ m. FlatOrder library is_latch [] m a.latches) main (a.are_latches).order) (b.are_latches).order in
-    a.states ∙ ap (λ (places : List Place). length places) same ∙ sym b.states
+states_once library x y s t outputs next others more a b = grind (arith, same_Some, order_once)
 
 -- the inputs' values
 abbrev all_inputs : Circuit → List (List ℕ → Bool) → List (List Bool)
@@ -85,7 +131,6 @@ module _ (flat : FlatValue) (params : List Param) (regular : List ℕ) (g : Aig)
     circuit_cycle x s outputs next cycle =
         let count : length s ≡ length flat.latches = states_count x s outputs next cycle in
         let inputs : length (map x written.inputs) ≡ input_count regular params = length-map written.inputs x ∙ inputs_count in
-        let kinds : length g.kinds ≡ input_count regular params + length flat.latches = from.sources in
         let fit = one (map x written.inputs ++ s) (omega (arith, length-append (map x written.inputs) s)) in
         let fits : FitsGraph g (source_values flat params x s) fit.values = subst (λ given. FitsGraph g given fit.values) (sources_are x s) fit.fits in
         record {
@@ -105,10 +150,7 @@ module _ (flat : FlatValue) (params : List Param) (regular : List ℕ) (g : Aig)
         let cycle = library_cycle x s o n r.0 in
         let first : o ≡ flat_outputs library flat (input_values flat x) s = cycles.outputs x s o n cycle in
         let next : n ≡ flat_next library flat (input_values flat x) s = cycles.states x s o n cycle in
-        let later = runs_are n xs os ns r.1 in (
-          ap (λ l. l ∷ os) first ∙ ap (λ ls. flat_outputs library flat (input_values flat x) s ∷ ls) (later.0 ∙ ap (λ t. run_outputs library flat t (map (input_values flat) xs)) next),
-          ap (λ l. l ∷ ns) next ∙ ap (λ ls. flat_next library flat (input_values flat x) s ∷ ls) (later.1 ∙ ap (λ t. run_states library flat t (map (input_values flat) xs)) next),
-        )
+        grind (arith, runs_are n xs os ns r.1)
     runs_are s xs outputs states r = absurd r
 
     -- and the flat circuit's is the circuit's
@@ -125,9 +167,7 @@ module _ (flat : FlatValue) (params : List Param) (regular : List ℕ) (g : Aig)
 
     -- so runs are the same
     run_of_circuit : (xs : List (List ℕ → Bool)) (outputs states : List (List Bool)) → CircuitRuns written (init_bits written.items) (all_inputs written xs) outputs states → IsRun library xs outputs states
-    run_of_circuit xs outputs states r =
-        let are = runs_are (flat_inits flat) xs outputs states (subst (λ s. CircuitRuns written s (all_inputs written xs) outputs states) inits_are r) in
-        subst (λ o. IsRun library xs o states) (sym are.0) (subst (λ t. IsRun library xs (run_outputs library flat (flat_inits flat) (map (input_values flat) xs)) t) (sym are.1) (cycles.is_run xs))
+    run_of_circuit xs outputs states r = grind (arith, runs_are, written, all_inputs, inits_are)
 
     run_of_library : (xs : List (List ℕ → Bool)) (outputs states : List (List Bool)) → IsRun library xs outputs states → CircuitRuns written (init_bits written.items) (all_inputs written xs) outputs states
     run_of_library xs outputs states r =

@@ -1,5 +1,5 @@
 -- The law of a circuit and its library: fitting values exist and agree, and cycles and runs are the same.
-use Rattle.aiger_io.proofs.Common.{◌≡◌, ℕ, zero, suc, ◌+◌, ◌-◌, ◌*◌, ◌/◌, ◌^◌, ◌<◌, ◌≤◌, min, max, Bool, false, ◌&&◌, get_or, List, [], ◌∷◌, ◌++◌, length, map, Option, Some, None, inl, inr, refl, sym, ap, ◌∙◌, subst, arith, append-nil, slice_get, option_map, option_and_then, and_parts, length-map, same_Some, slice_get-map, slice_get-get_or, slice_get_within, In, place_in, at_within, same_list, CoverValue, Fits, ModelValue, LibraryValue, Path, subckts_of, Net, Drives, cover_output, latch_output, latch_net, cover_net, Place, is_latch, own_of, FlatOrder, FlatUnder, flat, none, more, latch_at, latch_in, AreLatches, IsCycle, Runs, stops, steps, init_state, inits_of, state_of, next_state, next_states, One, Command, AreOnce, Circuit, mark_of, variable_name, next_name, cell_of, cover_command, zero_command, latch_command, port_name, commands_from, model_of, library_of, is_literal, is_variable, Item, Input, Latch, Output, And, circuit_of, IsLibraryIn, left_apart, nat_tests, true}
+use Rattle.aiger_io.proofs.Common.{◌≡◌, ℕ, zero, suc, ◌+◌, ◌-◌, ◌*◌, ◌/◌, ◌^◌, ◌<◌, ◌≤◌, min, max, Bool, false, ◌&&◌, get_or, List, [], ◌∷◌, ◌++◌, length, map, Option, Some, None, inl, inr, refl, sym, ap, ◌∙◌, subst, arith, append-nil, slice_get, option_map, option_and_then, length-map, same_Some, slice_get-map, slice_get-get_or, slice_get_within, In, place_in, at_within, same_list, CoverValue, Fits, ModelValue, LibraryValue, Path, Net, Drives, cover_output, latch_output, latch_net, cover_net, Place, is_latch, FlatOrder, FlatUnder, flat, latch_at, latch_in, AreLatches, IsCycle, Runs, stops, steps, init_state, inits_of, state_of, next_state, next_states, One, Command, AreOnce, Circuit, mark_of, variable_name, next_name, cell_of, cover_command, zero_command, latch_command, port_name, commands_from, model_of, library_of, Item, Input, Latch, Output, And, circuit_of, IsLibraryIn, left_apart, rules}
 use Rattle.netlist.specs.Law.{HasOneCycle}
 use Rattle.netlist.specs.Sound.{IsSound}
 use Rattle.netlist.specs.SubcktValue.{SubcktValue}
@@ -8,8 +8,7 @@ use Rattle.netlist.proofs.LawLemmas.{sound_law}
 use Rattle.aiger_io.specs.Run.{literal_value, FitsLines, IsDefined, zero_variable, input, latch, gate, HasOneFit, output_literal, next_literal, output_literals, next_literals, init_bits, IsCircuitCycle, CircuitRuns, HasSameRuns}
 use Rattle.aiger_io.proofs.FitLemmas.{built, place_among, place_once, variable_built, next_built, output_built, nexts_picked, outputs_picked, fits_library, latches_of, no_subckts, are_latches, cover_in_place, command_in, item_in, circuit_kinds, literal_is, fits_lines}
 use Rattle.aiger_io.proofs.CleanLemmas.{IsKept, text_kept, text_ports_once}
-use Rattle.aiger_io.proofs.LatchLemmas.{latch_indices, top_place, own_latches}
-use Rattle.aiger_io.proofs.PlaceLemmas.{picked_length, picked_at, picked_from, of_input}
+use Rattle.aiger_io.proofs.PlaceLemmas.{latch_indices, top_place, own_latches, picked_length, picked_at, picked_from, of_input, defined_low}
 
 -- bits by the names of their places
 abbrev by_name : List (List ℕ) → List Bool → List ℕ → Bool
@@ -18,9 +17,8 @@ by_name names bits name = get_or bits (place_among names name) false
 by_name_at : (names : List (List ℕ)) (bits : List Bool) (k : ℕ) (b : Bool) → AreOnce names → k < length names → slice_get bits k ≡ Some b → slice_get (map (by_name names bits) names) k ≡ Some b
 by_name_at names bits k b once l e =
     let n = at_within names k l in
-    let w : k < length bits = slice_get_within bits k b e in
     slice_get-map (by_name names bits) names k ∙ ap (option_map (by_name names bits)) n.1
-    ∙ ap (λ i. Some (get_or bits i false)) (place_once names k n.0 once n.1) ∙ sym (slice_get-get_or bits k false w) ∙ e
+    ∙ ap (λ i. Some (get_or bits i false)) (place_once names k n.0 once n.1) ∙ sym (slice_get-get_or bits k false (slice_get_within bits k b e)) ∙ e
 
 by_name_all : (names : List (List ℕ)) (bits : List Bool) → AreOnce names → length bits ≡ length names → map (by_name names bits) names ≡ bits
 by_name_all names bits once l = same_list (map (by_name names bits) names) bits (length-map names (by_name names bits) ∙ sym l)
@@ -41,7 +39,6 @@ module _ (c : Circuit) (kept : IsKept c) (once : AreOnce (c.inputs ++ c.outputs)
     zero_is = fits.zero_is;
     inputs = λ k own e.
         let low : k < c.header.inputs = of_input c.header k (kept.items k (Input own) e).kind in
-        let n : length c.inputs ≡ c.header.inputs = kept.inputs in
         by_name_at c.inputs x k (f (own / 2)) (left_apart c.inputs c.outputs once) (omega arith) (fits.inputs k own e);
     latches = fits.latches;
     ands = fits.ands;
@@ -64,7 +61,6 @@ module _ (c : Circuit) (kept : IsKept c) (once : AreOnce (c.inputs ++ c.outputs)
       (item_in c p.0 (Input own) _ p.1 (inl refl)) refl (ap (variable_name (mark_of (c.inputs ++ c.outputs))) (sym e))
   defined_driven v (latch own next init i e) =
       let p = place_in c.items (Latch own next init) i in
-      let d : Command = latch_command (0 + p.0 + 2) (next_name (mark_of (c.inputs ++ c.outputs)) (0 + p.0 - c.header.inputs)) (variable_name (mark_of (c.inputs ++ c.outputs)) (own / 2)) init in
       let q = place_in (model_of c).commands (latch_command (0 + p.0 + 2) (next_name (mark_of (c.inputs ++ c.outputs)) (0 + p.0 - c.header.inputs)) (variable_name (mark_of (c.inputs ++ c.outputs)) (own / 2)) init) (item_in c p.0 (Latch own next init) _ p.1 (inr (inl refl))) in (
         latch_net [] q.0,
         latch_output q.0 (record { input = next_name (mark_of (c.inputs ++ c.outputs)) (0 + p.0 - c.header.inputs); output = variable_name (mark_of (c.inputs ++ c.outputs)) (own / 2); control = None; init = init })
@@ -77,18 +73,8 @@ module _ (c : Circuit) (kept : IsKept c) (once : AreOnce (c.inputs ++ c.outputs)
       (item_in c p.0 (And own left right) _ p.1 (inl refl)) refl (ap (variable_name (mark_of (c.inputs ++ c.outputs))) (sym e))
 
   -- and its number is small
-  small_half : (v own : ℕ) → v ≡ own / 2 → is_variable c.header.variables own ≡ true → v < 2 ^ 64
-  small_half v own e t = let m : c.header.variables ≤ 1073741824 = kept.most in grind (arith, nat_tests)
-
   defined_small : (v : ℕ) → IsDefined c v → v < 2 ^ 64
-  defined_small v (zero_variable e) = let q : v ≡ 0 = e in omega arith
-  defined_small v (input own i e) = let p = place_in c.items (Input own) i in small_half v own e (kept.items p.0 (Input own) p.1).range
-  defined_small v (latch own next init i e) =
-      let p = place_in c.items (Latch own next init) i in
-      small_half v own e (and_parts (is_variable c.header.variables own) (is_literal c.header.variables next) (kept.items p.0 (Latch own next init) p.1).range).0
-  defined_small v (gate own left right i e) =
-      let p = place_in c.items (And own left right) i in
-      small_half v own e (and_parts (is_variable c.header.variables own) (is_literal c.header.variables left && is_literal c.header.variables right) (kept.items p.0 (And own left right) p.1).range).0
+  defined_small v d = omega (arith, kept.most, defined_low c kept.items v d)
 
   -- fitting values exist, and agree on what the lines define
   pub one_fit : HasOneCycle (library_of c) → HasOneFit c
@@ -111,11 +97,14 @@ module _ (c : Circuit) (kept : IsKept c) (once : AreOnce (c.inputs ++ c.outputs)
 
 -- the latches of the library, one after another
 module _ (c : Circuit) where
-  latch_there : (i line : ℕ) (a b : List ℕ) (init : Bool) → slice_get (model_of c).commands i ≡ Some (latch_command line a b init) → latch_at (library_of c) (top_place i) ≡ Some (record { input = a; output = b; control = None; init = init })
-  latch_there i line a b init e = ap (λ (o : Option Command). option_and_then latch_in (option_map (λ (k : Command). k.body) o)) e
-
   abbrev AreThere : ℕ → ℕ → List Item → Type 0
   AreThere j p items = (n : ℕ) (d : Command) → slice_get (commands_from (mark_of (c.inputs ++ c.outputs)) c.header c.inputs c.outputs p items) n ≡ Some d → slice_get (model_of c).commands (j + n) ≡ Some d
+
+  first_there : (j p own next : ℕ) (init : Bool) (items : List Item) → AreThere j p (Latch own next init ∷ items)
+      → latch_at (library_of c) (top_place (suc j)) ≡ Some (record { input = next_name (mark_of (c.inputs ++ c.outputs)) (p - c.header.inputs); output = variable_name (mark_of (c.inputs ++ c.outputs)) (own / 2); control = None; init = init })
+  first_there j p own next init items there =
+      let z : j + 1 ≡ suc j = omega arith in
+      ap (λ (o : Option Command). option_and_then latch_in (option_map (λ (k : Command). k.body) o)) (subst (λ m. slice_get (model_of c).commands m ≡ Some (latch_command (p + 2) (next_name (mark_of (c.inputs ++ c.outputs)) (p - c.header.inputs)) (variable_name (mark_of (c.inputs ++ c.outputs)) (own / 2)) init)) z (there 1 _ refl))
 
   one_there : (j p : ℕ) (items : List Item) (d : Command) (commands : List Command) → ((n : ℕ) (e : Command) → slice_get (d ∷ commands) n ≡ Some e → slice_get (model_of c).commands (j + n) ≡ Some e)
       → (n : ℕ) (e : Command) → slice_get commands n ≡ Some e → slice_get (model_of c).commands (suc j + n) ≡ Some e
@@ -134,13 +123,8 @@ module _ (c : Circuit) where
       → map (λ (pl : Place). next_state (value pl.path) (latch_at (library_of c) pl)) (map top_place (latch_indices j items)) ≡ map (literal_value f) (next_literals items)
   nexts_same value f j p [] there gives = refl
   nexts_same value f j p (Latch own next init ∷ items) there gives =
-      let at = there 1 (latch_command (p + 2) (next_name (mark_of (c.inputs ++ c.outputs)) (p - c.header.inputs)) (variable_name (mark_of (c.inputs ++ c.outputs)) (own / 2)) init) refl in
-      let z : j + 1 ≡ suc j = omega arith in
-      let y : p + zero - c.header.inputs ≡ p - c.header.inputs = omega arith in
-      let l = latch_there (suc j) (p + 2) (next_name (mark_of (c.inputs ++ c.outputs)) (p - c.header.inputs)) (variable_name (mark_of (c.inputs ++ c.outputs)) (own / 2)) init
-      (subst (λ m. slice_get (model_of c).commands m ≡ Some (latch_command (p + 2) (next_name (mark_of (c.inputs ++ c.outputs)) (p - c.header.inputs)) (variable_name (mark_of (c.inputs ++ c.outputs)) (own / 2)) init)) z at) in
       let first : next_state (value []) (latch_at (library_of c) (top_place (suc j))) ≡ literal_value f next =
-      ap (next_state (value [])) l ∙ subst (λ m. value [] (next_name (mark_of (c.inputs ++ c.outputs)) m) ≡ literal_value f next) y (gives zero own next init refl) in
+      ap (next_state (value [])) (first_there j p own next init items there) ∙ subst (λ m. value [] (next_name (mark_of (c.inputs ++ c.outputs)) m) ≡ literal_value f next) (omega arith) (gives zero own next init refl) in
       ap (λ b. b ∷ map (λ (pl : Place). next_state (value pl.path) (latch_at (library_of c) pl)) (map top_place (latch_indices (suc (suc j)) items))) first
       ∙ ap (λ bs. literal_value f next ∷ bs) (nexts_same value f (suc (suc j)) (p + 1) items (two_there j p own next init items there) (later_gives value f p (Latch own next init) items gives))
   nexts_same value f j p (item ∷ items) there gives = nexts_same value f (suc j) (p + 1) items (one_there j p items _ _ there) (later_gives value f p item items gives)
@@ -148,11 +132,7 @@ module _ (c : Circuit) where
   inits_same : (j p : ℕ) (items : List Item) → AreThere j p items → map (λ (pl : Place). init_state (latch_at (library_of c) pl)) (map top_place (latch_indices j items)) ≡ init_bits items
   inits_same j p [] there = refl
   inits_same j p (Latch own next init ∷ items) there =
-      let at = there 1 (latch_command (p + 2) (next_name (mark_of (c.inputs ++ c.outputs)) (p - c.header.inputs)) (variable_name (mark_of (c.inputs ++ c.outputs)) (own / 2)) init) refl in
-      let z : j + 1 ≡ suc j = omega arith in
-      let l = latch_there (suc j) (p + 2) (next_name (mark_of (c.inputs ++ c.outputs)) (p - c.header.inputs)) (variable_name (mark_of (c.inputs ++ c.outputs)) (own / 2)) init
-      (subst (λ m. slice_get (model_of c).commands m ≡ Some (latch_command (p + 2) (next_name (mark_of (c.inputs ++ c.outputs)) (p - c.header.inputs)) (variable_name (mark_of (c.inputs ++ c.outputs)) (own / 2)) init)) z at) in
-      ap (λ b. b ∷ map (λ (pl : Place). init_state (latch_at (library_of c) pl)) (map top_place (latch_indices (suc (suc j)) items))) (ap init_state l)
+      ap (λ b. b ∷ map (λ (pl : Place). init_state (latch_at (library_of c) pl)) (map top_place (latch_indices (suc (suc j)) items))) (ap init_state (first_there j p own next init items there))
       ∙ ap (λ bs. init ∷ bs) (inits_same (suc (suc j)) (p + 1) items (two_there j p own next init items there))
   inits_same j p (item ∷ items) there = inits_same (suc j) (p + 1) items (one_there j p items _ _ there)
 
@@ -179,18 +159,14 @@ outputs_length : (c : Circuit) → IsKept c → length (output_literals c.items)
 outputs_length c kept =
     let d : length (output_literals c.items) ≡ min (0 + length c.items) (c.header.inputs + c.header.latches + c.header.outputs) - max 0 (c.header.inputs + c.header.latches) =
     picked_length c.header output_literal (c.header.inputs + c.header.latches) (c.header.inputs + c.header.latches + c.header.outputs) (outputs_picked c.header) 0 c.items (circuit_kinds c kept) in
-    let n : length c.items ≡ c.header.inputs + c.header.latches + c.header.outputs + c.header.ands = kept.all in
     let o : length c.outputs ≡ c.header.outputs = kept.outputs in omega arith
 
 -- a library's latches are those, in flat order
 no_inner : (c : Circuit) (path : Path) (k : ℕ) (subckts : List SubcktValue) (places : List Place) → subckts ≡ [] → FlatUnder (library_of c) is_latch path k subckts places → places ≡ []
-no_inner c path k subckts places e (none a b) = b
-no_inner c path k subckts places e (more s rest child these others a b f g h) = absurd (cc)
+no_inner c path k subckts places e e2 = grind arith
 
 latches_are : (c : Circuit) (latches : List Place) → FlatOrder (library_of c) is_latch [] (model_of c) latches → latches ≡ latches_of c
-latches_are c latches (flat inner under is) =
-    is ∙ ap (λ l. own_of is_latch [] (model_of c) ++ l) (no_inner c [] 0 (subckts_of (model_of c).commands) inner (no_subckts c) under)
-    ∙ append-nil (own_of is_latch [] (model_of c)) ∙ own_latches (mark_of (c.inputs ++ c.outputs)) c.header c.inputs c.outputs 1 0 c.items
+latches_are c latches (flat inner under is) = grind (arith, no_inner, no_subckts, append-nil, own_latches)
 
 -- what is known of a library's latches
 record AreItsLatches (c : Circuit) (main : ModelValue) (latches : List Place) : Type 0 where
@@ -198,9 +174,7 @@ record AreItsLatches (c : Circuit) (main : ModelValue) (latches : List Place) : 
   latches_is : latches ≡ latches_of c
 
 its_latches : (c : Circuit) (main : ModelValue) (latches : List Place) → AreLatches (library_of c) main latches → AreItsLatches c main latches
-its_latches c main latches are =
-    let m : main ≡ model_of c = sym (same_Some (model_of c) main are.at) in
-    record { main_is = m; latches_is = latches_are c latches (subst (λ n. FlatOrder (library_of c) is_latch [] n latches) m are.order) }
+its_latches c main latches are = grind (arith, same_Some, latches_are)
 
 module _ (c : Circuit) (kept : IsKept c) (once : AreOnce (c.inputs ++ c.outputs)) where
   -- from the circuit's cycle to the library's
@@ -211,10 +185,8 @@ module _ (c : Circuit) (kept : IsKept c) (once : AreOnce (c.inputs ++ c.outputs)
   built_nexts : (x : List ℕ → Bool) (f : ℕ → Bool) → next_states (library_of c) (built c x f) (latches_of c) ≡ map (literal_value f) (next_literals c.items)
   built_nexts x f = nexts_same c (built c x f) f 1 0 c.items (all_there c) (λ q own next init e.
       let w : q < length c.items = slice_get_within c.items q (Latch own next init) e in
-      let n : length c.items < 4294967296 = kept.count in
       let picked = picked_at c.header next_literal c.header.inputs (c.header.inputs + c.header.latches) (nexts_picked c.header) 0 c.items (circuit_kinds c kept) q (Latch own next init) next e refl in
-      let z : 0 + q - max 0 c.header.inputs ≡ 0 + q - c.header.inputs = omega arith in
-      next_built c x f [] (0 + q - c.header.inputs) next (omega arith) (subst (λ m. slice_get (next_literals c.items) m ≡ Some next) z picked))
+      next_built c x f [] (0 + q - c.header.inputs) next (omega arith) (subst (λ m. slice_get (next_literals c.items) m ≡ Some next) (omega arith) picked))
 
   pub cycle_of_lines : (x : List ℕ → Bool) (s outputs next : List Bool) → IsCircuitCycle c (map x c.inputs) s outputs next → IsCycle (library_of c) x s outputs next
   cycle_of_lines x s outputs next cycle = record {
@@ -238,8 +210,7 @@ module _ (c : Circuit) (kept : IsKept c) (once : AreOnce (c.inputs ++ c.outputs)
         let same : o ≡ l = cc in
         let z : 0 + q - (c.header.inputs + c.header.latches) ≡ j = omega arith in
         let w : j < length c.outputs = slice_get_within c.outputs j name a in
-        let n : port_name c.outputs (0 + q - (c.header.inputs + c.header.latches)) ≡ name = ap (port_name c.outputs) z ∙ same_Some (port_name c.outputs j) name (sym (slice_get-get_or c.outputs j [] w) ∙ a) in
-        subst (λ k. value [] k ≡ literal_value own_values l) n
+        subst (λ k. value [] k ≡ literal_value own_values l) (ap (port_name c.outputs) z ∙ same_Some (port_name c.outputs j) name (sym (slice_get-get_or c.outputs j [] w) ∙ a))
         (literal_is c kept x s count value fits (0 + q + 2) o (port_name c.outputs (0 + q - (c.header.inputs + c.header.latches))) (item_in c q (Output o) _ at (inl refl)) ∙ ap (literal_value own_values) same)
     output_here j name l a q item at is e = absurd (cc)
 
@@ -253,14 +224,7 @@ module _ (c : Circuit) (kept : IsKept c) (once : AreOnce (c.inputs ++ c.outputs)
         literal_is c kept x s count value fits (0 + q + 2) next (next_name (mark_of (c.inputs ++ c.outputs)) (0 + q - c.header.inputs)) (item_in c q (Latch own next init) _ e (inl refl)))
 
     lines_cycle : (outputs next : List Bool) → outputs ≡ map (value []) c.outputs → next ≡ next_states (library_of c) value (latches_of c) → IsCircuitCycle c (map x c.inputs) s outputs next
-    lines_cycle outputs next a b = record {
-      inputs = length-map c.inputs x ∙ kept.inputs;
-      states = count;
-      value = own_values;
-      fits = fits_lines c kept x s count value fits;
-      outputs_are = a ∙ line_outputs;
-      next_are = b ∙ line_nexts;
-    }
+    lines_cycle outputs next a b = search (rules, length-map, own_values, fits_lines, line_outputs, line_nexts)
 
   pub lines_of_cycle : (x : List ℕ → Bool) (s outputs next : List Bool) → IsCycle (library_of c) x s outputs next → IsCircuitCycle c (map x c.inputs) s outputs next
   lines_of_cycle x s outputs next cycle =
@@ -289,9 +253,7 @@ module _ (c : Circuit) (kept : IsKept c) (once : AreOnce (c.inputs ++ c.outputs)
       are_latches = are_latches c;
       runs = subst (λ s. Runs (library_of c) s xs outputs states) (sym (inits_are c)) (runs_of_lines (init_bits c.items) xs outputs states r);
     };
-    run_is = λ xs outputs states r.
-        let its = its_latches c r.main r.latches r.are_latches in
-        lines_of_runs (init_bits c.items) xs outputs states (subst (λ s. Runs (library_of c) s xs outputs states) (ap (inits_of (library_of c)) its.latches_is ∙ inits_are c) r.runs);
+    run_is = λ xs outputs states r. grind (arith, its_latches, lines_of_runs, inits_are);
   }
 
 -- of a text's library

@@ -1,8 +1,6 @@
 -- Symbols and ports: each name that stands is that of a line, is clean and no longer than the line, and no two inputs or outputs have the same name.
-use Rattle.aiger_io.proofs.Common.{◌≡◌, ℕ, zero, suc, ◌+◌, ◌<◌, ◌≤◌, Bool, false, not, ◌&&◌, ◌||◌, eqb, ltb, List, [], ◌∷◌, ◌++◌, length, Option, Some, None, Ok, inl, inr, refl, sym, ap, ◌∙◌, subst, arith, length-drop, bytes_eq, codes, slice_get, slice_set, replicate, slice_index_or, list_any, before_first, after_first, position_or_len, is_some, and_parts, not-true, cases_Bool, cases_lt, or_parts, slice_get_within, In, In-left, In-pushed, set_here, set_other, set_length, same_or, IsClean, is_bad, ends_in, is_blank, number_of, and_then, BadSymbol, Header, Kind, true, bytes_decides, has_name, with_name, has_with_names, twice_from, seen_from, is_twice, lit<, ◌^◌, ◌⊎◌, take, drop, decimal, length-take, unwrap_or, get_or, slice_get-get_or, same_Some, decimal_is_IsNumeral, digits_value, place_in, none_both, AreOnce, has_in, in_has, named_count, default_name, names_from, input_names, output_names, port_names, is_port, name_at, first_twice, StandsTwice, SymbolsValue, no_name, nat_tests}
-use Rattle.aiger_io.specs.Symbols.{Symbol, no_symbols, kind_of, symbol_by, symbol_with, symbol_of, is_bad_byte, is_bad_name, place_of, may_stand, with_symbol, symbol_at, symbols_from}
-use Rattle.aiger_io.proofs.LineLemmas.{same_answer, behind_of, chosen, ok_then}
-use Rattle.std.proofs.lemmas.Bool.{true≢false, and_from, or_cases, or_left, or_right}
+use Rattle.aiger_io.proofs.Common.{◌≡◌, ℕ, zero, suc, ◌+◌, ◌<◌, ◌≤◌, Bool, false, ◌&&◌, ◌||◌, eqb, ltb, List, [], ◌∷◌, ◌++◌, length, Option, Some, None, Ok, inl, inr, refl, sym, ap, ◌∙◌, subst, arith, length-drop, bytes_eq, codes, slice_get, slice_set, replicate, list_any, and_parts, not-true, cases_Bool, cases_lt, or_parts, slice_get_within, In, In-left, In-pushed, set_here, set_other, set_length, same_or, IsClean, is_bad, is_blank, and_then, BadSymbol, Header, Kind, true, bytes_decides, has_name, with_name, has_with_names, twice_from, seen_from, is_twice, lit<, ◌^◌, ◌⊎◌, take, drop, decimal, length-take, unwrap_or, get_or, slice_get-get_or, same_Some, decimal_is_IsNumeral, digits_value, place_in, none_both, AreOnce, has_in, in_has, named_count, default_name, names_from, input_names, output_names, port_names, is_port, name_at, first_twice, StandsTwice, SymbolsValue, no_name, nat_tests, Symbol, no_symbols, symbol_by, symbol_with, symbol_of, is_bad_byte, is_bad_name, place_of, with_symbol, symbol_at, symbols_from, true≢false, and_from, or_cases, or_left, or_right, rules}
+use Rattle.aiger_io.proofs.LineLemmas.{behind_of, chosen, ok_then}
 
 -- a name of a line of at most so many bytes
 pub record IsGoodName (most : ℕ) (name : List ℕ) : Type 0 where
@@ -24,10 +22,7 @@ not_comment : (b : ℕ) → is_bad_byte b ≡ false → b ≡ 35 → ⊥
 not_comment b good e = grind (arith, nat_tests)
 
 clean_name : (name : List ℕ) → 0 < length name → is_bad_name name ≡ false → IsClean name
-clean_name name some e =
-    let p = or_parts (list_any is_bad_byte name) (ends_in 92 name) e in
-    let good : (b : ℕ) → In name b → is_bad_byte b ≡ false = none_of is_bad_byte name p.0 in
-    record { bytes = record { some = some; no_blank = λ b i. not_blank b (good b i); no_bad = λ b i. not_bad b (good b i); no_comment = λ b i. not_comment b (good b i) }; no_slash = p.1 }
+clean_name name some e = grind (arith, or_parts, none_of, not_blank, not_bad, not_comment)
 
 -- the name of a symbol's line
 record IsNameIn (row name : List ℕ) : Type 0 where
@@ -35,19 +30,13 @@ record IsNameIn (row name : List ℕ) : Type 0 where
   within : length name ≤ length row
 
 by_name : (name : List ℕ) (ordinal : Option ℕ) (kind : Option Kind) (s : Symbol) → symbol_by name ordinal kind ≡ Some s → s.name ≡ name
-by_name name (Some n) (Some k) s e = let q : record { kind = k; ordinal = n; name = name } ≡ s = cc in sym (ap (λ (t : Symbol). t.name) q)
-by_name name ordinal kind s e = absurd (cc)
+by_name name ordinal kind s e = grind arith
 
 name_in : (key name : List ℕ) (s : Symbol) → symbol_with key name ≡ Some s → (s.name ≡ name) × (0 < length name)
-name_in (letter ∷ digits) (b ∷ bs) s e = (by_name (b ∷ bs) (number_of digits) (kind_of letter) s e, omega arith)
-name_in key name s e = absurd (cc)
+name_in key name s e = grind (arith, by_name)
 
 symbol_name : (row : List ℕ) (s : Symbol) → symbol_of row ≡ Some s → IsNameIn row s.name
-symbol_name row s e =
-    let p = name_in (before_first (λ b. eqb b 32) row) (after_first (λ b. eqb b 32) row) s e in
-    let n : length s.name ≡ length (after_first (λ b. eqb b 32) row) = ap length p.0 in
-    let some : 0 < length (after_first (λ b. eqb b 32) row) = p.1 in
-    record { some = omega arith; within = omega (arith, length-drop (position_or_len (λ b. eqb b 32) row + 1) row) }
+symbol_name row s e = grind (arith, name_in, eqb, length-drop)
 
 -- what stands so far
 pub record AreNamed (most : ℕ) (said : SymbolsValue) : Type 0 where
@@ -55,15 +44,8 @@ pub record AreNamed (most : ℕ) (said : SymbolsValue) : Type 0 where
   pub good : (p : ℕ) (name : List ℕ) → slice_get said.names p ≡ Some (Some name) → IsGoodName most name
 
 pub none_at : (n p : ℕ) (name : List ℕ) → slice_get (replicate n no_name) p ≡ Some (Some name) → ⊥
-none_at zero p name e = absurd (cc)
-none_at (suc n) zero name e = absurd (cc)
 none_at (suc n) (suc p) name e = none_at n p name e
-
-nothing_named : (most : ℕ) (h : Header) → AreNamed most (no_symbols h)
-nothing_named most h = record {
-  placed = λ p name e. absurd (none_at (h.inputs + h.latches + h.outputs) p name e);
-  good = λ p name e. absurd (none_at (h.inputs + h.latches + h.outputs) p name e);
-}
+none_at n p name e = absurd (cc)
 
 module _ (most : ℕ) (h : Header) (said : SymbolsValue) (are : AreNamed most said) (s : Symbol) (good : IsGoodName most s.name) where
   set_named : (p : ℕ) (name : List ℕ) → slice_get (slice_set said.names (place_of h s) (Some s.name)) p ≡ Some (Some name) → (IsGoodName most name) × (In (said.places ++ place_of h s ∷ []) p)
@@ -71,7 +53,6 @@ module _ (most : ℕ) (h : Header) (said : SymbolsValue) (are : AreNamed most sa
     | inl q ↦ elim (cases_lt (place_of h s) (length said.names)) [
       | inl l ↦ (
           let here : slice_get (slice_set said.names (place_of h s) (Some s.name)) (place_of h s) ≡ Some (Some s.name) = set_here said.names (place_of h s) (Some s.name) l in
-          let there : slice_get (slice_set said.names (place_of h s) (Some s.name)) (place_of h s) ≡ Some (Some name) = subst (λ i. slice_get (slice_set said.names (place_of h s) (Some s.name)) i ≡ Some (Some name)) q e in
           let same : s.name ≡ name = cc in
           (subst (IsGoodName most) same good, subst (λ i. In (said.places ++ place_of h s ∷ []) i) (sym q) (In-pushed said.places (place_of h s))))
       | inr l ↦ absurd (
@@ -89,19 +70,12 @@ module _ (most : ℕ) (h : Header) (said : SymbolsValue) (are : AreNamed most sa
 
 -- and all of them
 taken : (most : ℕ) (h : Header) (line : ℕ) (said more : SymbolsValue) (o : Option Symbol) → AreNamed most said → ((s : Symbol) → o ≡ Some s → (0 < length s.name) × (length s.name ≤ most)) → symbol_at h line said o ≡ Ok more → AreNamed most more
-taken most h line said more None are good e = absurd (cc)
-taken most h line said more (Some s) are good e =
-    let c = ok_then (may_stand h said s) (Ok (with_symbol h s said)) (BadSymbol line s.name) more e in
-    let p = and_parts (ltb s.ordinal _) _ c.0 in
-    let q = and_parts (not (is_some (slice_index_or said.names (place_of h s) None))) (not (is_bad_name s.name)) p.1 in
-    let g = good s refl in
-    let name : IsGoodName most s.name = record { clean = clean_name s.name g.0 (not-true (is_bad_name s.name) q.1); short = g.1 } in
-    let same : with_symbol h s said ≡ more = cc in subst (AreNamed most) same (one_named most h said are s name)
+taken most h line said more o are good e = grind (arith, ok_then, and_parts, ltb, clean_name, not-true, one_named)
 
 named_by : (most : ℕ) (h : Header) (line : ℕ) (said all : SymbolsValue) (rows : List (List ℕ)) → ((row : List ℕ) → In rows row → length row ≤ most) → AreNamed most said → symbols_from h line said rows ≡ Ok all → AreNamed most all
-named_by most h line said all [] short are e = subst (AreNamed most) (same_answer (Ok said) said all refl e) are
+named_by most h line said all [] short are e = let q : said ≡ all = cc in subst (AreNamed most) q are
 named_by most h line said all (row ∷ rows) short are e = elim (chosen (bytes_eq row (codes "c")) (Ok said) (and_then (λ (more : SymbolsValue). symbols_from h (line + 1) more rows) (symbol_at h line said (symbol_of row))) (Ok all) e) [
-  | inl t ↦ subst (AreNamed most) (same_answer (Ok said) said all refl t.1) are
+  | inl t ↦ (let q : said ≡ all = cc in subst (AreNamed most) q are)
   | inr t ↦ (
       let d = behind_of (λ (more : SymbolsValue). symbols_from h (line + 1) more rows) (symbol_at h line said (symbol_of row)) all t.1 in
       let u : length row ≤ most = short row (inl refl) in
@@ -109,7 +83,7 @@ named_by most h line said all (row ∷ rows) short are e = elim (chosen (bytes_e
 ]
 
 pub symbols_named : (most : ℕ) (h : Header) (line : ℕ) (all : SymbolsValue) (rows : List (List ℕ)) → ((row : List ℕ) → In rows row → length row ≤ most) → symbols_from h line (no_symbols h) rows ≡ Ok all → AreNamed most all
-symbols_named most h line all rows short e = named_by most h line (no_symbols h) all rows short (nothing_named most h) e
+symbols_named most h line all rows short e = named_by most h line (no_symbols h) all rows short (search (rules, none_at)) e
 
 hit : (f s e m t : Bool) → (e ≡ true → s ≡ true) → ((f || (e || false)) || (s && m)) || t ≡ (f || (s && (e || m))) || ((e && m) || t)
 hit f s e m t h = grind arith
@@ -117,20 +91,14 @@ hit f s e m t h = grind arith
 miss : (f s e m t : Bool) → (e ≡ true → s ≡ false) → (f || ((s || (e || false)) && m)) || t ≡ (f || (s && (e || m))) || ((e && m) || t)
 miss f s e m t h = grind arith
 
-nothing : (f s : Bool) → f ≡ (f || (s && false)) || false
-nothing f s = grind arith
-
-has_more : (names : List (List ℕ)) (n x : List ℕ) → has_name (with_name names n) x ≡ has_name names x || (bytes_eq x n || false)
-has_more names n x = has_with_names names (n ∷ []) x
-
 same_has : (names : List (List ℕ)) (n x : List ℕ) (b : Bool) → has_name names n ≡ b → bytes_eq x n ≡ true → has_name names x ≡ b
 same_has names n x b h e = subst (λ z. has_name names z ≡ b) (sym ((bytes_decides x n).0 e)) h
 
 found_twice : (names seen found : List (List ℕ)) (x : List ℕ) → has_name (twice_from seen found names) x ≡ (has_name found x || (has_name seen x && has_name names x)) || is_twice names x
-found_twice [] seen found x = nothing (has_name found x) (has_name seen x)
+found_twice [] seen found x = grind arith
 found_twice (n ∷ ns) seen found x = elim (cases_Bool (has_name seen n)) [
-  | inl t ↦ cc (found_twice ns seen (with_name found n) x, has_more found n x, hit (has_name found x) (has_name seen x) (bytes_eq x n) (has_name ns x) (is_twice ns x) (same_has seen n x true t))
-  | inr f ↦ cc (found_twice ns (with_name seen n) found x, has_more seen n x, miss (has_name found x) (has_name seen x) (bytes_eq x n) (has_name ns x) (is_twice ns x) (same_has seen n x false f))
+  | inl t ↦ cc (found_twice ns seen (with_name found n) x, has_with_names found (n ∷ []) x, hit (has_name found x) (has_name seen x) (bytes_eq x n) (has_name ns x) (is_twice ns x) (same_has seen n x true t))
+  | inr f ↦ cc (found_twice ns (with_name seen n) found x, has_with_names seen (n ∷ []) x, miss (has_name found x) (has_name seen x) (bytes_eq x n) (has_name ns x) (is_twice ns x) (same_has seen n x false f))
 ]
 
 pub twice_joined : (xs ys seen found : List (List ℕ)) → twice_from seen found (xs ++ ys) ≡ twice_from (seen_from seen xs) (twice_from seen found xs) ys
@@ -159,8 +127,7 @@ two_places (n ∷ names) x t = elim (or_cases (bytes_eq x n && has_name names x)
   | inl h ↦ (
       let p = and_parts (bytes_eq x n) (has_name names x) h in
       let q = place_in names x (has_in names x p.1) in
-      let e : x ≡ n = (bytes_decides x n).0 p.0 in
-      record { first = zero; second = suc q.0; order = omega arith; here = ap (λ z. Some z) (sym e); there = q.1 })
+      record { first = zero; second = suc q.0; order = omega arith; here = ap (λ z. Some z) (sym ((bytes_decides x n).0 p.0)); there = q.1 })
   | inr h ↦ (let r = two_places names x h in let o : r.first < r.second = r.order in record { first = suc r.first; second = suc r.second; order = omega arith; here = r.here; there = r.there })
 ]
 
@@ -174,22 +141,17 @@ pub names_at : (letter first : ℕ) (names : List (Option (List ℕ))) (i : ℕ)
 names_at letter first [] i x e = absurd (cc)
 names_at letter first (o ∷ os) zero x e =
     let q : unwrap_or o (default_name letter first) ≡ x = cc in
-    let z : first ≡ first + 0 = omega arith in
-    record { name = o; at = refl; is = sym q ∙ ap (λ k. unwrap_or o (default_name letter k)) z }
-names_at letter first (o ∷ os) (suc i) x e =
-    let r = names_at letter (first + 1) os i x e in
-    let z : first + 1 + i ≡ first + suc i = omega arith in
-    record { name = r.name; at = r.at; is = r.is ∙ ap (λ k. unwrap_or r.name (default_name letter k)) z }
+    record { name = o; at = refl; is = sym q ∙ ap (λ k. unwrap_or o (default_name letter k)) (omega arith) }
+names_at letter first (o ∷ os) (suc i) x e = grind (arith, unwrap_or, names_at letter (first + 1) os i x e)
 
 pub names_length : (letter first : ℕ) (names : List (Option (List ℕ))) → length (names_from letter first names) ≡ length names
 names_length letter first [] = refl
 names_length letter first (o ∷ os) = ap (λ n. suc n) (names_length letter (first + 1) os)
 
 pub take_at : {A : Type 0} (n : ℕ) (xs : List A) (i : ℕ) (x : A) → slice_get (take n xs) i ≡ Some x → (i < n) × (slice_get xs i ≡ Some x)
-take_at zero xs i x e = absurd (cc)
-take_at (suc n) [] i x e = absurd (cc)
 take_at (suc n) (y ∷ ys) zero x e = (omega arith, e)
 take_at (suc n) (y ∷ ys) (suc i) x e = let r = take_at n ys i x e in let l : i < n = r.0 in (omega arith, r.1)
+take_at n xs i x e = absurd (cc)
 
 pub drop_at : {A : Type 0} (n : ℕ) (xs : List A) (i : ℕ) (x : A) → slice_get (drop n xs) i ≡ Some x → slice_get xs (n + i) ≡ Some x
 drop_at zero xs i x e = let z : i ≡ 0 + i = omega arith in subst (λ k. slice_get xs k ≡ Some x) z e
@@ -199,10 +161,7 @@ drop_at (suc n) (y ∷ ys) i x e = let z : suc (n + i) ≡ suc n + i = omega ari
 pub append_at : {A : Type 0} (xs ys : List A) (i : ℕ) (x : A) → slice_get (xs ++ ys) i ≡ Some x → ((i < length xs) × (slice_get xs i ≡ Some x)) ⊎ ((k : ℕ) × (i ≡ length xs + k) × (slice_get ys k ≡ Some x))
 append_at {A = A} [] ys i x e = inr (i, (let z : i ≡ length {A = A} [] + i = omega arith in z), e)
 append_at (y ∷ xs) ys zero x e = inl (omega arith, e)
-append_at (y ∷ xs) ys (suc i) x e = elim (append_at xs ys i x e) [
-  | inl r ↦ (let l : i < length xs = r.0 in inl (omega arith, r.1))
-  | inr r ↦ (let l : i ≡ length xs + r.0 = r.1 in inr (r.0, (let z : suc i ≡ length (y ∷ xs) + r.0 = omega arith in z), r.2))
-]
+append_at (y ∷ xs) ys (suc i) x e = search (rules, append_at xs ys i x e)
 
 -- a port: an input by its place, or an output
 data IsPortAt (h : Header) (said : SymbolsValue) (i : ℕ) (x : List ℕ) : Type 0 where
@@ -246,8 +205,7 @@ module _ (h : Header) (said : SymbolsValue) (most line : ℕ) (size : length sai
   symbol_once : (p : ℕ) (name : List ℕ) → is_port h p ≡ true → slice_get said.names p ≡ Some (Some name) → is_twice (port_names h said) name ≡ true → ⊥
   symbol_once p name port at t =
       let f = none_found h said line said.places none p (are.placed p name at) in
-      let l : p < length said.names = slice_get_within said.names p (Some name) at in
-      let g : get_or said.names p no_name ≡ Some name = same_Some (get_or said.names p no_name) (Some name) (sym (slice_get-get_or said.names p no_name l) ∙ at) in
+      let g : get_or said.names p no_name ≡ Some name = same_Some (get_or said.names p no_name) (Some name) (sym (slice_get-get_or said.names p no_name (slice_get_within said.names p (Some name) at)) ∙ at) in
       let n : name_at said p ≡ name = ap (λ o. unwrap_or o []) g in
       true≢false (sym (and_from (is_port h p) (is_twice (port_names h said) (name_at said p)) port (ap (is_twice (port_names h said)) n ∙ t)) ∙ f)
 
@@ -270,22 +228,7 @@ module _ (h : Header) (said : SymbolsValue) (most line : ℕ) (size : length sai
   small_place p o at = let l : p < length said.names = slice_get_within said.names p o at in omega arith
 
   not_two : (i j : ℕ) (x : List ℕ) → i < j → IsPortAt h said i x → IsPortAt h said j x → is_twice (port_names h said) x ≡ true → ⊥
-  not_two i j x l (input o a b c) (input q d e f) t =
-      let p : default_name 105 i ≡ default_name 105 j = sym (default_input i o x a b c t) ∙ default_input j q x d e f t in
-      let n : decimal i ≡ decimal j = ap (drop 1) p in
-      let s : i ≡ j = same_decimal i j (small_place i o b) (small_place j q e) n in omega arith
-  not_two i j x l (input o a b c) (output k q d e f) t =
-      let p : default_name 105 i ≡ default_name 111 k = sym (default_input i o x a b c t) ∙ default_output k q x e f t in
-      letters_apart 105 111 (decimal i) (decimal k) (lit< tt) p
-  not_two i j x l (output k o a b c) (input q d e f) t =
-      let n : i ≡ h.inputs + k = a in let m : j < h.inputs = d in absurd (omega arith)
-  not_two i j x l (output k o a b c) (output m q d e f) t =
-      let p : default_name 111 k ≡ default_name 111 m = sym (default_output k o x b c t) ∙ default_output m q x e f t in
-      let n : decimal k ≡ decimal m = ap (drop 1) p in
-      let u : h.inputs + h.latches + k < 2 ^ 64 = small_place (h.inputs + h.latches + k) o b in
-      let v : h.inputs + h.latches + m < 2 ^ 64 = small_place (h.inputs + h.latches + m) q e in
-      let s : k ≡ m = same_decimal k m (omega arith) (omega arith) n in
-      let y : i ≡ h.inputs + k = a in let z : j ≡ h.inputs + m = d in omega arith
+  not_two i j x l e e2 t = grind (arith, default_input, decimal, same_decimal, small_place, default_output, letters_apart, lit<)
 
   pub ports_once : AreOnce (port_names h said)
   ports_once = never_twice (port_names h said) (λ x t.

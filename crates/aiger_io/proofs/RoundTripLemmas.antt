@@ -1,7 +1,5 @@
 -- A circuit's text: where its names are clean it is read, part by part, as the circuit that was written.
-use Rattle.aiger_io.proofs.Common.{◌≡◌, ℕ, suc, ◌+◌, ◌^◌, ◌<◌, ◌≤◌, true, false, ◌&&◌, ◌||◌, eqb, List, [], ◌∷◌, ◌++◌, length, map, Some, None, decimal, codes, inl, inr, refl, sym, ap, ◌∙◌, subst, arith, append_assoc, append-nil, bytes_eq, bytes_decides, list_any, lines, In, In-left, In-right, place_in, IsClean, is_bad, ends_in, is_blank, has_name, AreOnce, has_in, AreClean, Circuit, is_header, item_count, is_in_range, port_names, is_twice, is_port, name_at, first_twice, SymbolsValue, kind_of, symbol_by, symbol_with, symbol_of, is_bad_byte, is_bad_name, numbered, numbered_text, header_words, item_words, symbol_text, circuit_text, Header, Item, Kind, AllClean, one_clean, more_clean, nat_tests}
-use Rattle.std.proofs.lemmas.Bool.{and_parts, or_from, and_right, cond-false, cases_Bool}
-use Rattle.aiger_io.specs.declared.aag_err.AagErr.TheVariants as aag_err
+use Rattle.aiger_io.proofs.Common.{◌≡◌, ℕ, suc, ◌+◌, ◌^◌, ◌<◌, ◌≤◌, true, false, ◌&&◌, ◌||◌, eqb, List, [], ◌∷◌, ◌++◌, length, map, Some, None, decimal, codes, inl, inr, refl, sym, ap, ◌∙◌, arith, append_assoc, append-nil, list_any, lines, In, In-left, In-right, place_in, IsClean, ends_in, AreOnce, has_in, AreClean, Circuit, is_header, item_count, is_in_range, port_names, is_twice, first_twice, SymbolsValue, kind_of, symbol_with, symbol_of, is_bad_byte, is_bad_name, numbered, numbered_text, header_words, item_words, symbol_text, circuit_text, Header, Item, Kind, AllClean, one_clean, more_clean, nat_tests, and_parts, or_from, and_right, cond-false, cases_Bool, rules}
 use Rattle.aiger_io.specs.declared.item.Kind.TheVariants as kind
 use Rattle.aiger_io.proofs.CleanLemmas.{default_clean}
 use Rattle.aiger_io.proofs.LineLemmas.{header_small}
@@ -13,8 +11,7 @@ abbrev pub symbol_row : ℕ → ℕ → List ℕ → List ℕ
 symbol_row letter k name = row_of ((letter ∷ decimal k) ∷ name ∷ [])
 
 with_back : (letter k : ℕ) (name : List ℕ) (kd : Kind) → kind_of letter ≡ Some kd → k < 2 ^ 64 → 0 < length name → symbol_with (letter ∷ decimal k) name ≡ Some (record { kind = kd; ordinal = k; name = name })
-with_back letter k [] kd e l some = absurd (let q : 0 < length {A = ℕ} [] = some in omega arith)
-with_back letter k (b ∷ bs) kd e l some = ap (λ o. symbol_by (b ∷ bs) o (kind_of letter)) (number_back k l) ∙ ap (symbol_by (b ∷ bs) (Some k)) e
+with_back letter k name kd e l some = grind (arith, number_back)
 
 pub symbol_back : (letter k : ℕ) (name : List ℕ) (kd : Kind) → kind_of letter ≡ Some kd → k < 2 ^ 64 → IsClean (letter ∷ decimal k) → IsClean name → symbol_of (symbol_row letter k name) ≡ Some (record { kind = kd; ordinal = k; name = name })
 symbol_back letter k name kd e l key clean =
@@ -23,15 +20,12 @@ symbol_back letter k name kd e l key clean =
     ∙ with_back letter k name kd e l clean.bytes.some
 
 -- a clean name may stand
-no_byte : (b : ℕ) → is_blank b ≡ false → is_bad b ≡ false → (b ≡ 35 → ⊥) → is_bad_byte b ≡ false
-no_byte b blank bad comment = grind (arith, nat_tests)
-
 none_bad : (name : List ℕ) → ((b : ℕ) → In name b → is_bad_byte b ≡ false) → list_any is_bad_byte name ≡ false
 none_bad [] h = refl
 none_bad (b ∷ bs) h = or_from (is_bad_byte b) (list_any is_bad_byte bs) (h b (inl refl)) (none_bad bs (λ c i. h c (inr i)))
 
 pub good_name : (name : List ℕ) → IsClean name → is_bad_name name ≡ false
-good_name name c = or_from (list_any is_bad_byte name) (ends_in 92 name) (none_bad name (λ b i. no_byte b (c.bytes.no_blank b i) (c.bytes.no_bad b i) (c.bytes.no_comment b i))) c.no_slash
+good_name name c = or_from (list_any is_bad_byte name) (ends_in 92 name) (none_bad name (λ b i. (grind (arith, nat_tests)))) c.no_slash
 
 module _ (h : Header) (letter : ℕ) (kd : Kind) (is : kind_of letter ≡ Some kd) (keys : (k : ℕ) → k < 2 ^ 64 → IsClean (letter ∷ decimal k)) (no_c : eqb letter 99 ≡ false) where
   symbol_lines : (k : ℕ) (names : List (List ℕ)) (rest : List ℕ) → k + length names < 2 ^ 64 → AllClean names → lines (numbered_text (symbol_text letter) k names ++ rest) ≡ numbered (symbol_row letter) k names ++ lines rest
@@ -44,16 +38,11 @@ module _ (h : Header) (letter : ℕ) (kd : Kind) (is : kind_of letter ≡ Some k
 -- names of which none stands twice
 not_twice : (names : List (List ℕ)) (x : List ℕ) → AreOnce names → is_twice names x ≡ false
 not_twice [] x once = refl
-not_twice (n ∷ names) x once = or_from (bytes_eq x n && has_name names x) (is_twice names x) (elim (cases_Bool (bytes_eq x n && has_name names x)) [
-  | inl t ↦ (let p = and_parts (bytes_eq x n) (has_name names x) t in absurd (once.0 (subst (λ z. In names z) ((bytes_decides x n).0 p.0) (has_in names x p.1))))
-  | inr f ↦ f
-]) (not_twice names x once.1)
+not_twice (n ∷ names) x once = search (rules, or_from, cases_Bool, and_parts, has_in, not_twice names x once.1)
 
 pub none_twice : (h : Header) (said : SymbolsValue) (line : ℕ) (places : List ℕ) → AreOnce (port_names h said) → first_twice h said line places ≡ None
 none_twice h said line [] once = refl
-none_twice h said line (p ∷ ps) once =
-    cond-false (is_port h p && is_twice (port_names h said) (name_at said p)) (Some (aag_err.BadSymbol line (name_at said p))) (first_twice h said (line + 1) ps) (and_right (is_port h p) (is_twice (port_names h said) (name_at said p)) (not_twice (port_names h said) (name_at said p) once))
-    ∙ none_twice h said (line + 1) ps once
+none_twice h said line (p ∷ ps) once = grind (arith, cond-false, and_right, not_twice, none_twice h said (line + 1) ps once)
 
 -- A circuit that goes together: its header does, its items are as many as the header says, of the kinds of their places and in range, and it has a name for
 -- each input and each output.
@@ -64,12 +53,6 @@ pub record IsFormed (c : Circuit) : Type 0 where
   pub items : AreItems c.header c.items
   pub inputs : length c.inputs ≡ c.header.inputs
   pub outputs : length c.outputs ≡ c.header.outputs
-
-pub input_keys : (k : ℕ) → k < 2 ^ 64 → IsClean (105 ∷ decimal k)
-input_keys k l = default_clean 105 k (inl refl) l
-
-pub output_keys : (k : ℕ) → k < 2 ^ 64 → IsClean (111 ∷ decimal k)
-output_keys k l = default_clean 111 k (inr refl) l
 
 module _ (c : Circuit) (w : IsFormed c) (clean : AreClean (c.inputs ++ c.outputs)) where
   pub most : c.header.variables ≤ 1073741824
@@ -95,9 +78,8 @@ module _ (c : Circuit) (w : IsFormed c) (clean : AreClean (c.inputs ++ c.outputs
 
   output_rows : lines (numbered_text (symbol_text 111) 0 c.outputs) ≡ numbered (symbol_row 111) 0 c.outputs ++ []
   output_rows =
-      let n : length c.outputs ≡ c.header.outputs = w.outputs in let f : c.header.outputs < 2 ^ 64 = w.few in
       ap lines (sym (append-nil (numbered_text (symbol_text 111) 0 c.outputs)))
-      ∙ symbol_lines c.header 111 kind.Output refl output_keys refl 0 c.outputs [] (omega arith) outputs_clean
+      ∙ symbol_lines c.header 111 kind.Output refl (λ k l. default_clean 111 k (inr refl) l) refl 0 c.outputs [] (omega arith) outputs_clean
 
   pub text_rows : lines (circuit_text c) ≡ row_of (header_words c.header) ∷ (item_rows ++ symbol_rows)
   text_rows =
@@ -105,5 +87,5 @@ module _ (c : Circuit) (w : IsFormed c) (clean : AreClean (c.inputs ++ c.outputs
       line_back (codes "aag") (decimal c.header.variables ∷ decimal c.header.inputs ∷ decimal c.header.latches ∷ decimal c.header.outputs ∷ decimal c.header.ands ∷ []) _ (header_clean c.header most w.header w.few)
       ∙ ap (λ l. row_of (header_words c.header) ∷ l) (
       item_lines c.header most c.items (numbered_text (symbol_text 105) 0 c.inputs ++ numbered_text (symbol_text 111) 0 c.outputs) range_of
-      ∙ ap (λ l. item_rows ++ l) (symbol_lines c.header 105 kind.Input refl input_keys refl 0 c.inputs (numbered_text (symbol_text 111) 0 c.outputs) (omega arith) inputs_clean
+      ∙ ap (λ l. item_rows ++ l) (symbol_lines c.header 105 kind.Input refl (λ k l. default_clean 105 k (inl refl) l) refl 0 c.inputs (numbered_text (symbol_text 111) 0 c.outputs) (omega arith) inputs_clean
       ∙ ap (λ l. numbered (symbol_row 105) 0 c.inputs ++ l) output_rows))

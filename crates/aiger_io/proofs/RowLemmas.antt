@@ -1,15 +1,12 @@
 -- The lines of a text, part by part, and numbers, words and lines that are read back as they were written.
-use Rattle.aiger_io.proofs.Common.{◌≡◌, false, ℕ, zero, suc, ◌+◌, ◌-◌, ◌<◌, ◌≤◌, Bool, eqb, get_or, List, [], ◌∷◌, ◌++◌, length, map, take, drop, Some, Bor, inl, inr, refl, sym, ap, ◌∙◌, subst, arith, append_assoc, append-nil, length-drop, length-take, slice_get, slice_split, onto_first, lines, lines_of_parts, strip_carriage_return, length-slice_split, count_by-le-length, In, choose_one, drop_get, drop_past, lit<, ◌*◌, ◌^◌, true, ◌&&◌, None, Ok, Err, decimal, codes, flat_map, slice_split_none, slice_split_at, In-append, In-get_or, IsClean, is_decimal, number_from, is_bad, words_text, line_text, AllClean, one_clean, more_clean, word_clean, decimal_form, decimal_value, decimal_clean, is_header, header_in, header_of, header_by, item_of, is_literal, is_variable, is_in_range, words_of, number_of, header_words, init_words, item_words, item_text, Header, Item, Input, Latch, Output, And, nat_tests, numbers_of}
-use Rattle.std.proofs.lemmas.Bool.{eqb-false, eq-eqb, ne_eqb, cond-true, cond-false, cases_Bool, and_parts, or_left, true≢false}
-use Rattle.std.proofs.lemmas.List.{length-map, map-append, take_all}
+use Rattle.aiger_io.proofs.Common.{◌≡◌, false, ℕ, zero, suc, ◌+◌, ◌-◌, ◌<◌, ◌≤◌, Bool, eqb, get_or, List, [], ◌∷◌, ◌++◌, length, map, take, drop, Some, Bor, inl, inr, refl, sym, ap, ◌∙◌, subst, arith, append_assoc, append-nil, length-drop, length-take, slice_get, slice_split, onto_first, lines, lines_of_parts, strip_carriage_return, length-slice_split, count_by-le-length, In, choose_one, drop_get, drop_past, lit<, ◌*◌, ◌^◌, true, ◌&&◌, None, Ok, Err, decimal, codes, flat_map, slice_split_none, slice_split_at, In-append, In-get_or, IsClean, is_decimal, number_from, is_bad, words_text, line_text, AllClean, one_clean, more_clean, word_clean, decimal_form, decimal_value, decimal_clean, is_header, header_in, header_of, header_by, item_of, is_literal, is_variable, is_in_range, words_of, number_of, header_words, init_words, item_words, item_text, Header, Item, Input, Latch, Output, And, nat_tests, numbers_of, eqb-false, eq-eqb, ne_eqb, cond-true, cond-false, cases_Bool, and_parts, or_left, true≢false, length-map, map-append, take_all, drop-map, rules}
 use Rattle.aiger_io.specs.declared.aag_err.AagErr.TheVariants as aag_err
 use Rattle.aiger_io.proofs.LineLemmas.{header_small}
 use Rattle.aiger_io.proofs.PlaceLemmas.{kind_of_item}
 
 -- a line before others
 pub one_more : (x : List ℕ) (parts : List (List ℕ)) → 0 < length parts → lines_of_parts (x ∷ parts) ≡ strip_carriage_return x ∷ lines_of_parts parts
-one_more x [] l = absurd (let e : 0 < length {A = List ℕ} [] = l in omega arith)
-one_more x (y ∷ more) l = refl
+one_more x parts l = grind arith
 
 last_one : (x : List ℕ) → 0 < length x → lines_of_parts (x ∷ []) ≡ x ∷ []
 last_one x l = cond-false (eqb (length x) 0) [] (x ∷ []) (ne_eqb (length x) 0 (λ e. let q : length x ≡ 0 = e in omega arith))
@@ -19,21 +16,13 @@ no_last x e = cond-true (eqb (length x) 0) [] (x ∷ []) (eq-eqb (length x) 0 e)
 
 module _ (parts rows all : List (List ℕ)) (i : ℕ) (part : List ℕ) (at : slice_get parts i ≡ Some part) (so_far : rows ++ lines_of_parts (drop i parts) ≡ all) where
   pub row_next : i + 1 < length parts → (rows ++ strip_carriage_return part ∷ []) ++ lines_of_parts (drop (i + 1) parts) ≡ all
-  row_next l =
-      append_assoc rows (strip_carriage_return part ∷ []) (lines_of_parts (drop (i + 1) parts))
-      ∙ ap (λ r. rows ++ r) (sym (one_more part (drop (i + 1) parts) (omega (arith, length-drop (i + 1) parts))) ∙ ap lines_of_parts (sym (drop_get parts i part at))) ∙ so_far
+  row_next l = grind (arith, append_assoc, one_more, length-drop, drop_get)
 
   pub row_last : length parts ≤ i + 1 → 0 < length part → (rows ++ part ∷ []) ++ lines_of_parts (drop (i + 1) parts) ≡ all
-  row_last l some =
-      let none : drop (i + 1) parts ≡ [] = drop_past parts (i + 1) l in
-      ap (λ d. (rows ++ part ∷ []) ++ lines_of_parts d) none ∙ append-nil (rows ++ part ∷ [])
-      ∙ ap (λ r. rows ++ r) (sym (last_one part some) ∙ ap lines_of_parts (sym (drop_get parts i part at ∙ ap (λ d. part ∷ d) none))) ∙ so_far
+  row_last l some = grind (arith, drop_past, append-nil, last_one, drop_get)
 
   pub row_none : length parts ≤ i + 1 → length part ≡ 0 → rows ++ lines_of_parts (drop (i + 1) parts) ≡ all
-  row_none l empty =
-      let none : drop (i + 1) parts ≡ [] = drop_past parts (i + 1) l in
-      ap (λ d. rows ++ lines_of_parts d) none
-      ∙ ap (λ r. rows ++ r) (sym (no_last part empty) ∙ ap lines_of_parts (sym (drop_get parts i part at ∙ ap (λ d. part ∷ d) none))) ∙ so_far
+  row_none l empty = grind (arith, drop_past, no_last, drop_get)
 
 -- there are no more lines than bytes, and one
 parts_many : (parts : List (List ℕ)) → length (lines_of_parts parts) ≤ length parts
@@ -42,16 +31,11 @@ parts_many (x ∷ []) = choose_one (λ (l : List (List ℕ)). length l ≤ lengt
 parts_many (x ∷ y ∷ more) = let l : length (lines_of_parts (y ∷ more)) ≤ length (y ∷ more) = parts_many (y ∷ more) in omega arith
 
 pub lines_few : (text : List ℕ) → length (lines text) ≤ length text + 1
-lines_few text =
-    let a : length (lines_of_parts (slice_split (λ b. eqb b 10) text)) ≤ length (slice_split (λ b. eqb b 10) text) = parts_many (slice_split (λ b. eqb b 10) text) in
-    omega (arith, length-slice_split (λ b. eqb b 10) text, count_by-le-length (λ b. eqb b 10) text)
+lines_few text = grind (arith, eqb, parts_many, length-slice_split, count_by-le-length)
 
 -- what is split off is as long as the whole at most
 onto_short : (n x : ℕ) (parts : List (List ℕ)) → ((q : List ℕ) → In parts q → length q ≤ n) → (part : List ℕ) → In (onto_first x parts) part → length part ≤ n + 1
-onto_short n x [] short part (inl e) = let l : length part ≡ length (x ∷ []) = ap length e in omega arith
-onto_short n x [] short part (inr i) = absurd i
-onto_short n x (y ∷ ys) short part (inl e) = let l : length part ≡ length (x ∷ y) = ap length e in let m : length y ≤ n = short y (inl refl) in omega arith
-onto_short n x (y ∷ ys) short part (inr i) = let m : length part ≤ n = short part (inr i) in omega arith
+onto_short n x parts short part e = grind arith
 
 parts_short : (test : ℕ → Bool) (xs part : List ℕ) → In (slice_split test xs) part → length part ≤ length xs
 parts_short test [] part (inl e) = let l : length part ≡ length {A = ℕ} [] = ap length e in omega arith
@@ -70,10 +54,7 @@ strip_short l = choose_one (λ (k : List ℕ). length k ≤ length l) (eqb (get_
 
 line_short : (n : ℕ) (parts : List (List ℕ)) (row : List ℕ) → ((q : List ℕ) → In parts q → length q ≤ n) → In (lines_of_parts parts) row → length row ≤ n
 line_short n [] row short i = absurd i
-line_short n (x ∷ []) row short i = elim (cases_Bool (eqb (length x) 0)) [
-  | inl t ↦ absurd (subst (λ l. In l row) (cond-true (eqb (length x) 0) [] (x ∷ []) t) i)
-  | inr f ↦ short row (subst (λ l. In l row) (cond-false (eqb (length x) 0) [] (x ∷ []) f) i)
-]
+line_short n (x ∷ []) row short i = search (rules, cases_Bool, eqb, cond-true, cond-false)
 line_short n (x ∷ y ∷ more) row short (inl e) = let l : length row ≡ length (strip_carriage_return x) = ap length e in let m : length x ≤ n = short x (inl refl) in omega (arith, strip_short x)
 line_short n (x ∷ y ∷ more) row short (inr i) = line_short n (y ∷ more) row (λ q j. short q (inr j)) i
 
@@ -92,13 +73,10 @@ row_at (x ∷ xs) zero d l = refl
 row_at (x ∷ xs) (suc i) d l = row_at xs i d (omega arith)
 
 pub parts_few : (parts : List (Bor (List ℕ))) (text : List ℕ) → map (λ (r : Bor (List ℕ)). r.now) parts ≡ slice_split (λ b. eqb b 10) text → length parts ≤ length text + 1
-parts_few parts text e =
-    let n : length (map (λ (r : Bor (List ℕ)). r.now) parts) ≡ length (slice_split (λ b. eqb b 10) text) = ap length e in
-    omega (arith, length-map parts (λ (r : Bor (List ℕ)). r.now), length-slice_split (λ b. eqb b 10) text, count_by-le-length (λ b. eqb b 10) text)
+parts_few parts text e = grind (arith, eqb, length-map, length-slice_split, count_by-le-length)
 
 pub row_pushed : (old more : List (Bor (List ℕ))) (r : Bor (List ℕ)) (row : List ℕ) → more ≡ old ++ r ∷ [] → r.now ≡ row → map (λ (b : Bor (List ℕ)). b.now) more ≡ map (λ (b : Bor (List ℕ)). b.now) old ++ row ∷ []
-row_pushed old more r row is same =
-    ap (map (λ (b : Bor (List ℕ)). b.now)) is ∙ map-append (λ (b : Bor (List ℕ)). b.now) old (r ∷ []) ∙ ap (λ x. map (λ (b : Bor (List ℕ)). b.now) old ++ x ∷ []) same
+row_pushed old more r row is same = grind (arith, map-append)
 
 pub not_empty : (n : ℕ) → eqb n 0 ≡ false → 0 < n
 not_empty n e = omega (arith, eqb-false n 0 e)
@@ -111,13 +89,8 @@ no_row = record { ref_ptr = (0, 0); now = [] }
 pub read_here : {X : Type 0} (f : List (List ℕ) → X) (rows : List (Bor (List ℕ))) (i : ℕ) (x : X) → i < length rows → f (drop i (map (λ (r : Bor (List ℕ)). r.now) rows)) ≡ x → f ((get_or rows i no_row).now ∷ drop (i + 1) (map (λ (r : Bor (List ℕ)). r.now) rows)) ≡ x
 read_here f rows i x l e = ap f (sym (drop_get (map (λ (r : Bor (List ℕ)). r.now) rows) i (get_or rows i no_row).now (row_at rows i no_row l))) ∙ e
 
-map_drop : (n : ℕ) (xs : List (Bor (List ℕ))) → map (λ (r : Bor (List ℕ)). r.now) (drop n xs) ≡ drop n (map (λ (r : Bor (List ℕ)). r.now) xs)
-map_drop zero xs = refl
-map_drop (suc n) [] = refl
-map_drop (suc n) (x ∷ xs) = map_drop n xs
-
 pub rows_cut : (xs : List (Bor (List ℕ))) (n k : ℕ) → length xs ≤ n + k → map (λ (r : Bor (List ℕ)). r.now) (take k (drop n xs)) ≡ drop n (map (λ (r : Bor (List ℕ)). r.now) xs)
-rows_cut xs n k l = ap (map (λ (r : Bor (List ℕ)). r.now)) (take_all k (drop n xs) (omega (arith, length-drop n xs))) ∙ map_drop n xs
+rows_cut xs n k l = ap (map (λ (r : Bor (List ℕ)). r.now)) (take_all k (drop n xs) (omega (arith, length-drop n xs))) ∙ sym (drop-map (λ (r : Bor (List ℕ)). r.now) n xs)
 
 -- numbers as they are written
 pub number_back : (n : ℕ) → n < 2 ^ 64 → number_of (decimal n) ≡ Some n
@@ -133,11 +106,7 @@ no_bad_byte : (b x : ℕ) → is_bad b ≡ false → is_bad x ≡ true → eqb b
 no_bad_byte b x e t = ne_eqb b x (λ q. true≢false (sym t ∙ subst (λ z. is_bad z ≡ false) q e))
 
 pub word_byte : (w : List ℕ) (b : ℕ) → IsClean w → In w b → IsWordByte b
-word_byte w b c i = record {
-  no_feed = no_bad_byte b 10 (c.bytes.no_bad b i) refl;
-  no_blank = (elim (cases_Bool (eqb b 32)) [ inl t ↦ absurd (true≢false (sym (or_left (eqb b 32) (eqb b 9) t) ∙ c.bytes.no_blank b i)) | inr f ↦ f ]);
-  no_return = no_bad_byte b 13 (c.bytes.no_bad b i) refl;
-}
+word_byte w b c i = search (rules, no_bad_byte, cases_Bool, eqb, true≢false, or_left)
 
 abbrev pub row_of : List (List ℕ) → List ℕ
 row_of [] = []
@@ -163,9 +132,6 @@ words_byte (w ∷ ws) b clean (inr i) = elim (In-append w (words_text ws) b i) [
   | inr j ↦ words_byte ws b (λ y m. clean y (inr m)) j
 ]
 
-row_byte : (w : List ℕ) (ws : List (List ℕ)) (b : ℕ) → AllClean (w ∷ ws) → In (w ++ words_text ws) b → IsRowByte b
-row_byte w ws b clean i = words_byte (w ∷ ws) b clean (inr i)
-
 not_stripped : (row : List ℕ) → ((b : ℕ) → In row b → eqb b 13 ≡ false) → strip_carriage_return row ≡ row
 not_stripped [] h = refl
 not_stripped (b ∷ bs) h = cond-false (eqb (get_or (b ∷ bs) (length (b ∷ bs) - 1) 0) 13) (take (length (b ∷ bs) - 1) (b ∷ bs)) (b ∷ bs) (h (get_or (b ∷ bs) (length (b ∷ bs) - 1) 0) (In-get_or (b ∷ bs) (length (b ∷ bs) - 1) 0 (omega arith)))
@@ -173,12 +139,10 @@ not_stripped (b ∷ bs) h = cond-false (eqb (get_or (b ∷ bs) (length (b ∷ bs
 pub line_back : (w : List ℕ) (ws : List (List ℕ)) (rest : List ℕ) → AllClean (w ∷ ws) → lines (line_text (w ∷ ws) ++ rest) ≡ (w ++ words_text ws) ∷ lines rest
 line_back w ws rest clean =
     let row : List ℕ = w ++ words_text ws in
-    let shape : line_text (w ∷ ws) ++ rest ≡ (w ++ words_text ws) ++ 10 ∷ rest =
-    ap (λ t. t ++ rest) (sym (append_assoc w (words_text ws) (10 ∷ []))) ∙ append_assoc (w ++ words_text ws) (10 ∷ []) rest in
-    ap lines shape
-    ∙ ap lines_of_parts (slice_split_at (λ b. eqb b 10) (w ++ words_text ws) 10 rest (λ k d l. (row_byte w ws (get_or (w ++ words_text ws) k d) clean (In-get_or (w ++ words_text ws) k d l)).no_feed) refl)
+    ap lines (ap (λ t. t ++ rest) (sym (append_assoc w (words_text ws) (10 ∷ []))) ∙ append_assoc (w ++ words_text ws) (10 ∷ []) rest)
+    ∙ ap lines_of_parts (slice_split_at (λ b. eqb b 10) (w ++ words_text ws) 10 rest (λ k d l. (words_byte (w ∷ ws) (get_or (w ++ words_text ws) k d) clean (inr (In-get_or (w ++ words_text ws) k d l))).no_feed) refl)
     ∙ one_more (w ++ words_text ws) (slice_split (λ b. eqb b 10) rest) (omega (arith, length-slice_split (λ b. eqb b 10) rest))
-    ∙ ap (λ r. r ∷ lines rest) (not_stripped (w ++ words_text ws) (λ b i. (row_byte w ws b clean i).no_return))
+    ∙ ap (λ r. r ∷ lines rest) (not_stripped (w ++ words_text ws) (λ b i. (words_byte (w ∷ ws) b clean (inr i)).no_return))
 
 -- numbers of items
 small_literal : (most l : ℕ) → most ≤ 1073741824 → is_literal most l ≡ true → l < 2 ^ 64
@@ -188,8 +152,7 @@ small_variable : (most l : ℕ) → most ≤ 1073741824 → is_variable most l �
 small_variable most l m t = grind (arith, nat_tests)
 
 init_clean : (init : Bool) → AllClean (init_words init)
-init_clean true = one_clean (codes "1") (word_clean (codes "1") (lit< tt) refl)
-init_clean false = λ w i. absurd i
+init_clean init = grind (arith, one_clean, codes, word_clean, lit<)
 
 module _ (h : Header) (most : h.variables ≤ 1073741824) where
   item_clean : (item : Item) → is_in_range h.variables item ≡ true → AllClean (item_words item)
@@ -207,18 +170,7 @@ module _ (h : Header) (most : h.variables ≤ 1073741824) where
 
   -- the form of a line
   item_back : (item : Item) → is_in_range h.variables item ≡ true → item_of (kind_of_item item) (item_words item) ≡ Some item
-  item_back (Input own) t = cc (number_back own (small_variable h.variables own most t))
-  item_back (Latch own next true) t =
-      let p = and_parts (is_variable h.variables own) (is_literal h.variables next) t in
-      cc (number_back own (small_variable h.variables own most p.0), number_back next (small_literal h.variables next most p.1))
-  item_back (Latch own next false) t =
-      let p = and_parts (is_variable h.variables own) (is_literal h.variables next) t in
-      cc (number_back own (small_variable h.variables own most p.0), number_back next (small_literal h.variables next most p.1))
-  item_back (Output l) t = cc (number_back l (small_literal h.variables l most t))
-  item_back (And own left right) t =
-      let p = and_parts (is_variable h.variables own) (is_literal h.variables left && is_literal h.variables right) t in
-      let q = and_parts (is_literal h.variables left) (is_literal h.variables right) p.1 in
-      cc (number_back own (small_variable h.variables own most p.0), number_back left (small_literal h.variables left most q.0), number_back right (small_literal h.variables right most q.1))
+  item_back item t = grind (arith, number_back, small_variable, and_parts, small_literal)
 
   abbrev item_row : Item → List ℕ
   item_row item = row_of (item_words item)
@@ -240,14 +192,12 @@ module _ (h : Header) (most : h.variables ≤ 1073741824) where
 
   pub item_lines : (items : List Item) (rest : List ℕ) → ((item : Item) → In items item → is_in_range h.variables item ≡ true) → lines (flat_map item_text items ++ rest) ≡ map item_row items ++ lines rest
   item_lines [] rest t = refl
-  item_lines (item ∷ items) rest t =
-      ap lines (append_assoc (item_text item) (flat_map item_text items) rest) ∙ item_line item (flat_map item_text items ++ rest) (t item (inl refl)) ∙ ap (λ l. item_row item ∷ l) (item_lines items rest (λ i j. t i (inr j)))
+  item_lines (item ∷ items) rest t = grind (arith, append_assoc, item_line, item_row, item_lines items rest (λ i j. t i (inr j)))
 
   -- the header
   pub header_clean : is_header h ≡ true → h.outputs < 2 ^ 64 → AllClean (header_words h)
   header_clean whole few =
-      let w = header_small h whole in
-      let s : h.inputs + h.latches + h.ands ≤ h.variables = w.sum in
+      let s : h.inputs + h.latches + h.ands ≤ h.variables = (header_small h whole).sum in
       more_clean (codes "aag") (decimal h.variables ∷ decimal h.inputs ∷ decimal h.latches ∷ decimal h.outputs ∷ decimal h.ands ∷ []) (word_clean (codes "aag") (lit< tt) refl)
       (more_clean (decimal h.variables) (decimal h.inputs ∷ decimal h.latches ∷ decimal h.outputs ∷ decimal h.ands ∷ []) (decimal_clean h.variables (omega arith)) (more_clean (decimal h.inputs) (decimal h.latches ∷ decimal h.outputs ∷ decimal h.ands ∷ []) (decimal_clean h.inputs (omega arith)) (more_clean (decimal h.latches) (decimal h.outputs ∷ decimal h.ands ∷ []) (decimal_clean h.latches (omega arith))
       (more_clean (decimal h.outputs) (decimal h.ands ∷ []) (decimal_clean h.outputs few) (one_clean (decimal h.ands) (decimal_clean h.ands (omega arith)))))))

@@ -1,6 +1,6 @@
 -- The circuit of a graph: a variable for each source, in the order of their indices, and for each AND node. Inputs are the regular inputs, and then the parameters.
 use Rattle.std.specs.Prelude.{◌≡◌, ℕ, ◌+◌, ◌*◌, ◌^◌, ◌<◌, List, [], ◌++◌, length, map, Some, slice_get, slice_index_or}
-use Rattle.std.specs.List.{range_with_len}
+use Rattle.std.specs.List.{range_with_len, flat_map}
 use Rattle.list_laws.specs.Members.{In}
 use Rattle.tl_text.specs.Once.{AreOnce}
 use Rattle.aig_core.specs.Aig.{Aig, first_and}
@@ -22,10 +22,11 @@ use Rattle.aiger_io.specs.Circuit.{Circuit}
 use Rattle.aiger_io.specs.CircuitLibrary.{model_of, library_of, library_weight}
 use Rattle.aiger_io.specs.Refused.{IsNameRefused}
 use Rattle.aiger_io.specs.Run.{HasOneFit, HasSameRuns}
-use Rattle.aiger_io.specs.WrittenText.{numbered, circuit_text}
+use Rattle.aiger_io.specs.WrittenText.{numbered, circuit_text, numbered_text, header_words, item_text, symbol_text}
 use Rattle.aiger_io.specs.declared.header.Header.{Header}
 use Rattle.aiger_io.specs.declared.item.Item.{Item}
 use Rattle.aiger_io.specs.declared.item.Item.TheVariants.{Input, Latch, Output, And}
+use Rattle.tl_text.specs.WrittenText.{line_text}
 
 -- how many inputs there are, where the places of the regular ones are given
 abbrev pub input_count : List ℕ → List Param → ℕ
@@ -86,3 +87,17 @@ pub record IsGraphsCircuit (flat : FlatValue) (params : List Param) (g : Aig) (r
   pub weight : Weighs (library_of c) (model_of c) (library_weight c.header)
   pub fit : HasOneFit c
   pub runs : (library : LibraryValue) → HasCycles library flat → HasSourceCycles library flat params g roots → HasSameRuns c library
+
+-- the header and the lines of a graph with so many inputs
+abbrev pub lines_text : ℕ → FlatValue → Aig → RootsValue → List ℕ
+lines_text inputs flat g roots =
+    line_text (header_words (graph_header inputs flat g roots))
+    ++ (flat_map (λ (n : ℕ). item_text (input_item n)) (range_with_len 1 inputs)
+    ++ (numbered_text (λ k latch. item_text (latch_item inputs roots.next k latch)) 0 flat.latches
+    ++ (flat_map (λ l. item_text (output_item l)) roots.outputs ++ numbered_text (λ n pair. item_text (gate_item n pair)) (first_and g) g.pairs)))
+
+-- and the symbols
+abbrev pub symbols_text : FlatValue → List Param → List ℕ → List ℕ
+symbols_text flat params regular =
+    numbered_text (λ k i. symbol_text 105 k (input_at flat i)) 0 regular
+    ++ (numbered_text (λ k (p : Param). symbol_text 105 k p.name) (length regular) params ++ numbered_text (λ k (o : OutPort). symbol_text 111 k o.name) 0 flat.outputs)

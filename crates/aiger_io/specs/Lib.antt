@@ -3,11 +3,6 @@ pub mod Circuit
 pub mod Run
 pub mod CircuitLibrary
 -- which text it is, line by line, and what refuses a text first,
-pub mod Spelling
-pub mod HeaderRow
-pub mod ItemRow
-pub mod SymbolRow
-pub mod PortName
 pub mod AigerText
 pub mod Refused
 pub mod Refusals
@@ -16,11 +11,4 @@ pub mod Reading
 pub mod WrittenText
 pub mod GraphCircuit
 -- What only bodies are compared with.
-pub mod Numbers
-pub mod Header
-pub mod Items
-pub mod Symbols
-pub mod PortNames
 pub mod Reader
-pub mod Bodies
-pub mod Writing

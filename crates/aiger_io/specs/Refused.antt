@@ -8,11 +8,8 @@ use Rattle.aiger_io.specs.declared.header.Header.{Header}
 use Rattle.aiger_io.specs.declared.item.Item.{Item}
 use Rattle.aiger_io.specs.declared.item.Kind.{Kind}
 use Rattle.aiger_io.specs.declared.item.Kind.TheVariants as kind
-use Rattle.aiger_io.specs.AigerText.{IsOfFormatWith}
+use Rattle.aiger_io.specs.AigerText.{IsOfFormatWith, IsHeaderRow, IsLaterRow, kind_of_item, IsItemRow, AreItemRows, item_count, kind_at, is_in_range, Symbol, IsSymbolRow, AreSymbolRows, MayStand, AllStand}
 use Rattle.aiger_io.specs.Circuit.{Circuit}
-use Rattle.aiger_io.specs.HeaderRow.{IsHeaderRow, IsLaterRow}
-use Rattle.aiger_io.specs.ItemRow.{kind_of_item, IsItemRow, AreItemRows, item_count, kind_at, is_in_range}
-use Rattle.aiger_io.specs.SymbolRow.{Symbol, IsSymbolRow, AreSymbolRows, MayStand, AllStand}
 
 -- the first line is a header, these items stand behind it, each of its place's kind and in range, and then these lines
 pub record Begins (text : List ℕ) (h : Header) (items : List Item) (rest : List (List ℕ)) : Type 0 where

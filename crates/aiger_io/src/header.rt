@@ -2,8 +2,7 @@
 ghost use Rattle.std.specs.Prelude.{◌≡◌, ◌<◌, length, map, Ok, Err, IfOk, MatchResult};
 ghost use Rattle.tl_fault.specs.OrMemory.{OrMemory};
 ghost use Rattle.std.specs.Option.{option_map};
-ghost use Rattle.aiger_io.specs.Bodies.{capped_numbers, capped_result, IsHeaderOf};
-ghost use Rattle.aiger_io.specs.Header.{is_header, header_with, header_of, header_in};
+ghost use Rattle.aiger_io.specs.Reader.{capped_numbers, capped_result, IsHeaderOf, is_header, header_with, header_of, header_in};
 ghost use Rattle.aiger_io.specs.Refusals.{refusal_of};
 
 use crate::aag_err::AagErr;

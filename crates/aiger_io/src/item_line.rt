@@ -2,9 +2,7 @@
 ghost use Rattle.std.specs.Prelude.{◌≡◌, ◌+◌, ◌<◌, ◌≤◌, ◌^◌, map, Ok, Err, MatchResult};
 ghost use Rattle.std.specs.Option.{option_map};
 ghost use Rattle.tl_fault.specs.OrMemory.{OrMemory};
-ghost use Rattle.aiger_io.specs.Bodies.{capped, capped_item};
-ghost use Rattle.aiger_io.specs.Items.{kind_at, one_number, init_of, latch_with as latch_by, latch_of, and_of, item_of, is_literal, is_variable, is_in_range, item_at};
-ghost use Rattle.aiger_io.specs.Numbers.{number_of};
+ghost use Rattle.aiger_io.specs.Reader.{capped, capped_item, kind_at, one_number, init_of, latch_with as latch_by, latch_of, and_of, item_of, is_literal, is_variable, is_in_range, item_at, number_of};
 ghost use Rattle.aiger_io.specs.Refusals.{refusal_of};
 
 use crate::aag_err::AagErr;

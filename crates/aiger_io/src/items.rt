@@ -1,7 +1,7 @@
 //! Reading all lines of inputs, latches, outputs and AND gates.
 ghost use Rattle.std.specs.Prelude.{◌≡◌, ◌+◌, ◌<◌, ◌≤◌, ◌^◌, [], length, map, Ok, Err, IfOk, MatchResult};
 ghost use Rattle.tl_fault.specs.OrMemory.{OrMemory};
-ghost use Rattle.aiger_io.specs.Items.{items_from, item_count};
+ghost use Rattle.aiger_io.specs.Reader.{items_from, item_count};
 ghost use Rattle.aiger_io.specs.Refusals.{refusal_of};
 
 use crate::aag_err::AagErr;

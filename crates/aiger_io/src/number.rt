@@ -2,7 +2,7 @@
 ghost use Rattle.std.specs.Prelude.{◌≡◌};
 ghost use Rattle.std.specs.List.{list_all};
 ghost use Rattle.tl_text.specs.Decimal.{is_digit, is_decimal};
-ghost use Rattle.aiger_io.specs.Bodies.{capped_number};
+ghost use Rattle.aiger_io.specs.Reader.{capped_number};
 
 use tl_text::decimal;
 

@@ -2,8 +2,7 @@
 ghost use Rattle.std.specs.Prelude.{◌≡◌, ◌+◌, ◌<◌, ◌^◌, ◌&&◌, ℕ, List, ◌++◌, length, [], unwrap_or, None, Some, IfOk, OnOk, MatchResult};
 ghost use Rattle.tl_fault.specs.OrMemory.{OrMemory};
 ghost use Rattle.tl_text.specs.NameSets.{has_name};
-ghost use Rattle.aiger_io.specs.Bodies.{twice_from, seen_from, named_count};
-ghost use Rattle.aiger_io.specs.PortNames.{default_name, names_from, input_names, output_names, port_names, is_port, is_twice, name_at, first_twice};
+ghost use Rattle.aiger_io.specs.Reader.{twice_from, seen_from, named_count, default_name, names_from, input_names, output_names, port_names, is_port, is_twice, name_at, first_twice};
 ghost use Rattle.aiger_io.specs.Refusals.{refusal_of};
 
 use crate::aag_err::AagErr;

@@ -2,7 +2,7 @@
 ghost use Rattle.std.specs.Prelude.{◌≡◌, ◌+◌, ◌==◌, ◌<◌, ◌≤◌, length, map, drop, slice_get, Some, IfOk};
 ghost use Rattle.std.specs.List.{slice_split};
 ghost use Rattle.std.specs.Str.Lines.{lines, strip_carriage_return};
-ghost use Rattle.aiger_io.specs.Numbers.{words_of};
+ghost use Rattle.aiger_io.specs.Reader.{words_of};
 
 use std::alloc::{AllocError, Global};
 

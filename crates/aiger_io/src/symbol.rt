@@ -2,8 +2,7 @@
 ghost use Rattle.std.specs.Prelude.{◌≡◌, ◌≤◌, ◌==◌, length};
 ghost use Rattle.std.specs.List.{list_any, position_or_len};
 ghost use Rattle.std.specs.Option.{option_map};
-ghost use Rattle.aiger_io.specs.Bodies.{capped_symbol, symbol_value};
-ghost use Rattle.aiger_io.specs.Symbols.{kind_of, is_bad_byte, is_bad_name, symbol_with as symbol_by, symbol_of};
+ghost use Rattle.aiger_io.specs.Reader.{capped_symbol, symbol_value, kind_of, is_bad_byte, is_bad_name, symbol_with as symbol_by, symbol_of};
 
 use crate::item::Kind;
 use crate::number::number;

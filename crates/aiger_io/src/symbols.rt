@@ -2,10 +2,8 @@
 ghost use Rattle.std.specs.Prelude.{◌≡◌, ◌+◌, ◌<◌, ◌^◌, ◌&&◌, not, nat_lt, length, map, replicate, slice_index_or, Some, None, Ok, Err, IfOk, MatchResult, IsTrue};
 ghost use Rattle.std.specs.Option.{is_some};
 ghost use Rattle.tl_fault.specs.OrMemory.{OrMemory};
-ghost use Rattle.aiger_io.specs.Bodies.{AreSized, named_count, symbol_value};
+ghost use Rattle.aiger_io.specs.Reader.{AreSized, named_count, symbol_value, count_of, first_of, place_of, no_name, no_symbols, with_symbol, may_stand as may_stand_by, symbols_from, symbol_at, name_at};
 ghost use Rattle.aiger_io.specs.Refusals.{refusal_of};
-ghost use Rattle.aiger_io.specs.Symbols.{count_of, first_of, place_of, no_name, no_symbols, with_symbol, may_stand as may_stand_by, symbols_from, symbol_at};
-ghost use Rattle.aiger_io.specs.PortNames.{name_at};
 
 use crate::aag_err::AagErr;
 use crate::header::Header;
@@ -24,7 +22,7 @@ pub struct Symbols {
 }
 
 impl Model for Symbols {
-    ghost use Rattle.aiger_io.specs.Symbols.{SymbolsValue};
+    ghost use Rattle.aiger_io.specs.Reader.{SymbolsValue};
 
     ghost Value = { SymbolsValue };
 

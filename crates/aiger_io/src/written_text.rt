@@ -6,9 +6,8 @@ ghost use Rattle.tl_io.specs.Sink.{IsPut};
 ghost use Rattle.tl_piece.specs.Added.{IsAdded};
 ghost use Rattle.netlist.specs.declared.flat.OutPort.{OutPort as OutPortValue};
 ghost use Rattle.param_list.specs.declared.params.Param.{Param as ParamValue};
-ghost use Rattle.aiger_io.specs.GraphCircuit.{input_count, input_item, latch_item, output_item, gate_item, graph_circuit, IsWrittenFrom};
+ghost use Rattle.aiger_io.specs.GraphCircuit.{input_count, input_item, latch_item, output_item, gate_item, graph_circuit, IsWrittenFrom, lines_text, symbols_text};
 ghost use Rattle.aiger_io.specs.WrittenText.{numbered_text, item_text, symbol_text, circuit_text};
-ghost use Rattle.aiger_io.specs.Writing.{lines_text, symbols_text};
 
 use crate::header::Header;
 use crate::written_line::{add_gate, add_header, add_latch, add_literal, add_symbol};

@@ -60,8 +60,7 @@ undriven_fault library model driven (c ∷ cs) = or_later (undriven_in model c.l
 
 -- of a model: F5 of its commands in line order, then F6 of them, then F6 of its outputs, told with the line of `.model`
 abbrev pub model_fault : LibraryValue → ModelValue → Option FlatErr
-model_fault library m =
-    or_later (twice_fault library m.name (inputs_of m) m.commands)
+model_fault library m = or_later (twice_fault library m.name (inputs_of m) m.commands)
     (or_later (undriven_fault library m.name (driven_names library m) m.commands) (undriven_in m.name m.line (driven_names library m) m.outputs))
 
 -- of the walked models, in the order of the walk

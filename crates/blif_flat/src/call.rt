@@ -1,7 +1,7 @@
 //! Flattening.
-ghost use Rattle.std.specs.Prelude.{◌≡◌, ◌<◌, ◌^◌, Some, IfOk, IfErr, length, slice_get};
+ghost use Rattle.std.specs.Prelude.{◌≡◌, ◌<◌, ◌^◌, Some, IfOk, IfErr, length, map, slice_get};
 ghost use Rattle.netlist.specs.ShortPorts.{HasShortPorts};
-ghost use Rattle.blif_flat.specs.{OrMemory, IsWellFormed, refusal_of, IsFault, HasOneFault, HasNoFault, IsWithinBounds, IsLight, HasValues, HasOneFlat, HasCycles, HasOneCycle, IsSound};
+ghost use Rattle.blif_flat.specs.{OrMemory, IsWellFormed, refusal_of, IsFault, HasOneFault, HasNoFault, IsWithinBounds, IsLight, IsChecked, IsFlat, HasValues, HasOneFlat, HasCycles, HasOneCycle, IsSound, ports_value, model_names};
 
 use crate::circuit::connect::connect;
 use crate::clock::clock_check::check_clocks;
@@ -27,6 +27,31 @@ fn main_ports(ports: &[Ports]) -> &Ports
     ensures { slice_get ports.now 0 ≡ Some result.now }
 {
     &ports[0]
+}
+
+// The flat circuit of a library whose models are checked. The index and the ports belong to the library.
+fn flat_circuit(
+    alloc: Global,
+    library: &Library,
+    index: &ModelIndex,
+    ports: &[Ports],
+) -> Result<Flat, FlatErr>
+    requires formed { IsWellFormed library.now }
+    requires short { HasShortPorts library.now }
+    requires checked { IsChecked library.now }
+    requires names { index.now.names ≡ model_names library.now.models }
+    requires ports { ports.now ≡ map ports_value library.now.models }
+    ensures flat { IfOk result (λ flat. IsFlat library.now flat) }
+    ensures sound { IfOk result (λ flat. IsSound library.now) }
+    ensures clean { IfOk result (λ flat. HasNoFault library.now) }
+    ensures err { IfErr result (OrMemory refusal_of (IsFault library.now)) }
+{
+    let main = main_model(library);
+    let circuit = connect(alloc, library, index, ports)?;
+    let inputs = all_inputs(alloc, main, main_ports(ports))?;
+    let clocks = check_clocks(alloc, library, main, &circuit, &inputs)?;
+    let flat = assemble(alloc, library, main, &circuit, &inputs, &clocks)?;
+    Ok(flat)
 }
 
 /// The flat circuit of a library, whose first model is the main one.
@@ -72,11 +97,7 @@ pub fn flatten(alloc: Global, library: &Library) -> Result<Flat, FlatErr>
     let ports = all_ports(alloc, models)?;
     let index = ModelIndex::make(alloc, models)?;
     check_models(alloc, library, &index, &ports)?;
-    let main = main_model(library);
-    let circuit = connect(alloc, library, &index, &ports)?;
-    let inputs = all_inputs(alloc, main, main_ports(&ports))?;
-    let clocks = check_clocks(alloc, library, main, &circuit, &inputs)?;
-    let flat = assemble(alloc, library, main, &circuit, &inputs, &clocks)?;
+    let flat = flat_circuit(alloc, library, &index, &ports)?;
     flat_law(library, &flat);
     Ok(flat)
 }

@@ -1,13 +1,13 @@
 -- What the proofs of this crate cite of other crates, and its own definitions, passed on from one place.
 pub use Rattle.std.proofs.Common.{◌≡◌, ℕ, Bool, List, [], ◌∷◌, ◌++◌, refl, ap, ◌∙◌, inl, inr, ◌⊎◌, ◌-◌, ◌<◌, eqb, length, map, get_or, codes, Some, None, sym, subst, arith, true, Result, Ok, append_assoc, Err, Option, ◌+◌, false, ◌||◌, cond, suc, not, ◌&&◌, ltb, take, drop, bytes_eq, length-append, ◌^◌, is_some, MatchResult, IfOk, ◌≤◌, rules}
 pub use Rattle.std.proofs.lemmas.Bool.{cond-false, ne_eqb, cases_Bool, cond-true, lt-ltb, eq-eqb, and_from, or_from, not_from_false, false_from_ne_true, both_ways, and_parts, or_cases, or_parts, not-true, eqb-true, eqb-false}
-pub use Rattle.std.proofs.lemmas.List.{append-nil, length-take-le, length_push, length-map, drop_more, map_push}
+pub use Rattle.std.proofs.lemmas.List.{append-nil, length-take-le, length_push, length-map, drop_more, map_push, take-append-drop, drop_all, get_or-take}
 pub use Rattle.std.proofs.lemmas.Option.{none-some, same_Some}
 pub use Rattle.std.proofs.lemmas.Slice.Eq.{bytes_eq-Decides}
 pub use Rattle.std.specs.List.{position, position_or_len, slice_get}
 pub use Rattle.std.specs.Option.{option_map}
 pub use Rattle.std.specs.Vec.Iter.{into_iter_items}
-pub use Rattle.list_laws.proofs.Apart.{pushed_apart}
+pub use Rattle.list_laws.proofs.Apart.{pushed_apart, not_in_both}
 pub use Rattle.list_laws.proofs.Choice.{choose, none_else, none_both, some_then, some_else}
 pub use Rattle.list_laws.proofs.Members.{In-append, In-left, In-right, from_map}
 pub use Rattle.list_laws.specs.Members.{In}
@@ -29,13 +29,13 @@ pub use Rattle.tl_text.specs.LineValue.{LineValue, token_bytes, words_line, AreL
 pub use Rattle.tl_text.specs.Lines.{lines_of}
 pub use Rattle.tl_text.specs.Once.{AreOnce}
 pub use Rattle.tl_text.specs.declared.text_err.TextErr.{TextErr}
-pub use Rattle.blif_read.specs.Connections.{connection_token, IsConnection, IsSubckt}
+pub use Rattle.tl_text.proofs.NameSetLemmas.{has_in, place_some}
 pub use Rattle.blif_read.specs.Context.{row_of, RowRead, Context, CoverPlace, first_value, row_place, place_after, open_after, models_after, ports_after, context_of, cells_of, row_with, cell_of, put_cell}
-pub use Rattle.blif_read.specs.Denotes.{port_names, names_in, IsCoverLine, AreCommands, IsModel, AreModels, Denotes}
+pub use Rattle.blif_read.specs.Denotes.{connection_token, IsConnection, IsSubckt, port_names, names_in, IsCoverLine, AreCommands, IsModel, AreModels, Denotes}
 pub use Rattle.blif_read.specs.Latches.{IsLatch, plain, with_init, with_control, whole, Controls, nil, net, Starts, one, zero_}
 pub use Rattle.blif_read.specs.LineFault.{has, model_fault, ports_fault, fault_by, end_fault, line_fault, mixed_fault, row_read_fault, or_later, row_fault, init_fault, latch_fault, connection_of, connections_fault, subckt_fault, split_at, names_fault, repeats_formal, with_formal, kind_fault}
 pub use Rattle.blif_read.specs.ReadFault.{first_fault, is_model_keyword, has_model, statements_fault, blif_err, lines_fault, read_fault}
-pub use Rattle.blif_read.specs.Reading.{State, ModelRead, with_command, flushed, ended, context, with_ports, ports_read, body_read, next_by, or_fault, steps, library_at_end, finished, lines_read, text_read, fresh, CoverRead, start, cover_of, with_row, latch_of, subckt_of, next, library_read, value_so_far, first_word, with_cover, place_of_cover, with_row_words, control_of, init_of, put_pair, pairs_of, model_after, fault_of}
+pub use Rattle.blif_read.specs.Reading.{inside_fault, State, ModelRead, with_command, flushed, ended, context, with_ports, ports_read, body_read, next_by, or_fault, steps, library_at_end, finished, lines_read, text_read, fresh, CoverRead, start, cover_of, with_row, latch_of, subckt_of, next, library_read, value_so_far, first_word, with_cover, place_of_cover, with_row_words, control_of, init_of, put_pair, pairs_of, model_after, fault_of}
 pub use Rattle.blif_read.specs.Refusals.{refusal_of}
 pub use Rattle.blif_read.specs.Rows.{IsRow, alone, behind, AreRows, none, more, cell_character, output_token}
 pub use Rattle.blif_read.specs.Size.{name_size, names_size, pairs_size, control_size, body_size, commands_size, model_size, models_size, library_size}
@@ -43,4 +43,4 @@ pub use Rattle.blif_read.specs.Statement.{StatementValue, arguments_of, keyword_
 pub use Rattle.blif_read.specs.declared.blif_err.BlifErr.{BlifErr}
 pub use Rattle.blif_read.specs.declared.blif_err.BlifErr.TheVariants.{DuplicateModel, NoModel, BadConnection, DuplicatePort, BadLatch, LatchKind}
 pub use Rattle.blif_read.specs.declared.keyword.Keyword.{Keyword}
-pub use Rattle.blif_read.specs.declared.keyword.Keyword.TheVariants.{Model, Inputs, Outputs, Clock, Names, End, Plain}
+pub use Rattle.blif_read.specs.declared.keyword.Keyword.TheVariants.{Model, Inputs, Outputs, Clock, Names, End, Plain, Unknown}

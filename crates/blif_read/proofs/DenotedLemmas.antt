@@ -1,6 +1,5 @@
 -- What the reader makes of lines without a refusal is what they denote.
-use Rattle.blif_read.proofs.Common.{◌≡◌, ℕ, ◌<◌, List, [], ◌∷◌, ◌++◌, length, Some, None, Result, Ok, Err, refl, sym, ap, ◌∙◌, subst, arith, none-some, LineValue, lines_of, TextErr, BlifErr, Keyword, Body, ModelValue, LibraryValue, input_ports, output_ports, clock_ports, ports_of, StatementValue, statements, AreOnce, none, row_of, end_fault, fault_by, line_fault, CoverRead, State, start, with_command, ended, context, fresh, with_ports, cover_of, with_row, latch_of, subckt_of, next_by, next, steps, library_at_end, library_read, lines_read, text_read}
-use Rattle.std.proofs.lemmas.List.{append-nil, append_assoc}
+use Rattle.blif_read.proofs.Common.{◌≡◌, ℕ, ◌<◌, List, [], ◌∷◌, ◌++◌, length, Some, None, Result, Ok, Err, refl, sym, ap, ◌∙◌, subst, arith, none-some, LineValue, lines_of, TextErr, BlifErr, Keyword, Body, ModelValue, LibraryValue, input_ports, output_ports, clock_ports, ports_of, StatementValue, statements, AreOnce, none, row_of, end_fault, fault_by, line_fault, CoverRead, State, start, with_command, ended, context, fresh, with_ports, cover_of, with_row, latch_of, subckt_of, next_by, next, steps, library_at_end, library_read, lines_read, text_read, append-nil, append_assoc}
 use Rattle.blif_read.specs.declared.keyword.Keyword.TheVariants.{Model, Inputs, Outputs, Clock, Names, Latch, Subckt, End, Unknown, Plain}
 use Rattle.netlist.specs.declared.command.Body.TheVariants as body
 use Rattle.blif_read.specs.Denotes.{AreModels, AreLibrary, Denotes, none, end as end_line, latch as latch_line, subckt as subckt_line}

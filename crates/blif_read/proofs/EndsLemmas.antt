@@ -1,6 +1,5 @@
 -- The models that lines end with, from the open model and its last cover, and how a line before them changes that.
-use Rattle.blif_read.proofs.Common.{◌≡◌, ℕ, ◌<◌, Bool, List, [], ◌∷◌, ◌++◌, length, Option, Some, None, refl, sym, ap, ◌∙◌, subst, arith, none-some, Model, Names, Plain, Body, Command, CoverValue, RowValue, ModelValue, Ports, input_ports, ports_of, StatementValue, IsRow, AreRows, none, more, RowRead, row_of, mixed_fault, row_read_fault, CoverRead, State, with_command, ended, value_so_far, first_word, fresh, with_ports, cover_of, with_row}
-use Rattle.std.proofs.lemmas.List.{append-nil, append_assoc}
+use Rattle.blif_read.proofs.Common.{◌≡◌, ℕ, ◌<◌, Bool, List, [], ◌∷◌, ◌++◌, length, Option, Some, None, refl, sym, ap, ◌∙◌, subst, arith, none-some, Model, Names, Plain, Body, Command, CoverValue, RowValue, ModelValue, Ports, input_ports, ports_of, StatementValue, IsRow, AreRows, none, more, RowRead, row_of, mixed_fault, row_read_fault, CoverRead, State, with_command, ended, value_so_far, first_word, fresh, with_ports, cover_of, with_row, append-nil, append_assoc}
 use Rattle.netlist.specs.declared.command.Body.TheVariants as body
 use Rattle.blif_read.specs.Denotes.{port_names, names_in, AreCommands, AreModels, none, ports as ports_line, cover as cover_lines, model as model_lines}
 use Rattle.blif_read.proofs.FaultLemmas.{same_value, value_there, some_push}

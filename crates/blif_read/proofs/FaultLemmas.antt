@@ -1,6 +1,5 @@
 -- The reader's state has the place that the earlier lines say, so its refusal is the text's.
-use Rattle.blif_read.proofs.Common.{◌≡◌, ℕ, ◌+◌, ◌-◌, ◌<◌, Bool, true, false, ◌||◌, cond, eqb, List, [], ◌∷◌, ◌++◌, length, Option, Some, None, Result, Ok, Err, refl, sym, ap, ◌∙◌, subst, inl, inr, ◌⊎◌, arith, option_map, append-nil, length-take-le, length_push, cond-false, ne_eqb, none-some, LineValue, TextErr, lines_of, BlifErr, NoModel, Keyword, CoverValue, RowValue, ModelValue, LibraryValue, Ports, input_ports, output_ports, clock_ports, ports_of, StatementValue, statements, Context, CoverPlace, RowRead, row_of, first_value, row_place, place_after, open_after, models_after, ports_after, context_of, or_later, mixed_fault, row_read_fault, row_fault, fault_by, line_fault, first_fault, is_model_keyword, has_model, statements_fault, blif_err, lines_fault, read_fault, CoverRead, ModelRead, State, start, with_cover, ended, value_so_far, place_of_cover, context, cover_of, with_row, with_row_words, next_by, next, or_fault, steps, library_at_end, finished, library_read, lines_read, text_read}
-use Rattle.blif_read.specs.declared.keyword.Keyword.TheVariants.{Model, Inputs, Outputs, Clock, Names, End, Unknown, Plain}
+use Rattle.blif_read.proofs.Common.{◌≡◌, ℕ, ◌+◌, ◌-◌, ◌<◌, Bool, true, false, ◌||◌, cond, eqb, List, [], ◌∷◌, ◌++◌, length, Option, Some, None, Result, Ok, Err, refl, sym, ap, ◌∙◌, subst, inl, inr, ◌⊎◌, arith, option_map, append-nil, length-take-le, length_push, cond-false, ne_eqb, none-some, LineValue, TextErr, lines_of, BlifErr, NoModel, Keyword, CoverValue, RowValue, ModelValue, LibraryValue, Ports, input_ports, output_ports, clock_ports, ports_of, StatementValue, statements, Context, CoverPlace, RowRead, row_of, first_value, row_place, place_after, open_after, models_after, ports_after, context_of, or_later, mixed_fault, row_read_fault, row_fault, fault_by, line_fault, first_fault, is_model_keyword, has_model, statements_fault, blif_err, lines_fault, read_fault, CoverRead, ModelRead, State, start, with_cover, ended, value_so_far, place_of_cover, context, cover_of, with_row, with_row_words, next_by, next, or_fault, steps, library_at_end, finished, library_read, lines_read, text_read, Model, Inputs, Outputs, Clock, Names, End, Unknown, Plain}
 use Rattle.blif_read.proofs.PortLemmas.{ports_flushed}
 
 -- contexts with the same parts are the same

@@ -1,8 +1,6 @@
 -- A line of the right form has no fault and is read as it is.
-use Rattle.blif_read.proofs.Common.{◌≡◌, ℕ, suc, ◌+◌, ◌-◌, ◌<◌, Bool, true, false, not, ◌||◌, ◌&&◌, cond, eqb, ltb, List, [], ◌∷◌, ◌++◌, length, map, take, drop, get_or, bytes_eq, codes, Option, Some, None, refl, sym, ap, ◌∙◌, subst, inl, inr, arith, append_assoc, length-append, position, position_or_len, cond-true, cond-false, lt-ltb, ne_eqb, eq-eqb, and_from, or_from, not_from_false, false_from_ne_true, bytes_eq-Decides, In, bit_of, length-map, BadConnection, Cell, Zero, One, Any, Pair, RowValue, SubcktValue, StatementValue, AreOnce, IsRow, alone, behind, cell_character, output_token, IsLatch, plain, with_init, with_control, whole, Starts, one, zero_, Controls, nil, net, connection_token, IsConnection, IsSubckt, formals, cells_of, row_of, row_with, has, ports_fault, init_fault, latch_fault, connection_of, connections_fault, subckt_fault, split_at, names_fault, repeats_formal, with_formal, cover_of, control_of, init_of, latch_of, put_pair, pairs_of, subckt_of}
+use Rattle.blif_read.proofs.Common.{◌≡◌, ℕ, suc, ◌+◌, ◌-◌, ◌<◌, Bool, true, false, not, ◌||◌, ◌&&◌, cond, eqb, ltb, List, [], ◌∷◌, ◌++◌, length, map, take, drop, get_or, bytes_eq, codes, Option, Some, None, refl, sym, ap, ◌∙◌, subst, inl, inr, arith, append_assoc, length-append, position, position_or_len, cond-true, cond-false, lt-ltb, ne_eqb, eq-eqb, and_from, or_from, not_from_false, false_from_ne_true, bytes_eq-Decides, In, bit_of, length-map, BadConnection, Cell, Zero, One, Any, Pair, RowValue, SubcktValue, StatementValue, AreOnce, IsRow, alone, behind, cell_character, output_token, IsLatch, plain, with_init, with_control, whole, Starts, one, zero_, Controls, nil, net, connection_token, IsConnection, IsSubckt, formals, cells_of, row_of, row_with, has, ports_fault, init_fault, latch_fault, connection_of, connections_fault, subckt_fault, split_at, names_fault, repeats_formal, with_formal, cover_of, control_of, init_of, latch_of, put_pair, pairs_of, subckt_of, not_in_both, has_in}
 use Rattle.std.proofs.Math.Seq.{take-append_seam, drop-append-add, get_or-append_seam}
-use Rattle.list_laws.proofs.Apart.{not_in_both}
-use Rattle.tl_text.proofs.NameSetLemmas.{has_in}
 use Rattle.netlist.specs.declared.latch.Latch.{Latch}
 
 -- names without repeats

@@ -1,6 +1,5 @@
 -- Lines without a refusal have the form of their command.
-use Rattle.blif_read.proofs.Common.{◌≡◌, ℕ, suc, ◌+◌, ◌-◌, ◌<◌, Bool, true, false, not, ◌&&◌, ◌||◌, cond, eqb, List, [], ◌∷◌, ◌++◌, length, take, drop, map, get_or, bytes_eq, codes, Option, Some, None, refl, sym, ap, ◌∙◌, subst, inl, inr, arith, position, both_ways, and_parts, or_cases, or_parts, not-true, eqb-true, eqb-false, none-some, same_Some, bytes_eq-Decides, pushed_apart, In, choose, none_else, none_both, some_then, some_else, bit_of, BlifErr, BadConnection, Cell, Zero, One, Any, Plain, Pair, StatementValue, AreOnce, cell_character, output_token, IsRow, alone, behind, Starts, one, zero_, Controls, nil, net, IsLatch, plain, with_init, with_control, whole, connection_token, IsConnection, IsSubckt, formals, RowRead, cell_of, put_cell, cells_of, row_with, row_of, or_later, names_fault, init_fault, kind_fault, latch_fault, split_at, connection_of, repeats_formal, with_formal, connections_fault, subckt_fault, cover_of, control_of, init_of, latch_of, put_pair, pairs_of, subckt_of}
-use Rattle.std.proofs.lemmas.List.{append-nil, append_assoc, length-map, length-take-le, take-append-drop, drop_more, drop_all, get_or-take}
+use Rattle.blif_read.proofs.Common.{◌≡◌, ℕ, suc, ◌+◌, ◌-◌, ◌<◌, Bool, true, false, not, ◌&&◌, ◌||◌, cond, eqb, List, [], ◌∷◌, ◌++◌, length, take, drop, map, get_or, bytes_eq, codes, Option, Some, None, refl, sym, ap, ◌∙◌, subst, inl, inr, arith, position, both_ways, and_parts, or_cases, or_parts, not-true, eqb-true, eqb-false, none-some, same_Some, bytes_eq-Decides, pushed_apart, In, choose, none_else, none_both, some_then, some_else, bit_of, BlifErr, BadConnection, Cell, Zero, One, Any, Plain, Pair, StatementValue, AreOnce, cell_character, output_token, IsRow, alone, behind, Starts, one, zero_, Controls, nil, net, IsLatch, plain, with_init, with_control, whole, connection_token, IsConnection, IsSubckt, formals, RowRead, cell_of, put_cell, cells_of, row_with, row_of, or_later, names_fault, init_fault, kind_fault, latch_fault, split_at, connection_of, repeats_formal, with_formal, connections_fault, subckt_fault, cover_of, control_of, init_of, latch_of, put_pair, pairs_of, subckt_of, append-nil, append_assoc, length-map, length-take-le, take-append-drop, drop_more, drop_all, get_or-take}
 use Rattle.std.proofs.lemmas.List.Quantifiers.{position-Some}
 use Rattle.tl_text.proofs.NameLemmas.{not_there as name_not_there}
 

@@ -1,6 +1,5 @@
 -- Lists of names in which none stands twice, and what lines without a refusal put behind them.
-use Rattle.blif_read.proofs.Common.{◌≡◌, ℕ, List, [], ◌∷◌, ◌++◌, None, refl, sym, subst, none-some, pushed_apart, In, DuplicateModel, DuplicatePort, has, model_fault, ports_fault, AreOnce, none_both}
-use Rattle.std.proofs.lemmas.List.{append-nil, append_assoc}
+use Rattle.blif_read.proofs.Common.{◌≡◌, ℕ, List, [], ◌∷◌, ◌++◌, None, refl, sym, subst, none-some, pushed_apart, In, DuplicateModel, DuplicatePort, has, model_fault, ports_fault, AreOnce, none_both, append-nil, append_assoc}
 pub use Rattle.list_laws.proofs.Members.{In-append}
 pub use Rattle.tl_text.proofs.NameLemmas.{not_there}
 

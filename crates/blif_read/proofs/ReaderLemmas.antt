@@ -1,9 +1,7 @@
 -- The steps of the reader's loops, and what its parts say of the whole.
-use Rattle.blif_read.proofs.Common.{◌≡◌, ℕ, ◌+◌, ◌<◌, Bool, true, false, List, [], ◌∷◌, ◌++◌, length, drop, get_or, Option, Some, None, is_some, Result, Ok, Err, MatchResult, refl, sym, ap, ◌∙◌, subst, append_assoc, option_map, drop_more, BlifErr, BadConnection, Keyword, Pair, ModelValue, StatementValue, has, connection_of, repeats_formal, with_formal, connections_fault, fault_by, line_fault, OrMemory, OrMemory-map, refusal_of, ModelRead, State, context, model_after, next, next_by, put_pair, pairs_of}
+use Rattle.blif_read.proofs.Common.{◌≡◌, ℕ, ◌+◌, ◌<◌, Bool, true, false, List, [], ◌∷◌, ◌++◌, length, drop, get_or, Option, Some, None, is_some, Result, Ok, Err, MatchResult, refl, sym, ap, ◌∙◌, subst, append_assoc, option_map, drop_more, BlifErr, BadConnection, Keyword, Pair, ModelValue, StatementValue, has, connection_of, repeats_formal, with_formal, connections_fault, fault_by, line_fault, OrMemory, OrMemory-map, refusal_of, ModelRead, State, context, model_after, next, next_by, put_pair, pairs_of, inside_fault, place_some}
 use Rattle.tl_text.specs.NameIndex.{place_of}
-use Rattle.tl_text.proofs.NameSetLemmas.{place_some}
 use Rattle.blif_read.specs.declared.keyword.Keyword.TheVariants as k
-use Rattle.blif_read.specs.Inside.{inside_fault}
 
 -- a name is among others exactly where an index answers a place
 pub has_from : (names index : List (List ℕ)) (name bytes : List ℕ) (o : Option ℕ) (b : Bool) → index ≡ names → bytes ≡ name → o ≡ place_of index bytes → b ≡ is_some o → has names name ≡ b

@@ -11,9 +11,6 @@ denotes_once : (bytes : List ℕ) (a b : LibraryValue) → Denotes bytes a → D
 denotes_once bytes a b d e =
     same_Some a b (ap (λ (r : Result LibraryValue BlifErr). result_ok r) (sym (denotes_read bytes a d) ∙ denotes_read bytes b e))
 
-pub denotes_no_fault : (bytes : List ℕ) (library : LibraryValue) (e : BlifErr) → Denotes bytes library → read_fault bytes ≡ Some e → ⊥
-denotes_no_fault bytes library e d fault = none-some e (sym (read_no_fault bytes library (denotes_read bytes library d)) ∙ fault)
-
 some_library : (bytes : List ℕ) (r : Result LibraryValue BlifErr) → text_read bytes ≡ r → read_fault bytes ≡ None → (library : LibraryValue) × Denotes bytes library
 some_library bytes (Ok library) is none = (library, read_denotes bytes library is)
 some_library bytes (Err error) is none = absurd (none-some error (sym none ∙ read_fault_is bytes error is))

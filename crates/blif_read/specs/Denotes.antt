@@ -8,13 +8,30 @@ use Rattle.netlist.specs.declared.command.Body.TheVariants.{Cover, Latch, Subckt
 use Rattle.netlist.specs.declared.command.Command.{Command}
 use Rattle.netlist.specs.declared.latch.Latch.{Latch as LatchValue}
 use Rattle.netlist.specs.CoverValue.{CoverValue}
-use Rattle.netlist.specs.SubcktValue.{SubcktValue}
+use Rattle.netlist.specs.SubcktValue.{SubcktValue, formals}
 use Rattle.netlist.specs.LibraryValue.{ModelValue, LibraryValue, Ports, input_ports, output_ports, clock_ports, ports_of}
 use Rattle.blif_read.specs.Statement.{StatementValue, statements}
 use Rattle.tl_text.specs.Once.{AreOnce}
 use Rattle.blif_read.specs.Rows.{AreRows}
 use Rattle.blif_read.specs.Latches.{IsLatch}
-use Rattle.blif_read.specs.Connections.{IsSubckt}
+use Rattle.list_laws.specs.Members.{In}
+use Rattle.netlist.specs.declared.subckt.Pair.{Pair}
+
+-- a connection as it is written: the formal, `=` (61), the actual
+abbrev pub connection_token : Pair → List ℕ
+connection_token pair = pair.formal ++ 61 ∷ pair.actual
+
+-- neither side is empty, and the formal has no `=`: so the token is split at its first one
+pub record IsConnection (pair : Pair) : Type 0 where
+  pub formal : 0 < length pair.formal
+  pub first : ¬ (In pair.formal 61)
+  pub actual : 0 < length pair.actual
+
+-- the words behind `.subckt`: the name of a model and connections, in which no formal stands twice
+pub record IsSubckt (words : List (List ℕ)) (subckt : SubcktValue) : Type 0 where
+  pub words_are : words ≡ subckt.model ∷ map connection_token subckt.pairs
+  pub each : (pair : Pair) → In subckt.pairs pair → IsConnection pair
+  pub once : AreOnce (formals subckt.pairs)
 
 -- the names that a statement adds to a list of ports
 abbrev pub port_names : Ports → Keyword → List (List ℕ) → List (List ℕ)

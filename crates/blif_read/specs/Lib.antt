@@ -1,5 +1,4 @@
 -- What public clauses say.
-pub mod Connections
 pub mod Context
 pub mod Denotes
 pub mod HasOneReading
@@ -11,5 +10,4 @@ pub mod Rows
 pub mod Size
 pub mod Statement
 -- What only bodies are compared with.
-pub mod Inside
 pub mod Reading

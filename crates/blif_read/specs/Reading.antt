@@ -6,11 +6,12 @@ use Rattle.tl_text.specs.LineValue.{LineValue}
 use Rattle.tl_text.specs.Lines.{lines_of}
 use Rattle.tl_text.specs.declared.text_err.TextErr.{TextErr}
 use Rattle.blif_read.specs.declared.blif_err.BlifErr.{BlifErr}
-use Rattle.blif_read.specs.declared.blif_err.BlifErr.TheVariants.{NoModel}
+use Rattle.blif_read.specs.declared.blif_err.BlifErr.TheVariants.{NoModel, OutsideModel}
 use Rattle.blif_read.specs.declared.keyword.Keyword.{Keyword}
 use Rattle.blif_read.specs.declared.keyword.Keyword.TheVariants as keyword
 use Rattle.netlist.specs.declared.command.Body.{Body}
 use Rattle.netlist.specs.declared.command.Body.TheVariants.{Cover, Latch, Subckt}
+use Rattle.netlist.specs.declared.command.Command.{Command}
 use Rattle.netlist.specs.declared.latch.Latch.{Latch as LatchValue}
 use Rattle.netlist.specs.declared.subckt.Pair.{Pair}
 use Rattle.netlist.specs.CoverValue.{CoverValue}
@@ -18,7 +19,7 @@ use Rattle.netlist.specs.SubcktValue.{SubcktValue}
 use Rattle.netlist.specs.LibraryValue.{ModelValue, LibraryValue, Ports, input_ports, output_ports, clock_ports, ports_of}
 use Rattle.blif_read.specs.Statement.{StatementValue, statements}
 use Rattle.blif_read.specs.Context.{Context, CoverPlace, RowRead, row_of}
-use Rattle.blif_read.specs.LineFault.{line_fault, connection_of}
+use Rattle.blif_read.specs.LineFault.{line_fault, connection_of, ports_fault, names_fault, row_fault, latch_fault, subckt_fault, end_fault}
 use Rattle.blif_read.specs.ReadFault.{blif_err}
 
 -- a cover whose rows may follow, with its line
@@ -209,3 +210,30 @@ text_read bytes = lines_read bytes (lines_of bytes)
 abbrev pub fault_of : {A : Type 0} → Result A BlifErr → Option BlifErr
 fault_of (Ok x) = None
 fault_of (Err e) = Some e
+
+-- the refusal of a line by the open model that it stands in; of a line that begins or ends a model, or has no keyword of the profile, none
+abbrev pub model_line_fault : Keyword → ModelRead → ℕ → List (List ℕ) → Option BlifErr
+model_line_fault keyword.Plain r number words = row_fault number (place_of_cover r.cover) words
+model_line_fault keyword.Inputs r number words = ports_fault number r.model.inputs words
+model_line_fault keyword.Outputs r number words = ports_fault number r.model.outputs words
+model_line_fault keyword.Clock r number words = ports_fault number r.model.clocks words
+model_line_fault keyword.Names r number words = names_fault number words
+model_line_fault keyword.Latch r number words = latch_fault number words
+model_line_fault keyword.Subckt r number words = subckt_fault number words
+model_line_fault keyword.Model r number words = None
+model_line_fault keyword.End r number words = None
+model_line_fault keyword.Unknown r number words = None
+
+abbrev pub inside_fault : Keyword → Option ModelRead → ℕ → List (List ℕ) → Option BlifErr
+inside_fault k None number words = Some (OutsideModel number)
+inside_fault k (Some r) number words = model_line_fault k r number words
+
+-- of an `.end` line
+abbrev pub end_line_fault : Option ModelRead → ℕ → List (List ℕ) → Option BlifErr
+end_line_fault None number words = Some (OutsideModel number)
+end_line_fault (Some r) number words = end_fault number words
+
+-- commands with the cover of whose rows none follow any more
+abbrev pub commands_with : List Command → Option CoverRead → List Command
+commands_with commands None = commands
+commands_with commands (Some c) = commands ++ record { line = c.line; body = Cover c.cover } ∷ []

@@ -4,9 +4,8 @@ ghost use Rattle.netlist.specs.declared.command.Body.TheVariants.{Latch as Latch
 ghost use Rattle.blif_read.specs.LineFault.{latch_fault, names_fault, ports_fault, row_fault, subckt_fault};
 ghost use Rattle.blif_read.specs.Refusals.{refusal_of};
 ghost use Rattle.tl_fault.specs.OrMemory.{OrMemory};
-ghost use Rattle.blif_read.specs.Reading.{body_read, flushed, fresh, latch_of, names_read, place_of_cover, row_read, subckt_of};
+ghost use Rattle.blif_read.specs.Reading.{body_read, commands_with, flushed, fresh, latch_of, model_line_fault, names_read, place_of_cover, row_read, subckt_of};
 ghost use Rattle.blif_read.specs.Reading.{model_after as after};
-ghost use Rattle.blif_read.specs.Inside.{commands_with, model_line_fault};
 
 use crate::blif_err::BlifErr;
 use crate::connections::subckt_line;

@@ -1,15 +1,28 @@
 -- Evaluating a flat circuit in its order gives each cover the value of any map that fits, by the numbers of the nets.
-use Rattle.netlist.proofs.Common.{◌≡◌, ℕ, Bool, false, List, [], ◌∷◌, map, Some, refl, sym, ap, ap₂, ◌∙◌, subst, inl, inr, unwrap_or, ◌<◌, eqb, length, replicate, Option, ◌⊎◌, arith, slice_set, slice_get, option_and_then, In, both_ways, cases_Bool, length-set, length-replicate, same_Some, slice_get_within, at_within, set_here, set_other, zero, suc, true, subst₂, option_map, cond-true, cond-false, length-map, none-some, slice_get-map, In-left, In-right, In-get, AreApart, reversed_in, nodes_done, CoverValue, LibraryValue, FlatCoverValue, FlatValue, Runs}
-use Rattle.netlist.specs.{cover_value, ModelValue, Path, body_at, CoverAt, input_net, latch_net, cover_net, Place, cover_in, FlatNet, Fits, an_input, a_latch, a_cover, IsNetOf, AreNetsOf, cover_numbers, IsFlat, reads_at, inputs_at, IsFlatCover, net_value, AreGiven, cover_behind, value_of, gate_value, evaluated, flat_values, Evaluates, same_place, latch_at, is_latch, FlatOrder, OutPort, FlatLatch, flat_roots, IsFlatLatch, init_state, inits_of, state_of, next_state, next_states, IsCycle, stops, steps, IsRun, flat_outputs, flat_next, flat_inits, run_outputs, run_states, input_values, HasCycles, IsSound, latch_nets}
-use Rattle.std.proofs.Common.{eqb-true, eq-eqb}
-use Rattle.std.proofs.lemmas.Simd.{map-map}
+use Rattle.netlist.proofs.Common.{◌≡◌, ℕ, Bool, false, List, [], ◌∷◌, map, Some, refl, sym, ap, ap₂, ◌∙◌, subst, inl, inr, unwrap_or, ◌<◌, eqb, length, replicate, Option, ◌⊎◌, arith, slice_set, slice_get, option_and_then, In, both_ways, cases_Bool, length-set, length-replicate, same_Some, slice_get_within, at_within, set_here, set_other, zero, suc, true, subst₂, option_map, cond-true, cond-false, length-map, none-some, slice_get-map, In-left, In-right, In-get, AreApart, reversed_in, nodes_done, In-map, same_list, mapped_at, not, filter, or_left, not-true, In-filter, has_name, IsMainInput, IsClock, CoverValue, LibraryValue, FlatCoverValue, FlatValue, Runs, eqb-true, eq-eqb}
 use Rattle.netlist.specs.Flat.{Places, none, more}
+use Rattle.netlist.specs.{cover_value, ModelValue, Path, body_at, CoverAt, input_net, latch_net, cover_net, Place, cover_in, FlatNet, Fits, an_input, a_latch, a_cover, IsNetOf, AreNetsOf, cover_numbers, IsFlat, reads_at, inputs_at, IsFlatCover, net_value, AreGiven, cover_behind, value_of, gate_value, evaluated, flat_values, Evaluates, same_place, latch_at, is_latch, FlatOrder, OutPort, FlatLatch, flat_roots, IsFlatLatch, init_state, inits_of, state_of, next_state, next_states, IsCycle, stops, steps, IsRun, flat_outputs, flat_next, flat_inits, run_outputs, run_states, input_values, HasCycles, IsSound, latch_nets}
+use Rattle.std.proofs.lemmas.Simd.{map-map}
 use Rattle.netlist.specs.declared.flat.Net.TheVariants.{Input, Latch, Cover}
 use Rattle.netlist.proofs.OrderLemmas.{order_once, places_apart}
-use Rattle.netlist.proofs.RegularLemmas.{regular}
+use Rattle.tl_text.proofs.NameSetLemmas.{in_has}
 use Rattle.netlist.proofs.PlaceLemmas.{latch_at-some, cover_at-is, same_place-is, same_place-refl}
 use Rattle.netlist.proofs.LawLemmas.{IsDriverValue, driven_value, sound_law}
 use Rattle.netlist.proofs.PostLemmas.{nodes_after, IsForward, reversed_forward}
+
+-- the inputs of a flat circuit are main inputs, and no clock nets
+record IsRegular (library : LibraryValue) (name : List ℕ) : Type 0 where
+  input : IsMainInput library name
+  off : IsClock library name → ⊥
+
+regular : (library : LibraryValue) (flat : FlatValue) (f : IsFlat library flat) (j : ℕ) (name : List ℕ) → slice_get flat.inputs j ≡ Some name → IsRegular library name
+regular library flat f j name e =
+    let i : In flat.inputs name = In-get flat.inputs j name e in
+    let r = In-filter (λ y. not (f.test y)) (f.main).inputs name (subst (λ l. In l name) f.inputs i) in
+    record {
+      input = record { model = f.main; at = f.is_main; is = or_left (has_name (f.main).inputs name) (has_name (f.main).clocks name) (in_has (f.main).inputs name r.0) };
+      off = (f.tells).no name (not-true (f.test name) r.1);
+    }
 
 -- the value of the cover at a place is known
 abbrev pub IsKnown : LibraryValue → Places → (Path → List ℕ → Bool) → List Bool → ℕ → Type 0
@@ -26,6 +39,11 @@ pub cover_later : (net : FlatNet) (nets : List FlatNet) (m : ℕ) → In (cover_
 cover_later (Input j) nets m i = i
 cover_later (Latch j) nets m i = i
 cover_later (Cover j) nets m i = inr i
+
+cover_among : (net : FlatNet) (nets : List FlatNet) (m : ℕ) → In nets net → In (cover_numbers (net ∷ [])) m → In (cover_numbers nets) m
+cover_among net [] m i j = absurd i
+cover_among net (first ∷ nets) m (inl e) j = cover_first first nets m (subst (λ y. In (cover_numbers (y ∷ [])) m) e j)
+cover_among net (first ∷ nets) m (inr i) j = cover_later first nets m (cover_among net nets m i j)
 
 module _ (library : LibraryValue) (flat : FlatValue) (f : IsFlat library flat) (x : List ℕ → Bool) (s : Path → ℕ → Bool) (xs ss : List Bool) (value : Path → List ℕ → Bool)
     (given : AreGiven flat f.at x s xs ss) (fits : Fits library x s value) where
@@ -61,6 +79,14 @@ pub behind_is : (library : LibraryValue) (at : Places) (p : Place) (c : FlatCove
 behind_is library at p c i =
     ap₂ (λ (o : Option ModelValue) (n : ℕ). option_and_then (λ (m : ModelValue). option_and_then cover_in (body_at m n)) o) i.model i.command
     ∙ cover_at-is library p.path p.command i.cover i.is
+
+-- of lists as long as each other whose elements give the same, place by place
+same_maps : {A B C : Type 0} (f : A → C) (g : B → C) (xs : List A) (ys : List B) → length ys ≡ length xs
+    → ((k : ℕ) (x : A) (y : B) → slice_get xs k ≡ Some x → slice_get ys k ≡ Some y → f x ≡ g y) → map f xs ≡ map g ys
+same_maps f g xs ys e h = same_list (map f xs) (map g ys) (length-map xs f ∙ sym e ∙ sym (length-map ys g)) (λ k a b p q.
+    let x = mapped_at f xs k a p in
+    let y = mapped_at g ys k b q in
+    x.2 ∙ h k x.0 y.0 x.1 y.1 ∙ sym y.2)
 
 done_next : (j k : ℕ) (ks done : List ℕ) → In done j ⊎ In (k ∷ ks) j → In (k ∷ done) j ⊎ In ks j
 done_next j k ks done (inl i) = inl (inr i)
@@ -175,34 +201,21 @@ module _ (library : LibraryValue) (flat : FlatValue) (f : IsFlat library flat) (
       ∙ sym (numbers_value library flat f x state xs s c.value given fits values [] f.outputs (λ m i. root_known m (In-left (cover_numbers (map (λ (o : OutPort). o.net) flat.outputs)) (cover_numbers (latch_nets flat.latches)) m i)))
       ∙ map-map (net_value xs s values) (λ (o : OutPort). o.net) flat.outputs
 
-  next_at : (ps : List Place) (ls : List FlatLatch) → length ls ≡ length ps → ((k : ℕ) (p : Place) (l : FlatLatch) → slice_get ps k ≡ Some p → slice_get ls k ≡ Some l → IsFlatLatch library f.at p l)
-      → ((m : ℕ) → In (cover_numbers (latch_nets ls)) m → IsKnown library f.at c.value values m)
-      → map (λ (p : Place). next_state (c.value p.path) (latch_at library p)) ps ≡ map (λ (l : FlatLatch). net_value xs s values l.input) ls
-  next_at [] [] e are known = refl
-  next_at [] (l ∷ ls) e are known = absurd (omega arith)
-  next_at (p ∷ ps) [] e are known = absurd (omega arith)
-  next_at (p ∷ ps) (l ∷ ls) e are known =
-      let i : IsFlatLatch library f.at p l = are 0 p l refl refl in
-      ap₂ (λ (b : Bool) (bs : List Bool). b ∷ bs)
-      (ap (next_state (c.value p.path)) (latch_at-some library p i.latch i.is)
-      ∙ sym (number_value library flat f x state xs s c.value given fits values p.path (i.latch).input l.input i.input (λ k j. known k (cover_first l.input (latch_nets ls) k j))))
-      (next_at ps ls (omega (arith, e)) (λ k q r a b. are (suc k) q r a b) (λ k j. known k (cover_later l.input (latch_nets ls) k j)))
-
   next_same : next ≡ flat_next library flat xs s
   next_same =
       c.next_are ∙ ap (map (λ (p : Place). next_state (c.value p.path) (latch_at library p))) latches_same
-      ∙ next_at (f.at).latches flat.latches f.latch_count f.latches (λ m i. root_known m (In-right (cover_numbers (map (λ (o : OutPort). o.net) flat.outputs)) (cover_numbers (latch_nets flat.latches)) m i))
+      ∙ same_maps (λ (p : Place). next_state (c.value p.path) (latch_at library p)) (λ (l : FlatLatch). net_value xs s values l.input) (f.at).latches flat.latches f.latch_count (λ k p l a b.
+      let i : IsFlatLatch library f.at p l = f.latches k p l a b in
+      ap (next_state (c.value p.path)) (latch_at-some library p i.latch i.is)
+      ∙ sym (number_value library flat f x state xs s c.value given fits values p.path (i.latch).input l.input i.input
+      (λ m j. root_known m (In-right (cover_numbers (map (λ (o : OutPort). o.net) flat.outputs)) (cover_numbers (latch_nets flat.latches)) m
+      (cover_among l.input (latch_nets flat.latches) m (In-map (λ (l : FlatLatch). l.input) flat.latches l (In-get flat.latches k l b)) j)))))
 
 module _ (library : LibraryValue) (flat : FlatValue) (f : IsFlat library flat) where
   -- the flat latches' inits are the latches'
-  inits_at : (ps : List Place) (ls : List FlatLatch) → length ls ≡ length ps → ((k : ℕ) (p : Place) (l : FlatLatch) → slice_get ps k ≡ Some p → slice_get ls k ≡ Some l → IsFlatLatch library f.at p l)
-      → inits_of library ps ≡ map (λ (l : FlatLatch). l.init) ls
-  inits_at [] [] e are = refl
-  inits_at [] (l ∷ ls) e are = absurd (omega arith)
-  inits_at (p ∷ ps) [] e are = absurd (omega arith)
-  inits_at (p ∷ ps) (l ∷ ls) e are =
-      let i : IsFlatLatch library f.at p l = are 0 p l refl refl in
-      ap₂ (λ (b : Bool) (bs : List Bool). b ∷ bs) (ap init_state (latch_at-some library p i.latch i.is) ∙ sym i.init) (inits_at ps ls (omega (arith, e)) (λ k q r a b. are (suc k) q r a b))
+  inits_same : inits_of library (f.at).latches ≡ flat_inits flat
+  inits_same = same_maps (λ (p : Place). init_state (latch_at library p)) (λ (l : FlatLatch). l.init) (f.at).latches flat.latches f.latch_count
+      (λ k p l a b. let i : IsFlatLatch library f.at p l = f.latches k p l a b in ap init_state (latch_at-some library p i.latch i.is) ∙ sym i.init)
 
   runs_outputs : {s : List Bool} {xs : List (List ℕ → Bool)} {outputs states : List (List Bool)} → Runs library s xs outputs states → outputs ≡ run_outputs library flat s (map (input_values flat) xs)
   runs_outputs stops = refl
@@ -220,7 +233,7 @@ module _ (library : LibraryValue) (flat : FlatValue) (f : IsFlat library flat) w
   run_inits r =
       let m : r.main ≡ f.main = same_Some r.main f.main (sym (r.are_latches).at ∙ f.is_main) in
       let l : r.latches ≡ (f.at).latches = order_once library is_latch (subst (λ y. FlatOrder library is_latch [] y r.latches) m (r.are_latches).order) f.latches_order in
-      ap (inits_of library) l ∙ inits_at (f.at).latches flat.latches f.latch_count f.latches
+      ap (inits_of library) l ∙ inits_same
 
   -- in a sound library the flat circuit's cycle is one of the library
   module _ (sound : IsSound library) where
@@ -256,7 +269,7 @@ module _ (library : LibraryValue) (flat : FlatValue) (f : IsFlat library flat) w
       latches = (f.at).latches;
       are_latches = record { at = f.is_main; order = f.latches_order };
       runs = subst (λ s. Runs library s xs (run_outputs library flat (flat_inits flat) (map (input_values flat) xs)) (run_states library flat (flat_inits flat) (map (input_values flat) xs)))
-          (sym (inits_at (f.at).latches flat.latches f.latch_count f.latches)) (runs_exist (flat_inits flat) xs (length-map flat.latches (λ (l : FlatLatch). l.init)));
+          (sym inits_same) (runs_exist (flat_inits flat) xs (length-map flat.latches (λ (l : FlatLatch). l.init)));
     }
 
     pub flat_cycles : HasCycles library flat

@@ -1,11 +1,10 @@
 -- The values of nets and of covers, under values of the main inputs, the latches and the covers.
-use Rattle.netlist.proofs.Common.{◌≡◌, ℕ, Bool, false, List, [], ◌∷◌, map, Option, Some, None, refl, ap, ap₂, inl, inr, In, sym, ◌∙◌, subst, ◌⊎◌, IsTrue, CoverValue, LibraryValue}
-use Rattle.netlist.specs.{cover_value, Path, Net, input_net, latch_net, cover_net, Place, cover_at, with_cover, covers_among, reads_in, reads_of, Pair, is_input, is_output, CoverAt, ConnectionAt, IsMainInput, Drives, main_input, latch_output, cover_output, from_inside, from_outside, IsClock, input_actual, model_output, IsRead, cover_input, same_place, Fits, AreNets, Ordered, IsSound, HasOneCycle}
+use Rattle.netlist.proofs.Common.{◌≡◌, ℕ, Bool, false, List, [], ◌∷◌, map, Option, Some, None, refl, ap, ap₂, inl, inr, In, sym, ◌∙◌, subst, ◌⊎◌, IsTrue, CoverValue, LibraryValue, cover_value, Path, Net, input_net, latch_net, cover_net, Place, cover_at, with_cover, covers_among, reads_in, reads_of, Pair, is_input, is_output, CoverAt, ConnectionAt, IsMainInput, Drives, main_input, latch_output, cover_output, from_inside, from_outside, IsClock, input_actual, model_output, IsRead, cover_input, same_place, Fits, AreNets, Ordered, IsSound, HasOneCycle}
 use Rattle.netlist.proofs.ControlLemmas.{is_clock}
 use Rattle.netlist.proofs.NetLemmas.{nets, are_nets}
 use Rattle.netlist.proofs.PlaceLemmas.{place_of, same_place-is, same_place-refl, cover_at-is, child_at}
 use Rattle.netlist.proofs.NameLemmas.{Decided}
-use Rattle.netlist.proofs.LoopLemmas.{covers_ordered}
+use Rattle.netlist.proofs.LoopLemmas.{covers_ordered, IsOfNet, of_net}
 use Rattle.netlist.proofs.PostLemmas.{evaluated, evaluated-rule, rules_agree}
 
 -- the value of a main input: 0 of a clock, and else what is given
@@ -143,23 +142,18 @@ module _ (library : LibraryValue) (net : Path → List ℕ → Option Net) (nets
   main_value value f name m = elim (clock name) as (λ d. value [] name ≡ input_value (x name) d) [ inl on ↦ f.clocks name m on | inr off ↦ f.inputs name m off ]
 
   -- a map that fits has at each driven name the value of its net
-  drives_value : (value : Path → List ℕ → Bool) → Fits library x s value → {path : Path} {name : List ℕ} {e : Net} → Drives library path name e
+  drives_value : (value : Path → List ℕ → Bool) → Fits library x s value → {path : Path} {name : List ℕ} (e : Net) → Drives library path name e
       → value path name ≡ net_value inputs s (outputs library value) (Some e)
-  drives_value value f {path} {name} (main_input p m q) = subst (λ e. value path name ≡ net_value inputs s (outputs library value) (Some e)) (sym q)
-      (ap (λ r. value r name) p ∙ main_value value f name m)
-  drives_value value f {path} {name} (latch_output i l a p q) = subst (λ e. value path name ≡ net_value inputs s (outputs library value) (Some e)) (sym q)
-      (ap (value path) p ∙ f.latches path i l a)
-  drives_value value f {path} {name} (cover_output i c a p q) = subst (λ e. value path name ≡ net_value inputs s (outputs library value) (Some e)) (sym q)
-      (ap (value path) p ∙ ap (output_in (value path)) (sym (cover_at-is library path i c a)))
-  drives_value value f {path} (from_inside k pair a out p t) = ap (value path) p ∙ f.connections path k pair a ∙ drives_value value f t
-  drives_value value f (from_outside k outer pair a i p q t) = ap₂ value p q ∙ sym (f.connections outer k pair a) ∙ drives_value value f t
+  drives_value value f (input_net own) t = driven_value library x s value f t ∙ main_value value f own (of_net library t)
+  drives_value value f (latch_net own i) t = driven_value library x s value f t
+  drives_value value f (cover_net own i) t = let d = driven_value library x s value f t in d.is ∙ ap (output_in (value own)) (sym (cover_at-is library own i d.cover d.at))
 
   names_value : (value : Path → List ℕ → Bool) → Fits library x s value → (path : Path) (names : List (List ℕ)) → ((name : List ℕ) → In names name → IsRead library path name)
       → map (value path) names ≡ values_in inputs s (net path) (outputs library value) names
   names_value value f path [] h = refl
   names_value value f path (name ∷ names) h =
       let r = nets.reads path name (h name (inl refl)) in
-      ap₂ (λ (b : Bool) (bs : List Bool). b ∷ bs) (drives_value value f r.1 ∙ ap (net_value inputs s (outputs library value)) (sym (nets.finds path name r.0 r.1)))
+      ap₂ (λ (b : Bool) (bs : List Bool). b ∷ bs) (drives_value value f r.0 r.1 ∙ ap (net_value inputs s (outputs library value)) (sym (nets.finds path name r.0 r.1)))
       (names_value value f path names (λ other i. h other (inr i)))
 
   -- so it gives each cover its value over the nets of its inputs
@@ -172,28 +166,15 @@ module _ (library : LibraryValue) (net : Path → List ℕ → Option Net) (nets
       ∙ ap (cover_value c) (names_value value f p.path c.inputs (λ name j. cover_input p.command c a j))
       ∙ ap (λ o. value_in inputs s (net p.path) o (outputs library value)) (sym e)
 
-  abbrev IsOrdered : Net → Type 0
-  IsOrdered (input_net name) = Unit {0}
-  IsOrdered (latch_net path i) = Unit {0}
-  IsOrdered (cover_net path i) = In ordered.order (place_of path i)
-
-  is_ordered : {path : Path} {name : List ℕ} {e : Net} → Drives library path name e → IsOrdered e
-  is_ordered (main_input p m q) = subst IsOrdered (sym q) tt
-  is_ordered (latch_output i l a p q) = subst IsOrdered (sym q) tt
-  is_ordered {path} (cover_output i c a p q) = subst IsOrdered (sym q) (ordered.all path i c a)
-  is_ordered (from_inside k pair a out p t) = is_ordered t
-  is_ordered (from_outside k outer pair a i p q t) = is_ordered t
-
-  net_agree : (v w : Place → Bool) → ((p : Place) → In ordered.order p → v p ≡ w p) → (e : Net) → IsOrdered e → net_value inputs s v (Some e) ≡ net_value inputs s w (Some e)
-  net_agree v w h (input_net name) i = refl
-  net_agree v w h (latch_net path k) i = refl
-  net_agree v w h (cover_net path k) i = h (place_of path k) i
+  net_agree : (v w : Place → Bool) → ((p : Place) → In ordered.order p → v p ≡ w p) → (e : Net) → IsOfNet library e → net_value inputs s v (Some e) ≡ net_value inputs s w (Some e)
+  net_agree v w h (cover_net path k) c = h (place_of path k) (ordered.all path k c.0 c.1)
+  net_agree v w h e c = refl
 
   pub fits_agree : (value other : Path → List ℕ → Bool) → Fits library x s value → Fits library x s other → (path : Path) (name : List ℕ) (e : Net) → Drives library path name e → value path name ≡ other path name
-  fits_agree value other f g path name e t = drives_value value f t
+  fits_agree value other f g path name e t = drives_value value f e t
       ∙ net_agree (outputs library value) (outputs library other) (rules_agree same_place same_place-is same_place-refl (reads_of library net) (value_at library net inputs s)
-      (λ p v w. value_at-local inputs s v w library net p) ordered.order (outputs library value) (outputs library other) ordered.after (outputs-rule value f) (outputs-rule other g)) e (is_ordered t)
-      ∙ sym (drives_value other g t)
+      (λ p v w. value_at-local inputs s v w library net p) ordered.order (outputs library value) (outputs library other) ordered.after (outputs-rule value f) (outputs-rule other g)) e (of_net library t)
+      ∙ sym (drives_value other g e t)
 
 -- a map that fits exists, and any two agree on every driven name
 pub sound_law : (library : LibraryValue) → IsSound library → HasOneCycle library

@@ -12,6 +12,5 @@ pub mod OrderLemmas
 pub mod PlaceLemmas
 pub mod PostLemmas
 pub mod RunLemmas
-mod RegularLemmas
 mod Worked
 pub mod UnderscoreLemmas

@@ -1,9 +1,9 @@
 -- Loops of covers: none depends on itself exactly where the walk meets none again, and then they have an order in which each comes after those that it reads.
-use Rattle.netlist.proofs.Common.{◌≡◌, ℕ, List, [], ◌∷◌, Option, Some, None, refl, sym, ap, ◌∙◌, subst, inl, inr, ◌⊎◌, true, ◌++◌, In, both_ways, cases_Bool, false≢true, In-right, In-append, own_of, ModelValue, Body, Cover, Latch, Subckt, LatchValue, Path, body_at, model_at, CoverAt, Net, input_net, latch_net, cover_net, Drives, main_input, latch_output, cover_output, from_inside, from_outside, Place, same_place, cover_at, latch_at, is_cover, is_latch, FlatOrder, IsDriven, AreNets, with_cover, covers_among, reads_in, reads_of, ReadsCover, Depends, direct, through, Ordered, latch_covers, all_latch_covers, roots_of, LoopWalk, CoverValue, LibraryValue}
+use Rattle.netlist.proofs.Common.{◌≡◌, ℕ, List, [], ◌∷◌, Option, Some, None, refl, sym, ap, ◌∙◌, subst, inl, inr, ◌⊎◌, true, ◌++◌, In, both_ways, cases_Bool, false≢true, In-right, In-append, own_of, ModelValue, Body, Cover, Latch, Subckt, LatchValue, Path, body_at, model_at, CoverAt, Net, IsMainInput, input_net, latch_net, cover_net, Drives, main_input, latch_output, cover_output, from_inside, from_outside, Place, same_place, cover_at, latch_at, is_cover, is_latch, FlatOrder, IsDriven, AreNets, with_cover, covers_among, reads_in, reads_of, ReadsCover, Depends, direct, through, Ordered, latch_covers, all_latch_covers, roots_of, LoopWalk, CoverValue, LibraryValue}
 use Rattle.netlist.proofs.NetLemmas.{same_nets}
 use Rattle.netlist.proofs.OrderLemmas.{flat_all, order_exists, IsOfKind, flat_only}
 use Rattle.netlist.proofs.PlaceLemmas.{cover_at-is, place_of, same_place-is, same_place-refl}
-use Rattle.netlist.proofs.NameLemmas.{Decided}
+use Rattle.netlist.proofs.NameLemmas.{Decided, find_member}
 use Rattle.netlist.proofs.MeetLemmas.{meets_none, meets_clean}
 use Rattle.netlist.proofs.PostLemmas.{Reaches, at_once, further}
 
@@ -14,21 +14,17 @@ module _ (library : LibraryValue) (net : Path → List ℕ → Option Net) (nets
     member : In names name
     is : net path name ≡ Some (cover_net q.path q.command)
 
-  later : (path : Path) (name : List ℕ) (names : List (List ℕ)) (q : Place) → IsAmong path names q → IsAmong path (name ∷ names) q
-  later path name names q a = record { name = a.name; member = inr a.member; is = a.is }
-
-  with_among : (path : Path) (name : List ℕ) (names : List (List ℕ)) (q : Place) (o : Option Net) → net path name ≡ o → (places : List Place) → (In places q → IsAmong path names q)
-      → In (with_cover o places) q → IsAmong path (name ∷ names) q
-  with_among path name names q None e places rest i = later path name names q (rest i)
-  with_among path name names q (Some (input_net own)) e places rest i = later path name names q (rest i)
-  with_among path name names q (Some (latch_net own k)) e places rest i = later path name names q (rest i)
-  with_among path name names q (Some (cover_net own k)) e places rest (inr i) = later path name names q (rest i)
-  with_among path name names q (Some (cover_net own k)) e places rest (inl s) =
-      record { name = name; member = inl refl; is = e ∙ ap (λ (p : Place). Some (cover_net p.path p.command)) (sym s) }
+  with_cases : (o : Option Net) (places : List Place) (q : Place) → In (with_cover o places) q → (o ≡ Some (cover_net q.path q.command)) ⊎ In places q
+  with_cases (Some (cover_net own k)) places q (inl s) = inl (ap (λ (p : Place). Some (cover_net p.path p.command)) (sym s))
+  with_cases (Some (cover_net own k)) places q (inr i) = inr i
+  with_cases o places q i = inr i
 
   among : (path : Path) (names : List (List ℕ)) (q : Place) → In (covers_among (net path) names) q → IsAmong path names q
   among path [] q i = absurd i
-  among path (name ∷ names) q i = with_among path name names q (net path name) refl (covers_among (net path) names) (among path names q) i
+  among path (name ∷ names) q i = elim (with_cases (net path name) (covers_among (net path) names) q i) [
+    | inl e ↦ record { name = name; member = inl refl; is = e }
+    | inr j ↦ (let a = among path names q j in record { name = a.name; member = inr a.member; is = a.is })
+  ]
 
   reads_cover : (p q : Place) (c : CoverValue) → CoverAt library p.path p.command c → In (reads_of library net p) q → ReadsCover library p q
   reads_cover p q c a i =
@@ -49,41 +45,32 @@ one_place p q = elim (cases_Bool (same_place p q)) [
 ]
 
 pub has_cover_place : (ps : List Place) (p : Place) → In ps p ⊎ (In ps p → ⊥)
-has_cover_place [] p = inr (λ i. i)
-has_cover_place (q ∷ ps) p = elim (one_place p q) [
-  | inl e ↦ inl (inl e)
-  | inr n ↦ (elim (has_cover_place ps p) [ inl i ↦ inl (inr i) | inr o ↦ inr (λ h. elim h [ inl e ↦ n e | inr i ↦ o i ]) ])
+has_cover_place ps p = elim (find_member (λ q. q ≡ p) ps (λ q. one_place q p)) [
+  | inl m ↦ inl (subst (In ps) m.is m.member)
+  | inr o ↦ inr (λ i. o (record { item = p; member = i; is = refl }))
 ]
 
 module _ (library : LibraryValue) where
   abbrev pub HasCover : Place → Type 0
   HasCover p = (c : CoverValue) × CoverAt library p.path p.command c
 
-  -- the net of a cover has a cover
-  abbrev IsOfCover : Net → Type 0
-  IsOfCover (input_net name) = Unit {0}
-  IsOfCover (latch_net path i) = Unit {0}
-  IsOfCover (cover_net path i) = HasCover (place_of path i)
+  -- the net of an input has a main input, and that of a cover has a cover
+  abbrev pub IsOfNet : Net → Type 0
+  IsOfNet (input_net name) = IsMainInput library name
+  IsOfNet (latch_net path i) = Unit {0}
+  IsOfNet (cover_net path i) = HasCover (place_of path i)
 
-  of_cover : {path : Path} {name : List ℕ} {e : Net} → Drives library path name e → IsOfCover e
-  of_cover (main_input p m q) = subst IsOfCover (sym q) tt
-  of_cover (latch_output i l a p q) = subst IsOfCover (sym q) tt
-  of_cover (cover_output i c a p q) = subst IsOfCover (sym q) (c, a)
-  of_cover (from_inside k pair a out p t) = of_cover t
-  of_cover (from_outside k outer pair a i p q t) = of_cover t
-
-  covers_with : (o : Option Net) (places : List Place) (q : Place) → ((e : Net) → o ≡ Some e → IsOfCover e) → (In places q → HasCover q) → In (with_cover o places) q → HasCover q
-  covers_with None places q h rest i = rest i
-  covers_with (Some (input_net name)) places q h rest i = rest i
-  covers_with (Some (latch_net path k)) places q h rest i = rest i
-  covers_with (Some (cover_net path k)) places q h rest (inl e) = subst HasCover (sym e) (h (cover_net path k) refl)
-  covers_with (Some (cover_net path k)) places q h rest (inr i) = rest i
+  pub of_net : {path : Path} {name : List ℕ} {e : Net} → Drives library path name e → IsOfNet e
+  of_net (main_input p m q) = subst IsOfNet (sym q) m
+  of_net (latch_output i l a p q) = subst IsOfNet (sym q) tt
+  of_net (cover_output i c a p q) = subst IsOfNet (sym q) (c, a)
+  of_net (from_inside k pair a out p t) = of_net t
+  of_net (from_outside k outer pair a i p q t) = of_net t
 
   module _ (net : Path → List ℕ → Option Net) (nets : AreNets library net) where
     -- the covers among nets are covers, so those that are read are, and the roots
     among_covers : (path : Path) (names : List (List ℕ)) (q : Place) → In (covers_among (net path) names) q → HasCover q
-    among_covers path [] q i = absurd i
-    among_covers path (name ∷ names) q i = covers_with (net path name) (covers_among (net path) names) q (λ e f. of_cover (nets.drives path name e f)) (among_covers path names q) i
+    among_covers path names q i = let a = among library net nets path names q i in of_net (nets.drives path a.name (cover_net q.path q.command) a.is)
 
     in_covers : (path : Path) (o : Option CoverValue) (q : Place) → In (reads_in (net path) o) q → HasCover q
     in_covers path None q i = absurd i

@@ -17,24 +17,6 @@ module _ {N : Type 0} (next : N → List N) where
   found_append {path} {xs} (first n rest d q w t) c e ys = subst (λ x. MeetsAll next path (x ++ ys) (Some c)) (sym q) (first n (rest ++ ys) d refl w (sym e ∙ t))
   found_append {path} {xs} (later n rest q w ws) c e ys = subst (λ x. MeetsAll next path (x ++ ys) (Some c)) (sym q) (later n (rest ++ ys) refl w (found_append ws c e ys))
 
--- the first of several edges to nodes
-record IsFirst {S : Type 0} (ns : List ℕ) (n : ℕ) (rest : List (Way ℕ S)) : Type 0 where
-  others : List ℕ
-  are : ns ≡ n ∷ others
-  rest_is : rest ≡ leads_to others
-
-first_node : {S : Type 0} (ns : List ℕ) (n : ℕ) (rest : List (Way ℕ S)) → leads_to ns ≡ leads n ∷ rest → IsFirst ns n rest
-first_node [] n rest e = absurd (cc)
-first_node (m ∷ ms) n rest e = record { others = ms; are = ap (λ k. k ∷ ms) (cc); rest_is = cc }
-
-no_nodes : {S : Type 0} (ns : List ℕ) → leads_to {S = S} ns ≡ [] → ns ≡ []
-no_nodes [] e = refl
-no_nodes (n ∷ ns) e = absurd (cc)
-
-no_stop : {S : Type 0} (ns : List ℕ) (s : S) (rest : List (Way ℕ S)) → leads_to ns ≡ stops s ∷ rest → ⊥
-no_stop [] s rest e = cc
-no_stop (n ∷ ns) s rest e = cc
-
 -- a walk along edges that lead to nodes alone comes to a node that is met again, or to no end
 module _ {S : Type 0} (ways : ℕ → List (Way ℕ S)) (next : ℕ → List ℕ) (same : (n : ℕ) → ways n ≡ leads_to (next n)) where
   abbrev Met : List ℕ → ℕ → Option (Ending ℕ S) → Type 0
@@ -67,12 +49,18 @@ module _ {S : Type 0} (ways : ℕ → List (Way ℕ S)) (next : ℕ → List ℕ
     node_met {path} {n} {r} (goes_by off w) = goes_met path n r off (nodes_met w (next n) (same n))
 
     pub nodes_met : {path : List ℕ} {ws : List (Way ℕ S)} {r : Option (Ending ℕ S)} → MeetAllBy ways path ws r → (ns : List ℕ) → ws ≡ leads_to ns → MetAll path ns r
-    nodes_met {path} (none_by e q) ns z = subst (MetAll path ns) (sym q) (none (no_nodes ns (sym z ∙ e)) refl)
-    nodes_met (stop_by s rest e q) ns z = absurd (no_stop ns s rest (sym z ∙ e))
-    nodes_met {path} (first_by n rest end e w q) ns z =
-        let f = first_node ns n rest (sym z ∙ e) in subst (MetAll path ns) (sym q) (first_met path ns n f.others end f.are (node_met w))
-    nodes_met {path} {r = r} (later_by n rest e w ws) ns z =
-        let f = first_node ns n rest (sym z ∙ e) in later_met path ns n f.others r f.are (node_met w) (nodes_met ws f.others f.rest_is)
+    nodes_met {path} (none_by e q) [] z = subst (MetAll path []) (sym q) (none refl refl)
+    nodes_met (none_by e q) (m ∷ ms) z = absurd (cc)
+    nodes_met (stop_by s rest e q) [] z = absurd (cc)
+    nodes_met (stop_by s rest e q) (m ∷ ms) z = absurd (cc)
+    nodes_met (first_by n rest end e w q) [] z = absurd (cc)
+    nodes_met {path} (first_by n rest end e w q) (m ∷ ms) z =
+        let same : m ≡ n = cc in subst (MetAll path (m ∷ ms)) (sym q) (first_met path (m ∷ ms) n ms end (ap (λ k. k ∷ ms) same) (node_met w))
+    nodes_met (later_by n rest e w ws) [] z = absurd (cc)
+    nodes_met {path} {r = r} (later_by n rest e w ws) (m ∷ ms) z =
+        let same : m ≡ n = cc in
+        let behind : rest ≡ leads_to ms = cc in
+        later_met path (m ∷ ms) n ms r (ap (λ k. k ∷ ms) same) (node_met w) (nodes_met ws ms behind)
 
 -- Walks and what they meet again: one of nodes is one of the nodes that they stand for, and where none leads to itself, they meet none and give an order.
 -- nodes are told apart, and P holds of what a node goes to where it holds of the node

@@ -1,5 +1,5 @@
 -- Names and other members of lists: what can be decided of them, and lists that are taken apart in two ways.
-use Rattle.netlist.proofs.Common.{◌≡◌, ℕ, zero, suc, List, [], ◌∷◌, Some, refl, sym, subst, inl, inr, ◌⊎◌, bytes_eq, Option, None, ap, ◌∙◌, true, not, slice_get, filter, both_ways, cases_Bool, or_cases, or_left, or_right, not_from_false, none-some, same_Some, bytes_decides, In, In-left, In-right, In-append, ◌+◌, ◌<◌, ◌||◌, ◌++◌, get_or, if◌then◌else◌, slice_get-get_or, All, In-get, ModelValue, has_name, is_input, inputs_of, AreOnce, model_names, In-filter, in_filter}
+use Rattle.netlist.proofs.Common.{◌≡◌, ℕ, zero, suc, List, [], ◌∷◌, Some, refl, sym, subst, inl, inr, ◌⊎◌, bytes_eq, Option, None, ap, ◌∙◌, true, not, slice_get, filter, both_ways, cases_Bool, or_cases, or_left, or_right, not_from_false, none-some, same_Some, bytes_decides, In, In-left, In-right, In-append, ◌+◌, ◌<◌, ◌||◌, ◌++◌, get_or, if◌then◌else◌, slice_get-get_or, All, In-get, ModelValue, has_name, is_input, inputs_of, AreOnce, model_names, In-filter, in_filter, place_in, apart_once, slice_get-map, option_map}
 pub use Rattle.tl_text.proofs.NameSetLemmas.{has_in, in_has}
 
 -- a type that has an element, or none
@@ -36,43 +36,27 @@ pub record Member {A : Type 0} (P : A → Type 0) (xs : List A) : Type 0 where
   pub member : In xs item
   pub is : P item
 
-no_member : {A : Type 0} (P : A → Type 0) (x : A) (xs : List A) → (P x → ⊥) → (Member P xs → ⊥) → (y : A) → In (x ∷ xs) y → P y → ⊥
-no_member P x xs n o y (inl e) p = n (subst P e p)
-no_member P x xs n o y (inr i) p = o (record { item = y; member = i; is = p })
-
 pub find_member : {A : Type 0} (P : A → Type 0) (xs : List A) → ((x : A) → Decided (P x)) → Decided (Member P xs)
-find_member P [] h = inr (λ f. f.member)
-find_member P (x ∷ xs) h = elim (h x) [
-  | inl p ↦ inl (record { item = x; member = inl refl; is = p })
-  | inr n ↦ (elim (find_member P xs h) [
-    | inl f ↦ inl (record { item = f.item; member = inr f.member; is = f.is })
-    | inr o ↦ inr (λ f. no_member P x xs n o f.item f.member f.is)
-  ])
+find_member P xs h = elim (find (λ i. P) xs (λ i. h)) [
+  | inl f ↦ inl (record { item = f.item; member = In-get xs f.index f.item f.at; is = f.is })
+  | inr o ↦ inr (λ m. let p = place_in xs m.item m.member in o (record { index = p.0; item = m.item; at = p.1; is = m.is }))
 ]
 
 module _ {A : Type 0} where
-  abbrev first_of : List A → Option A
-  first_of [] = None
-  first_of (x ∷ xs) = Some x
-
-  abbrev rest_of : List A → List A
-  rest_of [] = []
-  rest_of (x ∷ xs) = xs
-
   pub not_empty : {ns : List A} (x : A) (xs : List A) → ns ≡ [] → ns ≡ x ∷ xs → ⊥
-  not_empty x xs a b = none-some x (ap first_of (sym a ∙ b))
+  not_empty x xs a b = cc
 
   pub same_first : {ns : List A} (x y : A) (xs ys : List A) → ns ≡ x ∷ xs → ns ≡ y ∷ ys → x ≡ y
-  same_first x y xs ys a b = same_Some x y (ap first_of (sym a ∙ b))
+  same_first x y xs ys a b = cc
 
   pub same_rest : {ns : List A} (x y : A) (xs ys : List A) → ns ≡ x ∷ xs → ns ≡ y ∷ ys → xs ≡ ys
-  same_rest x y xs ys a b = ap rest_of (sym a ∙ b)
+  same_rest x y xs ys a b = cc
 
   pub cons_first : (x y : A) (xs ys : List A) → x ∷ xs ≡ y ∷ ys → x ≡ y
-  cons_first x y xs ys e = same_first x y xs ys refl e
+  cons_first x y xs ys e = cc
 
   pub cons_rest : (x y : A) (xs ys : List A) → x ∷ xs ≡ y ∷ ys → xs ≡ ys
-  cons_rest x y xs ys e = same_rest x y xs ys refl e
+  cons_rest x y xs ys e = cc
 
 -- the inputs of a model are the names that are inputs
 pub input_in : (m : ModelValue) (name : List ℕ) → is_input m name ≡ true → In (inputs_of m) name
@@ -89,17 +73,10 @@ in_input m name i = elim (In-append m.inputs (filter (λ n. not (has_name m.inpu
 ]
 
 -- models by their names
-name_at : (models : List ModelValue) (i : ℕ) (a : ModelValue) → slice_get models i ≡ Some a → In (model_names models) a.name
-name_at [] i a h = absurd (none-some a h)
-name_at (m ∷ ms) zero a h = inl (ap (λ (x : ModelValue). x.name) (sym (same_Some m a h)))
-name_at (m ∷ ms) (suc i) a h = inr (name_at ms i a h)
-
 pub same_number : (models : List ModelValue) (i j : ℕ) (a b : ModelValue) → AreOnce (model_names models) → slice_get models i ≡ Some a → slice_get models j ≡ Some b → a.name ≡ b.name → i ≡ j
-same_number [] i j a b once p q e = absurd (none-some a p)
-same_number (m ∷ ms) zero zero a b once p q e = refl
-same_number (m ∷ ms) zero (suc j) a b once p q e = absurd (once.0 (subst (In (model_names ms)) (sym e ∙ ap (λ (x : ModelValue). x.name) (sym (same_Some m a p))) (name_at ms j b q)))
-same_number (m ∷ ms) (suc i) zero a b once p q e = absurd (once.0 (subst (In (model_names ms)) (e ∙ ap (λ (x : ModelValue). x.name) (sym (same_Some m b q))) (name_at ms i a p)))
-same_number (m ∷ ms) (suc i) (suc j) a b once p q e = ap suc (same_number ms i j a b once.1 p q e)
+same_number models i j a b once p q e =
+    let name = λ (m : ModelValue). m.name in
+    apart_once (model_names models) i j a.name once (slice_get-map name models i ∙ ap (option_map name) p) (slice_get-map name models j ∙ ap (option_map name) q ∙ ap Some (sym e))
 
 -- what holds of the members holds of all elements
 pub all_members : {A : Type 0} (P : A → Type 0) (xs : List A) → ((x : A) → In xs x → P x) → All P xs

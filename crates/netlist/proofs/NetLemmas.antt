@@ -4,24 +4,6 @@ use Rattle.netlist.proofs.InstanceLemmas.{has_driver}
 use Rattle.netlist.proofs.PlaceLemmas.{child_at, child_placed}
 use Rattle.netlist.proofs.NameLemmas.{Decided}
 
-abbrev IsInner : Path → Type 0
-IsInner [] = ⊥
-IsInner (k ∷ outer) = Unit {0}
-
-abbrev outer_of : Path → Path
-outer_of [] = []
-outer_of (k ∷ outer) = outer
-
-abbrev ordinal_of : Path → ℕ
-ordinal_of [] = 0
-ordinal_of (k ∷ outer) = k
-
-abbrev IsNoInput : Driver → Type 0
-IsNoInput by_input = ⊥
-IsNoInput (by_latch i) = Unit {0}
-IsNoInput (by_cover i) = Unit {0}
-IsNoInput (by_subckt k formal) = Unit {0}
-
 -- an output is no input
 not_both : (m : ModelValue) (name : List ℕ) → IsTrue (is_input m name) → IsTrue (is_output m name) → ⊥
 not_both m name i o = both_ways (is_input m name) (not-true (is_input m name) (and_parts (not (is_input m name)) (has_name m.outputs name) o).0) i
@@ -33,9 +15,9 @@ module _ (library : LibraryValue) (driven : IsDriven library) where
   -- an output isn't driven by being an input
   pub no_input : (path : Path) (k : ℕ) (pair : Pair) (a : ConnectionAt library path k pair) → IsTrue (is_output a.child pair.formal) → (driver : Driver) → IsDriver library (k ∷ path) pair.formal driver → driver ≡ by_input → ⊥
   no_input path k pair a out driver (input at i q) e = not_both a.child pair.formal (subst (λ m. IsTrue (is_input m pair.formal)) (same_Some at.model a.child (sym at.at ∙ child_at library path k pair a)) i) out
-  no_input path k pair a out driver (latch i l at p q) e = subst IsNoInput (sym q ∙ e) tt
-  no_input path k pair a out driver (cover i c at p q) e = subst IsNoInput (sym q ∙ e) tt
-  no_input path k pair a out driver (output j r at o p q) e = subst IsNoInput (sym q ∙ e) tt
+  no_input path k pair a out driver (latch i l at p q) e = cc
+  no_input path k pair a out driver (cover i c at p q) e = cc
+  no_input path k pair a out driver (output j r at o p q) e = cc
 
   -- the net of a driver that is no input, inwards as far as the hierarchy goes
   net_inside : (m : ModelValue) → Ends library m → (path : Path) → model_at library path ≡ Some m → (name : List ℕ) (driver : Driver) → IsDriver library path name driver → (driver ≡ by_input → ⊥) → HasNet path name
@@ -56,7 +38,7 @@ module _ (library : LibraryValue) (driven : IsDriven library) where
   net_of_driver path name driver (latch i l a p q) = (latch_net path i, latch_output i l a p refl)
   net_of_driver path name driver (cover i c a p q) = (cover_net path i, cover_output i c a p refl)
   net_of_driver path name driver (output k pair a out p q) =
-      net_inside a.model (driven.finite path a.model a.at) path a.at name driver (output k pair a out p q) (λ e. subst IsNoInput (sym q ∙ e) tt)
+      net_inside a.model (driven.finite path a.model a.at) path a.at name driver (output k pair a out p q) (λ e. cc)
   net_of_driver [] name driver (input a i q) = (input_net name, main_input refl (record { model = a.model; at = a.at; is = i }) refl)
   net_of_driver (k ∷ outer) name driver (input a i q) =
       let c = driven.connected outer k a.model name a.at i in
@@ -103,13 +85,13 @@ module _ (library : LibraryValue) (driven : IsDriven library) where
   one_net (from_inside k pair a out p t) r = one_net t (through (by_subckt k pair.formal) (output k pair a out p refl) r)
   one_net (main_input p main q) r = elim (through by_input (main_driver p main) r) [
     | at_main p2 q2 ↦ q ∙ sym q2
-    | at_actual k outer pair a p2 q2 t ↦ absurd (subst IsInner (sym p2 ∙ p) tt)
+    | at_actual k outer pair a p2 q2 t ↦ absurd (cc)
   ]
   one_net {path} {name} {net} {other} (from_outside k outer pair a i p q t) r = elim (through by_input (formal_driver k outer pair a i p q) r) [
-    | at_main p2 q2 ↦ absurd (subst IsInner (sym p ∙ p2) tt)
+    | at_main p2 q2 ↦ absurd (cc)
     | at_actual k2 outer2 pair2 a2 p2 q2 t2 ↦
-        (let o : outer2 ≡ outer = ap outer_of (sym p2 ∙ p) in
-        let j : k2 ≡ k = ap ordinal_of (sym p2 ∙ p) in
+        (let o : outer2 ≡ outer = cc in
+        let j : k2 ≡ k = cc in
         let b : ConnectionAt library outer k pair2 = subst₂ (λ (x : Path) (y : ℕ). ConnectionAt library x y pair2) o j a2 in
         let same : pair ≡ pair2 = driven.apart outer k pair pair2 a b (sym q ∙ q2) in
         one_net t (subst₂ (λ (x : Path) (y : Pair). Drives library x y.actual other) o (sym same) t2))
@@ -147,8 +129,5 @@ module _ (library : LibraryValue) (net other : Path → List ℕ → Option Net)
   same_from path name None (Some e) p q = sym p ∙ nets.finds path name e (others.drives path name e q)
   same_from path name None None p q = refl
 
-  nets_agree : (path : Path) (name : List ℕ) → net path name ≡ other path name
-  nets_agree path name = same_from path name (net path name) (other path name) refl refl
-
   pub same_nets : net ≡ other
-  same_nets i path name = nets_agree path name i
+  same_nets i path name = same_from path name (net path name) (other path name) refl refl i

@@ -1,12 +1,12 @@
 -- A sound library has one flat circuit at most: each name has one net, and each net one number.
-use Rattle.netlist.proofs.Common.{◌≡◌, ℕ, List, [], ◌∷◌, Some, sym, ap, ap₂, ◌∙◌, subst, refl, suc, Bool, not, ◌++◌, map, length, filter, Option, subst₂, inl, inr, arith, slice_get, reverse, is_some, AreApart, apart_once, cases_Bool, reverse-reverse, none-some, same_Some, In-get, LibraryValue, ModelValue, input_ports, LatchValue, Path, Net, input_net, latch_net, cover_net, IsDriven, Place, is_cover, is_latch, FlatOrder, FlatNet, IsNumbered, an_input, a_latch, a_cover, IsNetOf, AreNetsOf, TellsClocks, IsControl, some_latch, no_latch, with_control_net, cover_numbers, inputs_at, reads_at, flat_roots, most_underscores, IsFlatCover, IsFlatLatch, IsFlat, OutPort, FlatLatch, PostsAll, HasOneFlat, IsSound, CoverValue, FlatCoverValue, FlatValue, filtered_apart}
+use Rattle.netlist.proofs.Common.{◌≡◌, ℕ, List, [], ◌∷◌, Some, sym, ap, ap₂, ◌∙◌, subst, refl, suc, Bool, not, ◌++◌, map, length, filter, Option, subst₂, inl, inr, arith, slice_get, reverse, is_some, AreApart, apart_once, cases_Bool, reverse-reverse, none-some, same_Some, In-get, LibraryValue, ModelValue, input_ports, LatchValue, Path, Net, input_net, latch_net, cover_net, IsDriven, Place, is_cover, is_latch, FlatOrder, FlatNet, IsNumbered, an_input, a_latch, a_cover, IsNetOf, AreNetsOf, TellsClocks, IsControl, some_latch, no_latch, with_control_net, cover_numbers, inputs_at, reads_at, flat_roots, most_underscores, IsFlatCover, IsFlatLatch, IsFlat, OutPort, FlatLatch, PostsAll, HasOneFlat, IsSound, CoverValue, FlatCoverValue, FlatValue, filtered_apart, same_list, item_there}
 use Rattle.netlist.specs.Flat.{Places, none, more}
 use Rattle.netlist.specs.declared.flat.Net.TheVariants.{Input, Latch, Cover}
 use Rattle.netlist.proofs.ControlLemmas.{name_of}
 use Rattle.netlist.proofs.NetLemmas.{one_net}
 use Rattle.netlist.proofs.OrderLemmas.{order_once, places_apart}
 use Rattle.netlist.proofs.PlaceLemmas.{place_of, cover_at-is, one_latch}
-use Rattle.netlist.proofs.NameLemmas.{same_number, cons_first, cons_rest}
+use Rattle.netlist.proofs.NameLemmas.{same_number}
 use Rattle.netlist.proofs.PostLemmas.{nodes_once}
 
 -- no driver stands at two places
@@ -15,28 +15,22 @@ pub record ArePlacedOnce (at : Places) : Type 0 where
   pub latches : AreApart at.latches
   pub covers : AreApart at.covers
 
--- the place of a net's latch or cover
-abbrev driver_place : Net → Place
-driver_place (input_net name) = place_of [] 0
-driver_place (latch_net path i) = place_of path i
-driver_place (cover_net path i) = place_of path i
-
 module _ (at : Places) (once : ArePlacedOnce at) where
   number_once : (net : Net) (number other : FlatNet) → IsNumbered at net number → IsNumbered at net other → number ≡ other
   number_once net number other (an_input name j q g n) (an_input last k r h m) =
-      let same : last ≡ name = ap name_of (sym r ∙ q) in
+      let same : last ≡ name = cc in
       n ∙ ap Input (apart_once at.inputs j k name once.inputs g (subst (λ x. slice_get at.inputs k ≡ Some x) same h)) ∙ sym m
   number_once net number other (an_input name j q g n) (a_latch p k r h m) = absurd (cc)
   number_once net number other (an_input name j q g n) (a_cover p k r h m) = absurd (cc)
   number_once net number other (a_latch p j q g n) (an_input name k r h m) = absurd (cc)
   number_once net number other (a_latch p j q g n) (a_latch s k r h m) =
-      let same : s ≡ p = ap driver_place (sym r ∙ q) in
+      let same : s ≡ p = (let path : s.path ≡ p.path = cc in let command : s.command ≡ p.command = cc in λ i. record { path = path i; command = command i }) in
       n ∙ ap Latch (apart_once at.latches j k p once.latches g (subst (λ x. slice_get at.latches k ≡ Some x) same h)) ∙ sym m
   number_once net number other (a_latch p j q g n) (a_cover s k r h m) = absurd (cc)
   number_once net number other (a_cover p j q g n) (an_input name k r h m) = absurd (cc)
   number_once net number other (a_cover p j q g n) (a_latch s k r h m) = absurd (cc)
   number_once net number other (a_cover p j q g n) (a_cover s k r h m) =
-      let same : s ≡ p = ap driver_place (sym r ∙ q) in
+      let same : s ≡ p = (let path : s.path ≡ p.path = cc in let command : s.command ≡ p.command = cc in λ i. record { path = path i; command = command i }) in
       n ∙ ap Cover (apart_once at.covers j k p once.covers g (subst (λ x. slice_get at.covers k ≡ Some x) same h)) ∙ sym m
 
   module _ (library : LibraryValue) (driven : IsDriven library) where
@@ -53,14 +47,7 @@ module _ (at : Places) (once : ArePlacedOnce at) where
 -- two lists as long as a third one are equal where their elements at each of its places are
 same_along : {A B : Type 0} (ps : List A) (xs ys : List B) → length xs ≡ length ps → length ys ≡ length ps
     → ((k : ℕ) (p : A) (x y : B) → slice_get ps k ≡ Some p → slice_get xs k ≡ Some x → slice_get ys k ≡ Some y → x ≡ y) → xs ≡ ys
-same_along ps [] [] m n h = refl
-same_along ps [] (y ∷ ys) m n h = absurd (omega arith)
-same_along ps (x ∷ xs) [] m n h = absurd (omega arith)
-same_along [] (x ∷ xs) (y ∷ ys) m n h = absurd (omega arith)
-same_along (p ∷ ps) (x ∷ xs) (y ∷ ys) m n h =
-    let a : suc (length xs) ≡ suc (length ps) = m in
-    let b : suc (length ys) ≡ suc (length ps) = n in
-    ap₂ (λ z zs. z ∷ zs) (h 0 p x y refl refl refl) (same_along ps xs ys (omega arith) (omega arith) (λ k q z w e f g. h (suc k) q z w e f g))
+same_along ps xs ys m n h = same_list xs ys (m ∙ sym n) (λ k x y a b. let p = item_there xs ps k x m a in h k p.0 x y p.1 a b)
 
 -- outputs are equal where their names and their nets are
 same_ports : (xs ys : List OutPort) → map (λ (o : OutPort). o.name) xs ≡ map (λ (o : OutPort). o.name) ys → map (λ (o : OutPort). o.net) xs ≡ map (λ (o : OutPort). o.net) ys → xs ≡ ys
@@ -68,12 +55,10 @@ same_ports [] [] a b = refl
 same_ports [] (y ∷ ys) a b = absurd (cc)
 same_ports (x ∷ xs) [] a b = absurd (cc)
 same_ports (x ∷ xs) (y ∷ ys) a b =
-    let names : List OutPort → List (List ℕ) = map (λ (o : OutPort). o.name) in
-    let nets : List OutPort → List FlatNet = map (λ (o : OutPort). o.net) in
-    let name : x.name ≡ y.name = cons_first x.name y.name (names xs) (names ys) a in
-    let net : x.net ≡ y.net = cons_first x.net y.net (nets xs) (nets ys) b in
+    let name : x.name ≡ y.name = cc in
+    let net : x.net ≡ y.net = cc in
     let first : x ≡ y = λ i. record { name = name i; net = net i } in
-    ap₂ (λ (z : OutPort) (zs : List OutPort). z ∷ zs) first (same_ports xs ys (cons_rest x.name y.name (names xs) (names ys) a) (cons_rest x.net y.net (nets xs) (nets ys) b))
+    ap₂ (λ (z : OutPort) (zs : List OutPort). z ∷ zs) first (same_ports xs ys (cc) (cc))
 
 module _ (library : LibraryValue) where
   -- two tests that tell the clock nets are one

@@ -1,5 +1,5 @@
 -- Flat order, of whatever the instances have of their own: an instance whose hierarchy ends has one, and one only; all that the instances within it have stands there, and nothing else.
-use Rattle.netlist.proofs.Common.{◌≡◌, ℕ, zero, suc, ◌+◌, ◌≤◌, Bool, true, false, ◌⊎◌, List, [], ◌∷◌, ◌++◌, length, Some, refl, sym, ap, ap₂, ◌∙◌, subst, subst₂, inl, inr, append_assoc, arith, slice_get, option_and_then, if◌then◌else◌, both_ways, length-append, none-some, same_Some, choose, In, In-left, In-right, In-append, AreApart, joined_apart, Body, Command, ModelValue, Path, body_at, subckts_of, model_named, placed, model_at, Ends, ends, Place, own_places, own_of, InFlatOrder, InFlatOrderUnder, FlatOrder, flat, SubcktValue, LibraryValue, none, more}
+use Rattle.netlist.proofs.Common.{◌≡◌, ℕ, zero, suc, ◌+◌, ◌≤◌, Bool, true, false, ◌⊎◌, List, [], ◌∷◌, ◌++◌, length, Some, refl, sym, ap, ap₂, ◌∙◌, subst, subst₂, inl, inr, append_assoc, arith, slice_get, option_and_then, if◌then◌else◌, both_ways, length-append, none-some, same_Some, choose, In, In-left, In-right, In-append, AreApart, joined_apart, Body, Command, ModelValue, Path, body_at, subckts_of, model_named, placed, model_at, Ends, ends, Place, own_places, own_of, InFlatOrder, InFlatOrderUnder, FlatOrder, flat, SubcktValue, LibraryValue, none, more, get_end}
 use Rattle.netlist.proofs.PlaceLemmas.{place_of, command_of, body_of, placed-is, inside}
 use Rattle.netlist.proofs.NameLemmas.{not_empty, same_first, same_rest}
 use Rattle.netlist.specs.DepthFirst.{none}
@@ -37,14 +37,8 @@ same_length : (xs ys path : Path) (i j : ℕ) → xs ++ i ∷ path ≡ ys ++ j �
 same_length xs ys path i j e =
     omega (arith, length-append xs (i ∷ path), length-append ys (j ∷ path), ap length e)
 
-same_ordinal_at : (xs ys path : Path) (i j : ℕ) → length xs ≡ length ys → xs ++ i ∷ path ≡ ys ++ j ∷ path → i ≡ j
-same_ordinal_at [] [] path i j n e = cc
-same_ordinal_at [] (y ∷ ys) path i j n e = absurd (omega arith)
-same_ordinal_at (x ∷ xs) [] path i j n e = absurd (omega arith)
-same_ordinal_at (x ∷ xs) (y ∷ ys) path i j n e =
-    let m : suc (length xs) ≡ suc (length ys) = n in
-    let f : xs ++ i ∷ path ≡ ys ++ j ∷ path = (let g : x ∷ (xs ++ i ∷ path) ≡ y ∷ (ys ++ j ∷ path) = e in cc) in
-    same_ordinal_at xs ys path i j (omega arith) f
+same_ordinal : (xs ys path : Path) (i j : ℕ) → xs ++ i ∷ path ≡ ys ++ j ∷ path → i ≡ j
+same_ordinal xs ys path i j e = same_Some i j (sym (get_end xs i path) ∙ ap₂ (λ (l : Path) (n : ℕ). slice_get l n) e (same_length xs ys path i j e) ∙ get_end ys j path)
 
 not_itself : (path : Path) (k : ℕ) → IsBelow path k path → ⊥
 not_itself path k b =
@@ -53,7 +47,7 @@ not_itself path k b =
 apart_below : (path : Path) (k : ℕ) (p : Path) → IsWithin (k ∷ path) p → IsBelow path (suc k) p → ⊥
 apart_below path k p w b =
     let e : w.inner ++ k ∷ path ≡ b.inner ++ b.ordinal ∷ path = sym w.is ∙ b.is in
-    omega (arith, same_ordinal_at w.inner b.inner path k b.ordinal (same_length w.inner b.inner path k b.ordinal e) e)
+    omega (arith, same_ordinal w.inner b.inner path k b.ordinal e)
 
 module _ {A : Type 0} (library : LibraryValue) (own : Path → ModelValue → List A) where
   abbrev HasOrder : Path → ModelValue → Type 0

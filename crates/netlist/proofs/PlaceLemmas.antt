@@ -1,6 +1,5 @@
 -- Places, and what stands at them: a place has one cover or latch, and a connection leads to the model that it places.
-use Rattle.netlist.proofs.Common.{◌≡◌, ℕ, true, eqb, ◌∷◌, Option, Some, None, refl, sym, ap, ap₂, ◌∙◌, inl, inr, bytes_eq, slice_get, option_map, option_and_then, and_parts, and_from, none-some, same_Some, option_and_then_some, bytes_decides, ◌++◌, [], ◌<◌, ◌+◌, ◌≤◌, ◌^◌, Body, Cover, Latch, Subckt, Command, LatchValue, Pair, ModelValue, Path, body_at, subckts_of, model_named, placed, model_at, CoverAt, LatchAt, ConnectionAt, Place, same_place, latch_in, cover_at, latch_at, CoverValue, SubcktValue, LibraryValue}
-use Rattle.std.proofs.Common.{eqb-true, eq-eqb}
+use Rattle.netlist.proofs.Common.{◌≡◌, ℕ, true, eqb, ◌∷◌, Option, Some, None, refl, sym, ap, ap₂, ◌∙◌, inl, inr, bytes_eq, slice_get, option_map, option_and_then, and_parts, and_from, none-some, same_Some, option_and_then_some, bytes_decides, ◌++◌, [], ◌<◌, ◌+◌, ◌≤◌, ◌^◌, Body, Cover, Latch, Subckt, Command, LatchValue, Pair, ModelValue, Path, body_at, subckts_of, model_named, placed, model_at, CoverAt, LatchAt, ConnectionAt, Place, same_place, latch_in, cover_at, latch_at, CoverValue, SubcktValue, LibraryValue, eqb-true, eq-eqb}
 use Rattle.netlist.proofs.NameLemmas.{Decided}
 
 abbrev pub place_of : Path → ℕ → Place
@@ -28,6 +27,14 @@ body_of m i c e = rw e refl
 pub placed-is : (library : LibraryValue) (m : ModelValue) (k : ℕ) (s : SubcktValue) → slice_get (subckts_of m.commands) k ≡ Some s → placed library k m ≡ model_named library.models s.model
 placed-is library m k s e = rw e refl
 
+-- the latch of a place
+pub latch_at-some : (library : LibraryValue) (p : Place) (l : LatchValue) → LatchAt library p.path p.command l → latch_at library p ≡ Some l
+latch_at-some library p l a = rw (a.at, a.is) refl
+
+latch_is : (b : Body) (l : LatchValue) → latch_in b ≡ Some l → b ≡ Latch l
+latch_is (Latch k) l e = ap Latch (same_Some k l e)
+latch_is b l e = absurd (none-some l e)
+
 module _ (library : LibraryValue) where
   pub cover_at-is : (path : Path) (i : ℕ) (c : CoverValue) → CoverAt library path i c → cover_at library (place_of path i) ≡ Some c
   cover_at-is path i c a = rw (a.at, a.is) refl
@@ -54,30 +61,15 @@ module _ (library : LibraryValue) where
 
   -- a place has one latch, and it can be found
   pub one_latch : (path : Path) (i : ℕ) (l r : LatchValue) → LatchAt library path i l → LatchAt library path i r → l ≡ r
-  one_latch path i l r a b =
-      let m : a.model ≡ b.model = same_Some a.model b.model (sym a.at ∙ b.at) in
-      let e : ◌≡◌ {A = Option Body} (Some (Latch l)) (Some (Latch r)) = sym a.is ∙ ap (λ x. body_at x i) m ∙ b.is in
-      same_Some l r (ap (option_and_then latch_in) e)
+  one_latch path i l r a b = same_Some l r (sym (latch_at-some library (place_of path i) l a) ∙ latch_at-some library (place_of path i) r b)
 
-  abbrev HasLatch : Path → ℕ → Type 0
-  HasLatch path i = (l : LatchValue) × LatchAt library path i l
-
-  body_is : (path : Path) (i : ℕ) (m : ModelValue) (b : Option Body) → model_at library path ≡ Some m → body_at m i ≡ b → (l : LatchValue) → LatchAt library path i l → b ≡ Some (Latch l)
-  body_is path i m b at e l a = sym e ∙ ap (λ x. body_at x i) (same_Some m a.model (sym at ∙ a.at)) ∙ a.is
-
-  latch_body : (path : Path) (i : ℕ) (m : ModelValue) → model_at library path ≡ Some m → (b : Option Body) → body_at m i ≡ b → Decided (HasLatch path i)
-  latch_body path i m at None e = inr (λ h. none-some (Latch h.0) (body_is path i m None at e h.0 h.1))
-  latch_body path i m at (Some (Latch l)) e = inl (l, record { model = m; at = at; is = e })
-  latch_body path i m at (Some (Cover c)) e = inr (λ h. none-some h.0 (ap (option_and_then latch_in) (body_is path i m (Some (Cover c)) at e h.0 h.1)))
-  latch_body path i m at (Some (Subckt s)) e = inr (λ h. none-some h.0 (ap (option_and_then latch_in) (body_is path i m (Some (Subckt s)) at e h.0 h.1)))
-
-  latch_model : (path : Path) (i : ℕ) (m : Option ModelValue) → model_at library path ≡ m → Decided (HasLatch path i)
-  latch_model path i None e = inr (λ h. none-some (h.1).model (sym e ∙ (h.1).at))
-  latch_model path i (Some m) e = latch_body path i m e (body_at m i) refl
+  latch_found : (path : Path) (i : ℕ) (o : Option LatchValue) → latch_at library (place_of path i) ≡ o → Decided ((l : LatchValue) × LatchAt library path i l)
+  latch_found path i None e = inr (λ h. none-some h.0 (sym e ∙ latch_at-some library (place_of path i) h.0 h.1))
+  latch_found path i (Some l) e = inl (
+    l,
+    option_and_then_some (λ (m : ModelValue). option_and_then latch_in (body_at m i)) (model_at library path) l e (λ m a b.
+        option_and_then_some latch_in (body_at m i) l b (λ c d f. record { model = m; at = a; is = d ∙ ap Some (latch_is c l f) })),
+  )
 
   pub has_latch : (path : Path) (i : ℕ) → Decided ((l : LatchValue) × LatchAt library path i l)
-  has_latch path i = latch_model path i (model_at library path) refl
-
--- the latch of a place
-pub latch_at-some : (library : LibraryValue) (p : Place) (l : LatchValue) → LatchAt library p.path p.command l → latch_at library p ≡ Some l
-latch_at-some library p l a = rw (a.at, a.is) refl
+  has_latch path i = latch_found path i (latch_at library (place_of path i)) refl

@@ -16,18 +16,14 @@ module _ {N : Type 0} (next : N → List N) where
   one_more (further q i r) k j = further q i (one_more r k j)
 
   -- in an order what a node leads to stands behind it, so none leads to itself
-  reached_stands : {n m : N} → Reaches n m → (order : List N) → IsAfter next order → In order n → In order m
-  reached_stands {n} {m} (at_once j) order after i = step_stands next order n m after i j
-  reached_stands {n} {m} (further k j r) order after i = reached_stands r order after (step_stands next order n k after i j)
-
-  reached_after : (k : N) (ks : List N) → IsAfter next (k ∷ ks) → {m : N} → Reaches k m → In ks m
-  reached_after k ks after {m} (at_once j) = after.0 m j
-  reached_after k ks after {m} (further q j r) = reached_stands r ks (after.1).1 (after.0 q j)
+  reached_after : {k m : N} → Reaches k m → (ks : List N) → IsAfter next ks → ((n : N) → In (next k) n → In ks n) → In ks m
+  reached_after {k} {m} (at_once j) ks after h = h m j
+  reached_after (further q j r) ks after h = reached_after r ks after (λ n i. step_stands next ks q n after (h q j) i)
 
   pub acyclic : (order : List N) (n : N) → IsAfter next order → In order n → Reaches n n → ⊥
   acyclic [] n after i r = i
   acyclic (k ∷ ks) n after (inr i) r = acyclic ks n (after.1).1 i r
-  acyclic (k ∷ ks) n after (inl e) r = (after.1).0 (reached_after k ks after (subst₂ Reaches e e r))
+  acyclic (k ∷ ks) n after (inl e) r = (after.1).0 (reached_after (subst₂ Reaches e e r) ks (after.1).1 after.0)
 
   -- by a first step, and by any number of them
   first_step : {k m : N} → ReachesOrIs next k m → (n : N) → In (next n) k → Reaches n m
@@ -139,12 +135,6 @@ evaluated same rule (n ∷ ns) m = cond (same m n) (rule n (evaluated same rule 
 module _ {N : Type 0} (same : N → N → Bool) (same-is : (m n : N) → same m n ≡ true → m ≡ n) (same-refl : (n : N) → same n n ≡ true)
     (reads : N → List N) (rule : N → (N → Bool) → Bool)
     (local : (n : N) (v w : N → Bool) → ((m : N) → In (reads n) m → v m ≡ w m) → rule n v ≡ rule n w) where
-  -- what a node of an order reads is in it
-  reads_stand : (ns : List N) (m k : N) → IsAfter reads ns → In ns m → In (reads m) k → In ns k
-  reads_stand [] m k after i j = absurd i
-  reads_stand (n ∷ ns) m k after (inl e) j = inr (after.0 k (subst (λ x. In (reads x) k) e j))
-  reads_stand (n ∷ ns) m k after (inr i) j = inr (reads_stand ns m k (after.1).1 i j)
-
   at_head : (n : N) (ns : List N) → evaluated same rule (n ∷ ns) n ≡ rule n (evaluated same rule ns)
   at_head n ns = cond-true (same n n) (rule n (evaluated same rule ns)) (evaluated same rule ns n) (same-refl n)
 
@@ -158,7 +148,7 @@ module _ {N : Type 0} (same : N → N → Bool) (same-is : (m n : N) → same m 
   evaluated-rule (n ∷ ns) m after (inl e) = subst (λ x. evaluated same rule (n ∷ ns) x ≡ rule x (evaluated same rule (n ∷ ns))) (sym e)
       (at_head n ns ∙ local n (evaluated same rule ns) (evaluated same rule (n ∷ ns)) (λ k j. sym (behind_head n ns k (after.1).0 (after.0 k j))))
   evaluated-rule (n ∷ ns) m after (inr i) = behind_head n ns m (after.1).0 i ∙ evaluated-rule ns m (after.1).1 i
-      ∙ local m (evaluated same rule ns) (evaluated same rule (n ∷ ns)) (λ k j. sym (behind_head n ns k (after.1).0 (reads_stand ns m k (after.1).1 i j)))
+      ∙ local m (evaluated same rule ns) (evaluated same rule (n ∷ ns)) (λ k j. sym (behind_head n ns k (after.1).0 (step_stands reads ns m k (after.1).1 i j)))
 
   -- two maps that give each node the value of its rule agree
   pub rules_agree : (ns : List N) (v w : N → Bool) → IsAfter reads ns → ((n : N) → In ns n → v n ≡ rule n v) → ((n : N) → In ns n → w n ≡ rule n w)

@@ -1,9 +1,6 @@
 -- Where values of all names fit for all values of inputs and latches, there are cycles from any states and runs of any length.
-use Rattle.netlist.proofs.Common.{◌≡◌, ℕ, Bool, List, [], ◌∷◌, length, map, refl, sym, ap, ◌∙◌, length-map}
-use Rattle.netlist.specs.LibraryValue.{LibraryValue, ModelValue}
+use Rattle.netlist.proofs.Common.{◌≡◌, ℕ, Bool, List, [], ◌∷◌, length, map, refl, sym, ap, ◌∙◌, length-map, LibraryValue, ModelValue, Place, latch_at, AreLatches, inits_of, init_state, state_of, next_state, next_states, Runs, HasACycle, HasARun}
 use Rattle.netlist.specs.Law.{HasOneCycle}
-use Rattle.netlist.specs.Places.{Place, latch_at}
-use Rattle.netlist.specs.Runs.{AreLatches, inits_of, init_state, state_of, next_state, next_states, Runs, HasACycle, HasARun}
 use Rattle.netlist.specs.Runs as runs
 
 module _ (library : LibraryValue) (law : HasOneCycle library) (main : ModelValue) (latches : List Place) (are : AreLatches library main latches) where

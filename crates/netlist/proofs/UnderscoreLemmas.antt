@@ -1,6 +1,5 @@
 -- How many underscores names begin with.
-use Rattle.netlist.proofs.Common.{◌≡◌, ℕ, zero, suc, ◌≤◌, List, [], ◌∷◌, ◌++◌, max, replicate, ap, ◌∙◌, inl, inr, arith, In}
-use Rattle.netlist.specs.Flat.{underscores, most_underscores}
+use Rattle.netlist.proofs.Common.{◌≡◌, ℕ, zero, suc, ◌≤◌, List, [], ◌∷◌, ◌++◌, max, replicate, ap, ◌∙◌, inl, inr, arith, In, underscores, most_underscores}
 
 pub few_underscores : (names : List (List ℕ)) (name : List ℕ) → In names name → underscores name ≤ most_underscores names
 few_underscores [] name i = absurd i

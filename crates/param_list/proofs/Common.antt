@@ -23,12 +23,10 @@ pub use Rattle.tl_text.specs.LineValue.{LineValue, token_bytes, words_line, Word
 pub use Rattle.tl_text.specs.NameIndex.{place_of}
 pub use Rattle.tl_text.specs.Once.{AreOnce}
 pub use Rattle.tl_text.specs.TextOf.{at_line, IsLinesFault, by_lines}
-pub use Rattle.param_list.specs.LinesErr.{par_err}
-pub use Rattle.param_list.specs.Marks.{marks_of, off_places}
 pub use Rattle.param_list.specs.Parameters.{param_names, AreNamed, AreParameters, param_inits, regular_names, IsSplit, ParamsValue}
-pub use Rattle.param_list.specs.ParamsText.{Entry, entry_of, entry_with, entry_refusal, line_refusal, IsParamOf, refusal_at, IsFirstRefusal, AreParamsOf, HasOneReading, IsParamsText, IsParamsFault, with_name, names_said}
+pub use Rattle.param_list.specs.ParamsText.{par_err, Entry, entry_of, entry_with, entry_refusal, line_refusal, IsParamOf, refusal_at, IsFirstRefusal, AreParamsOf, HasOneReading, IsParamsText, IsParamsFault, with_name, names_said}
 pub use Rattle.param_list.specs.Refusals.{refusal_of}
-pub use Rattle.param_list.specs.RegularPlaces.{AreRegularPlaces, IsFree}
+pub use Rattle.param_list.specs.RegularPlaces.{marks_of, off_places, AreRegularPlaces, IsFree}
 pub use Rattle.param_list.specs.declared.par_err.ParErr.{ParErr}
 pub use Rattle.param_list.specs.declared.par_err.ParErr.TheVariants.{Malformed, Parameters, NotInput, IsClock, Repeated}
 pub use Rattle.param_list.specs.declared.params.Param.{Param}

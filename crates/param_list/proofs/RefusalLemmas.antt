@@ -1,5 +1,5 @@
 -- The refusal of a line that says a name and a value, by its cases.
-use Rattle.param_list.proofs.Common.{◌≡◌, ℕ, ◌<◌, ◌≤◌, Bool, true, false, not, ◌||◌, ltb, leb, List, ◌++◌, length, Option, Some, None, bytes_eq, refl, ◌∙◌, or_parts, or_left, or_right, or_from, ltb-false, leb-false, le-ltb, lt-leb, list_any-append, has_name, ParErr, Parameters, NotInput, IsClock, Repeated, entry_refusal}
+use Rattle.param_list.proofs.Common.{◌≡◌, ℕ, ◌<◌, ◌≤◌, Bool, true, false, not, ◌||◌, ltb, leb, List, ◌++◌, length, Option, Some, None, bytes_eq, refl, ◌∙◌, or_parts, or_left, or_from, ltb-false, leb-false, le-ltb, lt-leb, list_any-append, has_name, ParErr, Parameters, NotInput, IsClock, Repeated, entry_refusal}
 use Rattle.list_laws.proofs.Choice.{none_both}
 
 module _ (inputs clocks earlier : List (List ℕ)) (number : ℕ) (name : List ℕ) (init : Bool) where
@@ -12,24 +12,17 @@ module _ (inputs clocks earlier : List (List ℕ)) (number : ℕ) (name : List �
   known : has_name (inputs ++ clocks) name ≡ (has_name inputs name || has_name clocks name)
   known = list_any-append (bytes_eq name) inputs clocks
 
-  pub within_limits : length name ≤ 65535 → length earlier < 65535 → is_over ≡ false
+  within_limits : length name ≤ 65535 → length earlier < 65535 → is_over ≡ false
   within_limits short few = or_from (ltb 65535 (length name)) (leb 65535 (length earlier)) (le-ltb 65535 (length name) short) (lt-leb 65535 (length earlier) few)
 
-  -- each refusal by what the tests say
-  pub over_limit : is_over ≡ true → refusal ≡ Some (Parameters number)
-  over_limit o = rw o refl
+  pub no_input : length name ≤ 65535 → length earlier < 65535 → has_name clocks name ≡ false → has_name inputs name ≡ false → refusal ≡ Some (NotInput number name)
+  no_input short few c i = rw (within_limits short few, known, i, c) refl
 
-  pub no_input : is_over ≡ false → has_name clocks name ≡ false → has_name inputs name ≡ false → refusal ≡ Some (NotInput number name)
-  no_input o c i = rw (o, known, i, c) refl
+  pub stood_earlier : length name ≤ 65535 → length earlier < 65535 → has_name clocks name ≡ false → has_name inputs name ≡ true → has_name earlier name ≡ true → refusal ≡ Some (Repeated number name)
+  stood_earlier short few c i e = rw (within_limits short few, known ∙ or_left (has_name inputs name) (has_name clocks name) i, c, e) refl
 
-  pub a_clock : is_over ≡ false → has_name clocks name ≡ true → refusal ≡ Some (IsClock number name)
-  a_clock o c = rw (o, known ∙ or_right (has_name inputs name) (has_name clocks name) c, c) refl
-
-  pub stood_earlier : is_over ≡ false → has_name clocks name ≡ false → has_name inputs name ≡ true → has_name earlier name ≡ true → refusal ≡ Some (Repeated number name)
-  stood_earlier o c i e = rw (o, known ∙ or_left (has_name inputs name) (has_name clocks name) i, c, e) refl
-
-  pub no_refusal : is_over ≡ false → has_name clocks name ≡ false → has_name inputs name ≡ true → has_name earlier name ≡ false → refusal ≡ None
-  no_refusal o c i e = rw (o, known ∙ or_left (has_name inputs name) (has_name clocks name) i, c, e) refl
+  pub no_refusal : length name ≤ 65535 → length earlier < 65535 → has_name clocks name ≡ false → has_name inputs name ≡ true → has_name earlier name ≡ false → refusal ≡ None
+  no_refusal short few c i e = rw (within_limits short few, known ∙ or_left (has_name inputs name) (has_name clocks name) i, c, e) refl
 
   -- what holds where there is none
   not_over : refusal ≡ None → is_over ≡ false

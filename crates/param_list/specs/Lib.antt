@@ -1,8 +1,5 @@
--- What public clauses say.
+-- What public clauses say, and what bodies are compared with.
 pub mod Parameters
 pub mod ParamsText
 pub mod RegularPlaces
 pub mod Refusals
--- What only bodies are compared with.
-pub mod LinesErr
-pub mod Marks

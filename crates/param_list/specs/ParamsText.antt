@@ -6,13 +6,20 @@ use Rattle.tl_text.specs.FirstRefusal.{IsFirst}
 use Rattle.tl_text.specs.Decimal.{bit_of}
 use Rattle.tl_text.specs.LineValue.{WordsLine}
 use Rattle.tl_text.specs.TextOf.{IsTextOf, IsTextFault}
+use Rattle.tl_text.specs.declared.text_err.TextErr.{TextErr}
+use Rattle.tl_text.specs.declared.text_err.TextErr.TheVariants as text_err
 use Rattle.netlist.specs.FlatValue.{FlatValue}
 use Rattle.netlist.specs.Models.{has_name}
 use Rattle.param_list.specs.declared.params.Param.{Param}
 use Rattle.tl_text.specs.declared.limits.TheConstants.{MOST_PARAMETERS, MOST_NAME_BYTES}
 use Rattle.param_list.specs.declared.par_err.ParErr.{ParErr}
-use Rattle.param_list.specs.declared.par_err.ParErr.TheVariants.{Malformed, Parameters, NotInput, IsClock, Repeated}
-use Rattle.param_list.specs.LinesErr.{par_err}
+use Rattle.param_list.specs.declared.par_err.ParErr.TheVariants.{BadByte, TrailingSlash, Memory, Malformed, Parameters, NotInput, IsClock, Repeated}
+
+-- a refusal of the text's lines as one of a parameter list
+abbrev pub par_err : TextErr → ParErr
+par_err (text_err.BadByte line) = BadByte line
+par_err (text_err.TrailingSlash line) = TrailingSlash line
+par_err text_err.Memory = Memory
 
 -- what a line says: a name and its value at the start
 pub record Entry : Type 0 where

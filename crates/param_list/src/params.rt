@@ -8,8 +8,7 @@ ghost use Rattle.tl_text.specs.Lines.{lines_of};
 ghost use Rattle.tl_text.specs.TextOf.{IsLinesFault};
 ghost use Rattle.tl_text.specs.declared.logical_lines.TheConstants.{MOST_BYTES};
 ghost use Rattle.param_list.specs.Parameters.{AreParameters};
-ghost use Rattle.param_list.specs.ParamsText.{IsParamsText, IsParamsFault, HasOneReading};
-ghost use Rattle.param_list.specs.LinesErr.{par_err};
+ghost use Rattle.param_list.specs.ParamsText.{IsParamsText, IsParamsFault, HasOneReading, par_err};
 ghost use Rattle.param_list.specs.Refusals.{refusal_of};
 
 use crate::par_err::ParErr;

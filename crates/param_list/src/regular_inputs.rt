@@ -3,9 +3,8 @@ ghost use Rattle.std.specs.Prelude.{◌≡◌, ◌<◌, ◌^◌, length, map, So
 ghost use Rattle.list_laws.specs.Members.{In};
 ghost use Rattle.tl_text.specs.Once.{AreOnce};
 ghost use Rattle.param_list.specs.declared.params.Param.{Param as ParamValue};
-ghost use Rattle.param_list.specs.Marks.{marks_of, off_places};
 ghost use Rattle.param_list.specs.Parameters.{param_names, regular_names, AreParameters, IsSplit};
-ghost use Rattle.param_list.specs.RegularPlaces.{AreRegularPlaces};
+ghost use Rattle.param_list.specs.RegularPlaces.{AreRegularPlaces, marks_of, off_places};
 
 use crate::params::{Param, Params};
 use netlist::Flat;

@@ -27,9 +27,8 @@ pub use Rattle.tl_text.specs.declared.token.Token.{Token}
 pub use Rattle.run_text.specs.Each.{in_front, each_of}
 pub use Rattle.run_text.specs.EventValue.{EventValue, Set, Cycle, Upset, Scrub, Image, event_values, event_value}
 pub use Rattle.run_text.specs.Fits.{Fits}
-pub use Rattle.run_text.specs.Lines.{bit_digit, bit_string, header_line, cycle_line, bits_header_line, write_text, set_line, scrub_line, upset_line, image_line}
+pub use Rattle.run_text.specs.Lines.{bit_digit, bit_string, header_line, cycle_line, bits_header_line, write_text, set_line, scrub_line, upset_line, image_line, part_text}
 pub use Rattle.run_text.specs.NamesValue.{NamesValue}
-pub use Rattle.run_text.specs.Parts.{part_text}
 pub use Rattle.run_text.specs.Sayings.{Saying, sets, cycles, upsets, scrubs, images, said_of, split_last, setting_of, settings_of, bits_of, address_of, split_before, digit_bit}
 pub use Rattle.run_text.specs.ScriptRefusals.{refusal_of}
 pub use Rattle.run_text.specs.ScriptText.{settings_refusal, cycle_refusal, saying_refusal, line_refusal, assigned, assign_of, event_of, line_event, AreEventsOf, refusal_at, IsScript, IsScriptFault, script_err, IsFirstRefusal, HasOneReading}

@@ -1,5 +1,5 @@
 -- The values of all elements of a list, found one by one.
-use Rattle.run_text.proofs.Common.{◌≡◌, ℕ, zero, suc, ◌+◌, ◌≤◌, List, [], ◌∷◌, ◌++◌, length, map, take, drop, Option, Some, None, refl, sym, ap, ◌∙◌, slice_get, take_all, take-append-drop, none-some, same_Some, drop_get, in_front, each_of, take_get}
+use Rattle.run_text.proofs.Common.{◌≡◌, ℕ, zero, suc, ◌+◌, ◌≤◌, List, [], ◌∷◌, ◌++◌, length, map, take, drop, Option, Some, None, refl, sym, ap, ◌∙◌, slice_get, take_all, take-append-drop, none-some, same_Some, drop_get, in_front, each_of, take_get, arith}
 
 -- the values of two lists, one behind the other
 abbrev joined : {B : Type 0} → Option (List B) → Option (List B) → Option (List B)
@@ -8,18 +8,13 @@ joined (Some xs) None = None
 joined (Some xs) (Some ys) = Some (xs ++ ys)
 
 behind_none : {B : Type 0} (o : Option (List B)) → o ≡ joined (Some []) o
-behind_none None = refl
-behind_none (Some ys) = refl
+behind_none o = grind arith
 
 none_behind : {B : Type 0} (o : Option (List B)) → joined o None ≡ None
-none_behind None = refl
-none_behind (Some ys) = refl
+none_behind o = grind arith
 
 front_joined : {B : Type 0} (o : Option B) (xs ys : Option (List B)) → in_front o (joined xs ys) ≡ joined (in_front o xs) ys
-front_joined None xs ys = refl
-front_joined (Some y) None ys = refl
-front_joined (Some y) (Some xs) None = refl
-front_joined (Some y) (Some xs) (Some ys) = refl
+front_joined o xs ys = grind arith
 
 each_append : {A B : Type 0} (f : A → Option B) (xs ys : List A) → each_of f (xs ++ ys) ≡ joined (each_of f xs) (each_of f ys)
 each_append f [] ys = behind_none (each_of f ys)
@@ -64,9 +59,7 @@ each_once f xs ys zs a b = same_Some ys zs (sym a ∙ b)
 
 -- a value comes from the element at its place
 front_parts : {B : Type 0} (o : Option B) (rest : Option (List B)) (ys : List B) → in_front o rest ≡ Some ys → (y : B) × (zs : List B) × (o ≡ Some y) × (rest ≡ Some zs) × (ys ≡ y ∷ zs)
-front_parts None rest ys e = absurd (none-some ys e)
-front_parts (Some y) None ys e = absurd (none-some ys e)
-front_parts (Some y) (Some zs) ys e = (y, zs, refl, refl, sym (same_Some (y ∷ zs) ys e))
+front_parts o rest ys e = grind (arith, none-some, same_Some)
 
 pub record ComesFrom {A B : Type 0} (f : A → Option B) (xs : List A) (i : ℕ) (y : B) : Type 0 where
   pub source : A
@@ -75,9 +68,7 @@ pub record ComesFrom {A B : Type 0} (f : A → Option B) (xs : List A) (i : ℕ)
 
 pub each_at : {A B : Type 0} (f : A → Option B) (xs : List A) (ys : List B) (i : ℕ) (y : B) → each_of f xs ≡ Some ys → slice_get ys i ≡ Some y → ComesFrom f xs i y
 each_at f [] ys i y e at = absurd (none-some y (ap (λ l. slice_get l i) (same_Some [] ys e) ∙ at))
-each_at f (x ∷ xs) ys zero y e at =
-    let p = front_parts (f x) (each_of f xs) ys e in
-    record { source = x; there = refl; is = p.2 ∙ ap (λ l. slice_get l 0) (sym p.4) ∙ at }
+each_at f (x ∷ xs) ys zero y e at = grind (arith, front_parts)
 each_at f (x ∷ xs) ys (suc i) y e at =
     let p = front_parts (f x) (each_of f xs) ys e in
     let r = each_at f xs p.1 i y p.3 (ap (λ l. slice_get l (suc i)) (sym p.4) ∙ at) in

@@ -1,5 +1,5 @@
 -- The events of a script fit what it may name.
-use Rattle.run_text.proofs.Common.{◌≡◌, ℕ, zero, suc, ◌||◌, Bool, true, false, not, eqb, ltb, leb, List, [], ◌∷◌, ◌++◌, length, Option, Some, None, bytes_eq, refl, sym, ap, ◌∙◌, subst, slice_get, option_map, option_and_then, or_parts, eqb-true, ltb-true, none-some, same_Some, slice_get_within, In, place_in, Assign, WordsLine, place_of, has_name, place_is, has_one_more, each_of, EventValue, Set, Cycle, Upset, Scrub, Image, Fits, NamesValue, Saying, sets, cycles, upsets, scrubs, images, said_of, settings_refusal, cycle_refusal, saying_refusal, line_refusal, assigned, assign_of, event_of, line_event, AreEventsOf, Setting, NotParameter, RepeatedInSet, Width, Address, Events}
+use Rattle.run_text.proofs.Common.{◌≡◌, ℕ, zero, suc, ◌||◌, Bool, true, false, not, eqb, ltb, leb, List, [], ◌∷◌, ◌++◌, length, Option, Some, None, bytes_eq, refl, sym, ap, ◌∙◌, subst, slice_get, option_map, option_and_then, or_parts, eqb-true, ltb-true, none-some, same_Some, slice_get_within, In, place_in, Assign, WordsLine, place_of, has_name, place_is, has_one_more, each_of, EventValue, Set, Cycle, Upset, Scrub, Image, Fits, NamesValue, Saying, sets, cycles, upsets, scrubs, images, said_of, settings_refusal, cycle_refusal, saying_refusal, line_refusal, assigned, assign_of, event_of, line_event, AreEventsOf, Setting, NotParameter, RepeatedInSet, Width, Address, Events, arith}
 use Rattle.list_laws.proofs.Choice.{none_both, none_else}
 use Rattle.tl_io.specs.Assigns.{AreAssigned}
 use Rattle.run_text.proofs.EachLemmas.{each_at}
@@ -9,21 +9,16 @@ use Rattle.param_list.proofs.MarkLemmas.{has_this}
 module _ (params : List (List ℕ)) (number : ℕ) where
   later : (earlier : List (List ℕ)) (s : Setting) (rest : List Setting) → settings_refusal params number earlier (s ∷ rest) ≡ None
       → (has_name earlier s.name ≡ false) × (settings_refusal params number (earlier ++ s.name ∷ []) rest ≡ None)
-  later earlier s rest none =
-      none_both (has_name earlier s.name) (RepeatedInSet number s.name) _ (none_both (not (has_name params s.name)) (NotParameter number s.name) _ none).1
+  later earlier s rest none = grind (arith, none_both)
 
   not_earlier : (earlier : List (List ℕ)) (settings : List Setting) (i : ℕ) (s : Setting) → settings_refusal params number earlier settings ≡ None → slice_get settings i ≡ Some s → has_name earlier s.name ≡ false
   not_earlier earlier [] i s none at = absurd (none-some s at)
   not_earlier earlier (x ∷ xs) zero s none at = ap (λ (t : Setting). has_name earlier t.name) (sym (same_Some x s at)) ∙ (later earlier x xs none).0
-  not_earlier earlier (x ∷ xs) (suc i) s none at =
-      (or_parts (has_name earlier s.name) (bytes_eq s.name x.name || false)
-      (sym (has_one_more earlier x.name s.name) ∙ not_earlier (earlier ++ x.name ∷ []) xs i s (later earlier x xs none).1 at)).0
+  not_earlier earlier (x ∷ xs) (suc i) s none at = grind (arith, or_parts, bytes_eq, has_one_more, later, not_earlier (earlier ++ x.name ∷ []) xs i s (later earlier x xs none).1 at)
 
   differ : (earlier : List (List ℕ)) (x : Setting) (xs : List Setting) (i : ℕ) (s : Setting) → settings_refusal params number earlier (x ∷ xs) ≡ None → slice_get xs i ≡ Some s → s.name ≡ x.name → ⊥
   differ earlier x xs i s none at same =
-      let new : has_name (earlier ++ x.name ∷ []) s.name ≡ false = not_earlier (earlier ++ x.name ∷ []) xs i s (later earlier x xs none).1 at in
-      let there : has_name (earlier ++ x.name ∷ []) s.name ≡ true = ap (has_name (earlier ++ x.name ∷ [])) same ∙ has_this earlier x.name in
-      let wrong : true ≡ false = sym there ∙ new in cc
+      let wrong : true ≡ false = sym (ap (has_name (earlier ++ x.name ∷ [])) same ∙ has_this earlier x.name) ∙ (not_earlier (earlier ++ x.name ∷ []) xs i s (later earlier x xs none).1 at) in cc
 
   one_place : (earlier : List (List ℕ)) (settings : List Setting) (i j : ℕ) (s t : Setting) → settings_refusal params number earlier settings ≡ None → slice_get settings i ≡ Some s → slice_get settings j ≡ Some t → s.name ≡ t.name → i ≡ j
   one_place earlier [] i j s t none a b same = absurd (none-some s a)
@@ -34,8 +29,7 @@ module _ (params : List (List ℕ)) (number : ℕ) where
 
 -- the parameter of a setting
 place_there : (bit : Bool) (o : Option ℕ) (a : Assign) → option_map (assigned bit) o ≡ Some a → o ≡ Some a.param
-place_there bit None a e = absurd (none-some a e)
-place_there bit (Some place) a e = ap (λ (b : Assign). Some b.param) (same_Some (assigned bit place) a e)
+place_there bit o a e = grind (arith, none-some, same_Some)
 
 named_there : (params : List (List ℕ)) (s : Setting) (a : Assign) → assign_of params s ≡ Some a → slice_get params a.param ≡ Some s.name
 named_there params s a e = place_is params s.name a.param (place_there s.bit (place_of params s.name) a e)
@@ -55,23 +49,13 @@ assigned_fit params number settings assigns none are = record {
 
 -- a line without a refusal
 width_fits : (width : Option ℕ) (number : ℕ) (values : List Bool) → cycle_refusal width number values ≡ None → width ≡ Some (length values)
-width_fits None number values none = absurd (none-some _ (sym none))
-width_fits (Some width) number values none = ap (λ n. Some n) (sym (eqb-true (length values) width (none_else (eqb (length values) width) (Width number width) None none).0))
+width_fits width number values none = grind (arith, none-some, eqb-true, none_else, eqb)
 
 set_is : (o : Option (List Assign)) (event : EventValue) → option_map Set o ≡ Some event → (assigns : List Assign) × (o ≡ Some assigns) × (Set assigns ≡ event)
-set_is None event e = absurd (none-some event e)
-set_is (Some assigns) event e = (assigns, refl, same_Some (Set assigns) event e)
+set_is o event e = grind (arith, none-some, same_Some)
 
 said_fits : (names : NamesValue) (number : ℕ) (said : Option Saying) (event : EventValue) → saying_refusal names number said ≡ None → option_and_then (event_of names.params) said ≡ Some event → Fits names event
-said_fits names number None event none is = absurd (none-some _ (sym none))
-said_fits names number (Some (sets settings)) event none is =
-    let s = set_is (each_of (assign_of names.params) settings) event is in
-    subst (Fits names) s.2 (assigned_fit names.params number settings s.0 none s.1)
-said_fits names number (Some (cycles values)) event none is = subst (Fits names) (same_Some (Cycle values) event is) (width_fits names.width number values none)
-said_fits names number (Some (upsets address)) event none is =
-    subst (Fits names) (same_Some (Upset address) event is) (ltb-true address names.bits (none_else (ltb address names.bits) (Address number names.bits) None none).0)
-said_fits names number (Some scrubs) event none is = subst (Fits names) (same_Some Scrub event is) tt
-said_fits names number (Some images) event none is = subst (Fits names) (same_Some Image event is) tt
+said_fits names number said event none is = grind (arith, none-some, set_is, assigned_fit, same_Some, width_fits, ltb-true, none_else, ltb)
 
 -- the events of lines
 pub events_fit : (names : NamesValue) (lines : List WordsLine) (events : List EventValue) → AreEventsOf names lines events → (event : EventValue) → In events event → Fits names event

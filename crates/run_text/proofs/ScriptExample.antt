@@ -1,11 +1,13 @@
--- Worked examples: a script of all five events, what words say, and each refusal.
-use Rattle.run_text.proofs.Common.{replicate, ◌≡◌, ℕ, zero, suc, true, false, List, [], ◌∷◌, codes, map, inl, inr, ap, ◌∙◌, Option, Some, None, Ok, refl, sym, subst, arith, slice_get, none-some, Assign, WordsLine, LineValue, words_line, EventValue, event_values, Set, Cycle, Upset, Scrub, Image, Fits, NamesValue, refusal_of, split_last, setting_of, settings_of, bits_of, address_of, at_line, line_refusal, line_event, refusal_at, IsScript, IsScriptFault, ScriptErr, Malformed, NotHere, Width, NotParameter, RepeatedInSet, Address, Events, Memory}
+-- Worked examples: a script of all five events, what words say, each refusal, and each line that is put out.
+use Rattle.run_text.proofs.Common.{replicate, ◌≡◌, ℕ, zero, suc, true, false, List, [], ◌∷◌, codes, map, inl, inr, ap, ◌∙◌, Option, Some, None, Ok, refl, sym, subst, arith, slice_get, none-some, Assign, WordsLine, LineValue, words_line, EventValue, event_values, Set, Cycle, Upset, Scrub, Image, Fits, NamesValue, refusal_of, split_last, setting_of, settings_of, bits_of, address_of, at_line, line_refusal, line_event, refusal_at, IsScript, IsScriptFault, ScriptErr, Malformed, NotHere, Width, NotParameter, RepeatedInSet, Address, Events, Memory, bit_digit, bit_string, header_line, cycle_line, bits_header_line, write_text, set_line, scrub_line, upset_line, image_line}
 use Rattle.tl_fault.specs.RefusalValue.{refusal as told}
 use Rattle.tl_fault.specs.declared.refusal.Details.TheVariants.{Line, Bits}
 use Rattle.tl_fault.specs.declared.refusal.Details.TheVariants as details
 use Rattle.tl_text.specs.Lines.{lines_of}
 use Rattle.run_text.specs.declared.event.Event.TheVariants as event
 use Rattle.run_text.specs.declared.event.Forms.TheVariants as form
+use Rattle.std.specs.Fmt.{digits}
+use Rattle.tl_io.specs.declared.Write.{Write}
 
 -- two parameters, two regular inputs, four bits
 abbrev names : NamesValue
@@ -43,11 +45,8 @@ five_events = record { lines = lines; lines_are = refl; are = record { no_refusa
 splits : map split_last (codes "a=b=1" ∷ codes "ab" ∷ []) ≡ Some (record { front = codes "a=b"; back = codes "1" }) ∷ None ∷ []
 splits = refl
 
-settings : map setting_of (codes "a=b=1" ∷ codes "=1" ∷ []) ≡ Some (record { name = codes "a=b"; bit = true }) ∷ None ∷ []
-settings = refl
-
-no_setting : settings_of [] ≡ None
-no_setting = refl
+settings : (map setting_of (codes "a=b=1" ∷ codes "=1" ∷ []) ≡ Some (record { name = codes "a=b"; bit = true }) ∷ None ∷ []) × (settings_of [] ≡ None)
+settings = (refl, refl)
 
 -- `-` is no value, and another byte makes a word none of both
 values : map bits_of (codes "-" ∷ codes "01" ∷ codes "0-" ∷ []) ≡ Some [] ∷ Some (false ∷ true ∷ []) ∷ None ∷ []
@@ -82,11 +81,9 @@ bit_refusals : map refusal ((codes "upset" ∷ codes "4" ∷ []) ∷ (codes "ups
 bit_refusals = refl
 
 -- L7: behind 2^20 events, whatever the line is; one event fewer is taken
-one_too_many : line_refusal names 1048576 (record { number = 7; words = codes "what" ∷ [] }) ≡ Some (Events 7)
-one_too_many = refl
-
-the_last_one : line_refusal names 1048575 (record { number = 7; words = codes "image" ∷ [] }) ≡ None
-the_last_one = refl
+one_too_many : (line_refusal names 1048576 (record { number = 7; words = codes "what" ∷ [] }) ≡ Some (Events 7))
+    × (line_refusal names 1048575 (record { number = 7; words = codes "image" ∷ [] }) ≡ None)
+one_too_many = (refl, refl)
 
 -- the second line is the first that has a refusal
 abbrev refused_text : List ℕ
@@ -119,11 +116,9 @@ paced_events = refl
 paced_refusals : map (λ words. line_refusal paced 3 (paced_line words)) ((codes "ask" ∷ codes "z=1" ∷ []) ∷ (codes "tick" ∷ codes "1" ∷ []) ∷ []) ≡ Some (NotParameter 7 (codes "z")) ∷ Some (Width 7 2) ∷ []
 paced_refusals = refl
 
-not_paced : map (λ words. line_refusal paced 3 (paced_line words)) ((codes "set" ∷ codes "q=1" ∷ []) ∷ (codes "cycle" ∷ codes "10" ∷ []) ∷ (codes "image" ∷ []) ∷ []) ≡ replicate 3 (Some (Malformed 7))
-not_paced = refl
-
-no_ask : refusal (codes "ask" ∷ codes "q=1" ∷ []) ≡ Some (Malformed 7)
-no_ask = refl
+not_paced : (map (λ words. line_refusal paced 3 (paced_line words)) ((codes "set" ∷ codes "q=1" ∷ []) ∷ (codes "cycle" ∷ codes "10" ∷ []) ∷ (codes "image" ∷ []) ∷ []) ≡ replicate 3 (Some (Malformed 7)))
+    × (refusal (codes "ask" ∷ codes "q=1" ∷ []) ≡ Some (Malformed 7))
+not_paced = (refl, refl)
 
 -- a set fits where its parameters are there, each once, and a cycle where it has a value for each regular input
 one_place : (i : ℕ) (a : Assign) → slice_get (record { param = 1; bit = true } ∷ []) i ≡ Some a → i ≡ 0
@@ -136,11 +131,8 @@ set_fits = record {
   once = λ i j a b x y same. one_place i a x ∙ sym (one_place j b y);
 }
 
-cycle_fits : Fits names (Cycle (true ∷ false ∷ []))
-cycle_fits = refl
-
-upset_fits : Fits names (Upset 3)
-upset_fits = omega arith
+others_fit : Fits names (Cycle (true ∷ false ∷ [])) × Fits names (Upset 3)
+others_fit = (refl, omega arith)
 
 -- events without vectors as they are seen
 plain_events : event_values (event.Upset 3 ∷ event.Scrub ∷ event.Image ∷ []) ≡ Upset 3 ∷ Scrub ∷ Image ∷ []
@@ -150,3 +142,16 @@ plain_events = refl
 told_refusals : map refusal_of (Memory ∷ Malformed 7 ∷ Width 7 2 ∷ Address 7 4 ∷ [])
     ≡ None ∷ Some (told (codes "S1") (codes "Malformed") (Line 7)) ∷ Some (told (codes "S2") (codes "Width") (details.Width 7 2)) ∷ Some (told (codes "S5") (codes "Address") (Bits 7 4)) ∷ []
 told_refusals = refl
+
+-- the lines that are put out: those with numbers, and those of bits alone
+abbrev writes : List Write
+writes = record { address = 1; bit = true } ∷ record { address = 20; bit = false } ∷ []
+
+numbered_lines : header_line 1 4 12 ∷ bits_header_line 4 ∷ write_text (record { address = 7; bit = true }) ∷ set_line writes ∷ set_line [] ∷ scrub_line writes ∷ upset_line (record { address = 3; bit = false }) ∷ []
+    ≡ codes "luts 1 bits 4 depth 12\n" ∷ codes "bits 4\n" ∷ codes " 7=1" ∷ codes "set 2 1=1 20=0\n" ∷ codes "set 0\n" ∷ codes "scrub 2 1=1 20=0\n" ∷ codes "upset 3=0\n" ∷ []
+unfolding digits
+numbered_lines = refl
+
+bit_lines : (bit_digit false ∷ bit_digit true ∷ []) ∷ bit_string [] ∷ cycle_line (false ∷ true ∷ []) [] ∷ image_line (false ∷ true ∷ false ∷ []) ∷ image_line [] ∷ []
+    ≡ codes "01" ∷ codes "-" ∷ codes "cycle 01 -\n" ∷ codes "image 010\n" ∷ codes "image -\n" ∷ []
+bit_lines = refl

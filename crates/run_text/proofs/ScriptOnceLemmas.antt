@@ -1,15 +1,11 @@
 -- A text is one script at most, or has one refusal at most, and never both.
-use Rattle.run_text.proofs.Common.{List, ℕ, WordsLine, text_settled, NamesValue, refusal_at, line_event, script_err, IsFirstRefusal, AreEventsOf, HasOneReading}
+use Rattle.run_text.proofs.Common.{List, ℕ, WordsLine, text_settled, NamesValue, refusal_at, line_event, script_err, IsFirstRefusal, AreEventsOf, HasOneReading, rules}
 use Rattle.tl_fault.specs.Settled.{IsSettled}
 use Rattle.tl_text.proofs.FirstLemmas.{one_first, none_first}
 use Rattle.run_text.proofs.EachLemmas.{each_once}
 
 lines_settled : (names : NamesValue) (lines : List WordsLine) → IsSettled (AreEventsOf names lines) (IsFirstRefusal names lines)
-lines_settled names lines = record {
-  one_value = λ events others a b. each_once (line_event names) lines events others a.are b.are;
-  one_fault = one_first (refusal_at names lines);
-  not_both = λ events e are first. none_first (refusal_at names lines) e are.no_refusal first;
-}
+lines_settled names lines = search (rules, each_once, one_first, none_first)
 
 pub one_reading : (names : NamesValue) (text : List ℕ) → HasOneReading names text
 one_reading names text = text_settled script_err (λ lines. AreEventsOf names lines) (λ lines. IsFirstRefusal names lines) text (lines_settled names)

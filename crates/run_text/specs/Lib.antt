@@ -7,6 +7,3 @@ pub mod Sayings
 pub mod ScriptText
 pub mod Fits
 pub mod ScriptRefusals
--- What only bodies are compared with.
-pub mod Parts
-pub mod ScriptLines

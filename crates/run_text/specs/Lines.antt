@@ -2,6 +2,8 @@
 use Rattle.std.specs.Prelude.{ℕ, Bool, if◌then◌else◌, List, [], ◌∷◌, ◌++◌, length, map, codes, decimal}
 use Rattle.std.specs.List.{concat, flat_map}
 use Rattle.tl_io.specs.declared.Write.{Write}
+use Rattle.run_text.specs.declared.part.Part.{Part}
+use Rattle.run_text.specs.declared.part.Part.TheVariants.{Text, Number, Bits, Writes}
 
 -- a bit as a digit
 abbrev pub bit_digit : Bool → ℕ
@@ -55,3 +57,10 @@ upset_line write = concat (codes "upset" ∷ write_text write ∷ codes "\n" ∷
 -- the bits of a configuration in the order of their addresses
 abbrev pub image_line : List Bool → List ℕ
 image_line config = concat (codes "image " ∷ bit_string config ∷ codes "\n" ∷ [])
+
+-- the parts of a line
+abbrev pub part_text : Part → List ℕ
+part_text (Text text) = text.now
+part_text (Number number) = decimal number
+part_text (Bits bits) = bit_string bits.now
+part_text (Writes writes) = flat_map write_text writes.now

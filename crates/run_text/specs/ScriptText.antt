@@ -1,5 +1,5 @@
 -- A script as a text: the events of its lines, and its refusal, that of the first line that has one.
-use Rattle.std.specs.Prelude.{◌≡◌, ℕ, Bool, not, nat_lt, nat_le, ◌==◌, if◌then◌else◌, List, [], ◌∷◌, ◌++◌, length, Option, Some, None, slice_get}
+use Rattle.std.specs.Prelude.{◌≡◌, ℕ, Bool, not, nat_lt, nat_le, ◌==◌, if◌then◌else◌, List, [], ◌∷◌, ◌++◌, length, Option, Some, None, slice_get, Result, MatchResult}
 use Rattle.std.specs.Option.{option_map, option_and_then}
 use Rattle.tl_io.specs.declared.Assign.{Assign}
 use Rattle.tl_fault.specs.Settled.{IsSettled}
@@ -11,13 +11,16 @@ use Rattle.tl_text.specs.declared.text_err.TextErr.{TextErr}
 use Rattle.tl_text.specs.declared.text_err.TextErr.TheVariants as text_err
 use Rattle.tl_text.specs.NameSets.{has_name}
 use Rattle.run_text.specs.Each.{each_of}
-use Rattle.run_text.specs.EventValue.{EventValue, Set, Cycle, Upset, Scrub, Image}
+use Rattle.run_text.specs.EventValue.{EventValue, Set, Cycle, Upset, Scrub, Image, event_value}
 use Rattle.run_text.specs.NamesValue.{NamesValue}
 use Rattle.run_text.specs.Sayings.{Saying, sets, cycles, upsets, scrubs, images, said_of}
 use Rattle.run_text.specs.declared.event.TheConstants.{MOST_EVENTS}
 use Rattle.run_text.specs.declared.setting.Setting.{Setting}
 use Rattle.run_text.specs.declared.script_err.ScriptErr.{ScriptErr}
 use Rattle.run_text.specs.declared.script_err.ScriptErr.TheVariants.{BadByte, TrailingSlash, Malformed, NotHere, Width, NotParameter, RepeatedInSet, Address, Events, Memory}
+use Rattle.tl_fault.specs.OrMemory.{OrMemory}
+use Rattle.run_text.specs.ScriptRefusals.{refusal_of}
+use Rattle.run_text.specs.declared.event.Event.{Event}
 
 -- a refusal of a text's lines as one of a script
 abbrev pub script_err : TextErr → ScriptErr
@@ -98,3 +101,9 @@ IsScriptFault names = IsTextFault script_err (λ lines. IsFirstRefusal names lin
 -- a text is one script at most, or has one refusal at most, and never both
 abbrev pub HasOneReading : NamesValue → List ℕ → Type 0
 HasOneReading names text = IsSettled (IsScript names text) (IsScriptFault names text)
+
+-- the event of a line that says this, or its refusal
+abbrev pub Reads : NamesValue → ℕ → Option Saying → Result Event ScriptErr → Type 0
+Reads names number said result = MatchResult result
+    (λ event. (saying_refusal names number said ≡ None) × (option_and_then (event_of names.params) said ≡ Some (event_value event)))
+    (OrMemory refusal_of (λ e. saying_refusal names number said ≡ Some e))

@@ -3,8 +3,7 @@ ghost use Rattle.std.specs.Prelude.{◌≡◌, map};
 ghost use Rattle.std.specs.List.{flat_map};
 ghost use Rattle.tl_io.specs.Sink.{IsPut};
 ghost use Rattle.tl_piece.specs.Added.{IsAdded};
-ghost use Rattle.run_text.specs.Lines.{bit_digit, write_text};
-ghost use Rattle.run_text.specs.Parts.{part_text};
+ghost use Rattle.run_text.specs.Lines.{bit_digit, write_text, part_text};
 
 use crate::line_buf::LineBuf;
 use tl_io::{Failed, Sink, Write};

@@ -8,8 +8,7 @@ ghost use Rattle.tl_text.specs.LineValue.{IsLineIn, IsWithin, token_bytes, words
 ghost use Rattle.tl_text.specs.declared.token.Token.{Token as TokenValue};
 ghost use Rattle.run_text.specs.EventValue.{event_value};
 ghost use Rattle.run_text.specs.Sayings.{sets, cycles, upsets, settings_of, bits_of, address_of, only as only_word, form_of, said_by};
-ghost use Rattle.run_text.specs.ScriptLines.{Reads};
-ghost use Rattle.run_text.specs.ScriptText.{line_refusal, line_event};
+ghost use Rattle.run_text.specs.ScriptText.{Reads, line_refusal, line_event};
 ghost use Rattle.run_text.specs.ScriptRefusals.{refusal_of};
 ghost use Rattle.run_text.specs.declared.script_err.ScriptErr.TheVariants.{Malformed};
 

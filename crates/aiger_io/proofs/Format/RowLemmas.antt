@@ -1,18 +1,109 @@
--- The header, the lines of inputs, latches, outputs and AND gates, and symbols: what a line is read as is what it spells.
-use Rattle.aiger_io.proofs.Common.{◌≡◌, ◌⊎◌, ℕ, ◌≤◌, true, ◌&&◌, eqb, leb, List, [], ◌∷◌, length, Option, Some, None, Ok, Err, codes, inl, inr, refl, sym, ap, ◌∙◌, subst, arith, bytes_eq, bytes_decides, header_with, header_by, header_of, other_header, words_of, numbers_of, AagErr, Header, cond, true≢false, Bool, false, ◌||◌, join_with_byte, option_map, or_cases, or_right, cond-true, false_from_ne_true, In, one_number, init_of, latch_with, latch_of, and_with, and_of, item_of, number_of, IsNumber, AreNumbers, Item, Input, Latch, Output, And, Kind, zero, suc, ◌+◌, ◌<◌, get_or, take, drop, ◌++◌, length-append, length-drop, position_or_len, before_first, after_first, eqb-true, position_or_len_is, split_at_first, passes_at_first, take-append_seam, In-get_or, Symbol, IsLetterOf, IsSymbolRow, kind_of, symbol_by, symbol_with, symbol_of, nat_tests, some_then}
-use Rattle.std.proofs.lemmas.Bool.{le-leb}
-use Rattle.aiger_io.specs.HeaderRow.{is_header, header_numbers, IsNumbersRow, IsHeaderRow, IsLaterRow}
+-- Words and lines as they are spelled: the number that a word is read as is the one that it spells, a line's words are those that one blank joins, and what a
+-- header, an item or a symbol is read as is what its line spells.
+use Rattle.aiger_io.proofs.Common.{◌≡◌, ◌⊎◌, ℕ, ◌≤◌, true, ◌&&◌, eqb, leb, List, [], ◌∷◌, length, Option, Some, None, Ok, Err, codes, inl, inr, refl, sym, ap, ◌∙◌, subst, arith, bytes_eq, bytes_decides, header_with, header_by, header_of, other_header, words_of, numbers_of, AagErr, Header, cond, true≢false, Bool, false, ◌||◌, join_with_byte, option_map, or_cases, or_right, cond-true, false_from_ne_true, In, one_number, init_of, latch_with, latch_of, and_with, and_of, item_of, number_of, IsNumber, AreNumbers, Item, Input, Latch, Output, And, Kind, suc, ◌+◌, ◌<◌, get_or, drop, ◌++◌, length-append, length-drop, position_or_len, before_first, after_first, eqb-true, position_or_len_is, split_at_first, passes_at_first, take-append_seam, In-get_or, Symbol, IsLetterOf, IsSymbolRow, kind_of, symbol_by, symbol_with, symbol_of, nat_tests, some_then, le-leb, get_or-append, get_or-append_seam, rules, ◌-◌, ◌*◌, not, append_assoc, append-nil, list_all, slice_split_none, slice_split_at, join_with_byte-slice_split, is_digit, is_decimal, number_from, number_from-push, in_front, and_from, and_parts, or_left, not-true, not_from_false, leb-true, eqb-false, ne_eqb}
+use Rattle.aiger_io.specs.AigerText.{is_header, header_numbers, IsNumbersRow, IsHeaderRow, IsLaterRow, kind_of_item, IsInit, IsLatchRow, IsItemRow, digit, more}
 use Rattle.aiger_io.specs.declared.aag_err.AagErr.TheVariants as aag_err
-use Rattle.aiger_io.proofs.Format.SpellingLemmas.{HasNoBlank, numbers_are, numbers_spell, numbers_blank, joined_words, words_joined, number_is, number_spells, number_blank}
-use Rattle.aiger_io.specs.ItemRow.{kind_of_item, IsInit, none, zero_word, own_word, one_word, IsLatchRow, IsItemRow}
-use Rattle.aiger_io.specs.declared.item.Kind.TheVariants as kind
 use Rattle.aiger_io.proofs.LineLemmas.{chosen, five, ok_then, with_is}
 
+digits_pushed : (ds : List ℕ) (d : ℕ) → list_all is_digit ds ≡ true → is_digit d ≡ true → list_all is_digit (ds ++ d ∷ []) ≡ true
+digits_pushed [] d all one = and_from (is_digit d) true one refl
+digits_pushed (b ∷ bs) d all one = let p = and_parts (is_digit b) (list_all is_digit bs) all in and_from (is_digit b) (list_all is_digit (bs ++ d ∷ [])) p.0 (digits_pushed bs d p.1 one)
+
+digit_here : (n : ℕ) → n < 10 → is_digit (48 + n) ≡ true
+digit_here n l = grind (arith, nat_tests)
+
+-- what is known of a word that spells a number
+record IsRead (word : List ℕ) (n : ℕ) : Type 0 where
+  all : list_all is_digit word ≡ true
+  value : number_from 0 word ≡ n
+  form : is_decimal word ≡ true
+  head : 0 < n → (b : ℕ) (bs : List ℕ) → word ≡ b ∷ bs → eqb b 48 ≡ false
+
+more_read : (front : List ℕ) (m d : ℕ) → IsRead front m → 0 < m → d < 10 → IsRead (front ++ (48 + d) ∷ []) (10 * m + d)
+more_read front m d k pos l = grind (arith, eqb, digits_pushed, digit_here, number_from-push, and_from, or_left, not_from_false)
+
+is_read : {word : List ℕ} {n : ℕ} → IsNumber word n → IsRead word n
+is_read {word} {n} (digit l e) = subst (λ w. IsRead w n) (sym e) (search (rules, digits_pushed, digit_here, and_from, eqb, or_right, ne_eqb))
+is_read {word} {n} (more front m d k pos l e v) = subst (λ w. IsRead w n) (sym e) (subst (IsRead (front ++ (48 + d) ∷ [])) (sym v) (more_read front m d (is_read k) pos l))
+
+pub number_is : (word : List ℕ) (n : ℕ) → IsNumber word n → number_of word ≡ Some n
+number_is word n k = let r = is_read k in cond-true (is_decimal word) (Some (number_from 0 word)) None r.form ∙ ap (λ v. Some v) r.value
+
+-- and back
+spelled_from : (front : List ℕ) (m : ℕ) (bs : List ℕ) → IsNumber front m → 0 < m → list_all is_digit bs ≡ true → IsNumber (front ++ bs) (number_from m bs)
+spelled_from front m [] is pos all = subst (λ w. IsNumber w m) (sym (append-nil front)) is
+spelled_from front m (b ∷ bs) is pos all =
+    let p = and_parts (is_digit b) (list_all is_digit bs) all in
+    let q = and_parts (leb 48 b) (leb b 57) p.0 in
+    let low : 48 ≤ b = leb-true 48 b q.0 in
+    let high : b ≤ 57 = leb-true b 57 q.1 in
+    let same : b ≡ 48 + (b - 48) = omega arith in
+    grind (arith, append_assoc, spelled_from (front ++ b ∷ []) (10 * m + (b - 48)) bs (more front m (b - 48) is pos (omega arith) (ap (λ x. front ++ x ∷ []) same) refl) (omega arith) p.1)
+
+only : (b : ℕ) (bs : List ℕ) → IsNumber (b ∷ []) (10 * 0 + (b - 48)) → length bs ≡ 0 → IsNumber (b ∷ bs) (number_from (10 * 0 + (b - 48)) bs)
+only b [] one z = one
+only b (x ∷ xs) one z = absurd (omega arith)
+
+spelled : (word : List ℕ) → is_decimal word ≡ true → IsNumber word (number_from 0 word)
+spelled [] e = absurd (cc)
+spelled (b ∷ bs) e =
+    let p = and_parts (list_all is_digit (b ∷ bs)) (not (eqb b 48) || eqb (length bs) 0) e in
+    let a = and_parts (is_digit b) (list_all is_digit bs) p.0 in
+    let q = and_parts (leb 48 b) (leb b 57) a.0 in
+    let low : 48 ≤ b = leb-true 48 b q.0 in
+    let high : b ≤ 57 = leb-true b 57 q.1 in
+    let one : IsNumber (b ∷ []) (10 * 0 + (b - 48)) = digit (omega arith) (ap (λ x. x ∷ []) (omega arith)) in
+    elim (or_cases (not (eqb b 48)) (eqb (length bs) 0) p.1) [
+      | inl t ↦ (let ne : b ≡ 48 → ⊥ = eqb-false b 48 (not-true (eqb b 48) t) in spelled_from (b ∷ []) (10 * 0 + (b - 48)) bs one (omega (arith, ne)) a.1)
+      | inr t ↦ only b bs one (eqb-true (length bs) 0 t)
+    ]
+
+pub number_spells : (word : List ℕ) (n : ℕ) → number_of word ≡ Some n → IsNumber word n
+number_spells word n e = grind (arith, some_then, spelled)
+
+-- numbers, one by one
+pub numbers_are : (words : List (List ℕ)) (numbers : List ℕ) → AreNumbers words numbers → numbers_of words ≡ Some numbers
+numbers_are [] [] are = refl
+numbers_are (w ∷ ws) (n ∷ ns) are = ap (λ o. in_front o (numbers_of ws)) (number_is w n are.0) ∙ ap (in_front (Some n)) (numbers_are ws ns are.1)
+numbers_are words numbers are = absurd are
+
+front_spells : (w : List ℕ) (ws : List (List ℕ)) (o : Option ℕ) (os : Option (List ℕ)) (numbers : List ℕ) → number_of w ≡ o → ((ns : List ℕ) → os ≡ Some ns → AreNumbers ws ns) → in_front o os ≡ Some numbers → AreNumbers (w ∷ ws) numbers
+front_spells w ws o os numbers is later e = grind (arith, number_spells)
+
+pub numbers_spell : (words : List (List ℕ)) (numbers : List ℕ) → numbers_of words ≡ Some numbers → AreNumbers words numbers
+numbers_spell [] [] e = tt
+numbers_spell [] (n ∷ ns) e = absurd (cc)
+numbers_spell (w ∷ ws) numbers e = front_spells w ws (number_of w) (numbers_of ws) numbers refl (λ ns is. numbers_spell ws ns is) e
+
+-- no blank stands in a number
+abbrev pub HasNoBlank : List ℕ → Type 0
+HasNoBlank word = (b : ℕ) → In word b → eqb b 32 ≡ false
+
+no_blanks : (ds : List ℕ) → list_all is_digit ds ≡ true → HasNoBlank ds
+no_blanks [] all b i = absurd i
+no_blanks (d ∷ ds) all b (inl e) = grind (arith, and_parts, leb, leb-true, ne_eqb)
+no_blanks (d ∷ ds) all b (inr i) = no_blanks ds (and_parts (is_digit d) (list_all is_digit ds) all).1 b i
+
+pub number_blank : (word : List ℕ) (n : ℕ) → IsNumber word n → HasNoBlank word
+number_blank word n k = no_blanks word (is_read k).all
+
+pub numbers_blank : (words : List (List ℕ)) (numbers : List ℕ) → AreNumbers words numbers → (w : List ℕ) → In words w → HasNoBlank w
+numbers_blank (x ∷ xs) (n ∷ ns) are w (inl e) = subst HasNoBlank (sym e) (number_blank x n are.0)
+numbers_blank (x ∷ xs) (n ∷ ns) are w (inr i) = numbers_blank xs ns are.1 w i
+numbers_blank words numbers are w i = search rules
+
+-- the words that one blank joins are the line's
+pub joined_words : (w : List ℕ) (ws : List (List ℕ)) → ((v : List ℕ) → In (w ∷ ws) v → HasNoBlank v) → words_of (join_with_byte 32 (w ∷ ws)) ≡ w ∷ ws
+joined_words w [] none = slice_split_none (λ b. eqb b 32) w (λ k d l. none w (inl refl) (get_or w k d) (In-get_or w k d l))
+joined_words w (x ∷ xs) none =
+    slice_split_at (λ b. eqb b 32) w 32 (join_with_byte 32 (x ∷ xs)) (λ k d l. none w (inl refl) (get_or w k d) (In-get_or w k d l)) refl
+    ∙ ap (λ l. w ∷ l) (joined_words x xs (λ v i. none v (inr i)))
+
+pub words_joined : (row : List ℕ) (words : List (List ℕ)) → words_of row ≡ words → row ≡ join_with_byte 32 words
+words_joined row words e = sym (join_with_byte-slice_split 32 row) ∙ ap (join_with_byte 32) e
+
 aag_blank : HasNoBlank (codes "aag")
-aag_blank b (inl e) = ap (λ x. eqb x 32) e
-aag_blank b (inr (inl e)) = ap (λ x. eqb x 32) e
-aag_blank b (inr (inr (inl e))) = ap (λ x. eqb x 32) e
-aag_blank b (inr (inr (inr i))) = absurd i
+aag_blank b e = grind (arith, eqb)
 
 row_words : (row : List ℕ) (numbers : List ℕ) (r : IsNumbersRow row numbers) → words_of row ≡ codes "aag" ∷ r.words
 row_words row numbers r = ap words_of r.row_is ∙ joined_words (codes "aag") r.words (λ w i. elim i [ inl e ↦ subst HasNoBlank (sym e) aag_blank | inr j ↦ numbers_blank r.words numbers r.are w j ])
@@ -26,12 +117,8 @@ row_read row numbers r =
 pub header_row_is : (row : List ℕ) (h : Header) → IsHeaderRow row h → header_of (words_of row) ≡ Ok h
 header_row_is row h r = row_read row (header_numbers h) r.numbers ∙ cond-true (is_header h) (Ok h) (Err aag_err.Header) r.whole
 
-later_with : (numbers : List ℕ) → 6 ≤ length numbers → length numbers ≤ 9 → header_with numbers ≡ Err aag_err.Unsupported
-later_with (a ∷ b ∷ c ∷ d ∷ e ∷ f ∷ ns) l m = cc (le-leb 6 (length (a ∷ b ∷ c ∷ d ∷ e ∷ f ∷ ns)) l, le-leb (length (a ∷ b ∷ c ∷ d ∷ e ∷ f ∷ ns)) 9 m)
-later_with ns l m = absurd (omega arith)
-
 pub later_row_is : (row : List ℕ) → IsLaterRow row → header_of (words_of row) ≡ Err aag_err.Unsupported
-later_row_is row r = row_read row r.numbers r.are ∙ later_with r.numbers r.least r.most
+later_row_is row r = row_read row r.numbers r.are ∙ grind (arith, le-leb)
 
 -- an error of the header is one of two
 record IsMany (numbers : List ℕ) : Type 0 where
@@ -43,14 +130,10 @@ data IsHeaderError (numbers : List ℕ) (e : AagErr) : Type 0 where
   later : e ≡ aag_err.Unsupported → IsMany numbers → IsHeaderError numbers e
 
 other_error : (ns : List ℕ) (e : AagErr) → other_header ns ≡ e → IsHeaderError ns e
-other_error ns e is = elim (chosen (leb 6 (length ns) && leb (length ns) 9) aag_err.Unsupported aag_err.Header e is) [
-  | inl t ↦ later (sym t.1) (record { least = grind (arith, nat_tests); most = grind (arith, nat_tests) })
-  | inr t ↦ bad (sym t.1)
-]
+other_error ns e is = search (rules, chosen, leb, nat_tests)
 
 with_error : (ns : List ℕ) (e : AagErr) → header_with ns ≡ Err e → IsHeaderError ns e
-with_error (m ∷ i ∷ l ∷ o ∷ a ∷ []) e is = elim (chosen (is_header (five m i l o a)) (Ok (five m i l o a)) (Err aag_err.Header) (Err e) is) [ inl t ↦ absurd (cc) | inr t ↦ bad (cc) ]
-with_error ns e is = other_error ns e (cc)
+with_error ns e is = grind (arith, chosen, five, other_error)
 
 -- so of a line
 spelled_row : (row : List ℕ) (w : List ℕ) (ws : List (List ℕ)) (numbers : List ℕ) → words_of row ≡ w ∷ ws → bytes_eq w (codes "aag") ≡ true → numbers_of ws ≡ Some numbers → IsNumbersRow row numbers
@@ -61,33 +144,20 @@ spelled_row row w ws numbers is t are = record {
 }
 
 by_is : (row w : List ℕ) (ws : List (List ℕ)) (o : Option (List ℕ)) (h : Header) → words_of row ≡ w ∷ ws → bytes_eq w (codes "aag") ≡ true → numbers_of ws ≡ o → header_by o ≡ Ok h → IsHeaderRow row h
-by_is row w ws None h is t are e = absurd (cc)
-by_is row w ws (Some ns) h is t are e =
-    let k = with_is ns h e in
-    record { numbers = subst (IsNumbersRow row) k.are (spelled_row row w ws ns is t are); whole = k.whole }
+by_is row w ws o h is t are e = grind (arith, with_is, spelled_row)
 
 header_words : (row : List ℕ) (words : List (List ℕ)) (h : Header) → words_of row ≡ words → header_of words ≡ Ok h → IsHeaderRow row h
-header_words row [] h is e = absurd (cc)
-header_words row (w ∷ ws) h is e =
-    let t = ok_then (bytes_eq w (codes "aag")) (header_by (numbers_of ws)) aag_err.Header h e in by_is row w ws (numbers_of ws) h is t.0 refl t.1
+header_words row words h is e = grind (arith, ok_then, codes, by_is)
 
 pub is_header_row : (row : List ℕ) (h : Header) → header_of (words_of row) ≡ Ok h → IsHeaderRow row h
 is_header_row row h e = header_words row (words_of row) h refl e
 
 -- and of its refusal
 by_error : (row w : List ℕ) (ws : List (List ℕ)) (o : Option (List ℕ)) (e : AagErr) → words_of row ≡ w ∷ ws → bytes_eq w (codes "aag") ≡ true → numbers_of ws ≡ o → header_by o ≡ Err e → (e ≡ aag_err.Header) ⊎ ((e ≡ aag_err.Unsupported) × IsLaterRow row)
-by_error row w ws None e is t are made = inl (cc)
-by_error row w ws (Some ns) e is t are made = elim (with_error ns e made) [
-  | bad b ↦ inl b
-  | later b m ↦ inr (b, record { numbers = ns; are = spelled_row row w ws ns is t are; least = m.least; most = m.most })
-]
+by_error row w ws o e is t are made = grind (arith, with_error, made, spelled_row)
 
 error_words : (row : List ℕ) (words : List (List ℕ)) (e : AagErr) → words_of row ≡ words → header_of words ≡ Err e → (e ≡ aag_err.Header) ⊎ ((e ≡ aag_err.Unsupported) × IsLaterRow row)
-error_words row [] e is made = inl (cc)
-error_words row (w ∷ ws) e is made = elim (chosen (bytes_eq w (codes "aag")) (header_by (numbers_of ws)) (Err aag_err.Header) (Err e) made) [
-  | inl t ↦ by_error row w ws (numbers_of ws) e is t.0 refl t.1
-  | inr t ↦ inl (cc)
-]
+error_words row words e is made = grind (arith, chosen, codes, made, by_error)
 
 pub header_error : (row : List ℕ) (e : AagErr) → header_of (words_of row) ≡ Err e → (e ≡ aag_err.Header) ⊎ ((e ≡ aag_err.Unsupported) × IsLaterRow row)
 header_error row e made = error_words row (words_of row) e refl made
@@ -96,36 +166,20 @@ one_word_row : (row : List ℕ) (n : ℕ) → IsNumber row n → words_of row �
 one_word_row row n k = joined_words row [] (λ v i. elim i [ inl e ↦ subst HasNoBlank (sym e) (number_blank row n k) | inr j ↦ absurd j ])
 
 digit_blank : (d : ℕ) → eqb d 32 ≡ false → HasNoBlank (d ∷ [])
-digit_blank d f b (inl e) = subst (λ x. eqb x 32 ≡ false) (sym e) f
-digit_blank d f b (inr i) = absurd i
+digit_blank d f b e = grind (arith, eqb)
 
 -- the init of a latch
 init_blank : (own : List ℕ) (init : Bool) (words : List (List ℕ)) → HasNoBlank own → IsInit own init words → (v : List ℕ) → In words v → HasNoBlank v
-init_blank own init words clean (none e f) v i = absurd (subst (λ ws. In ws v) e i)
-init_blank own init words clean (zero_word e f) v i = elim (subst (λ ws. In ws v) e i) [ inl s ↦ subst HasNoBlank (sym s) (digit_blank 48 refl) | inr j ↦ absurd j ]
-init_blank own init words clean (own_word e ne f) v i = elim (subst (λ ws. In ws v) e i) [ inl s ↦ subst HasNoBlank (sym s) clean | inr j ↦ absurd j ]
-init_blank own init words clean (one_word e f) v i = elim (subst (λ ws. In ws v) e i) [ inl s ↦ subst HasNoBlank (sym s) (digit_blank 49 refl) | inr j ↦ absurd j ]
+init_blank own init words clean e v i = grind (arith, digit_blank)
 
 own_init : (own : List ℕ) → (own ≡ codes "1" → ⊥) → init_of own own ≡ Some false
 own_init own ne = cc (false_from_ne_true (bytes_eq own (codes "1")) (λ t. ne ((bytes_decides own (codes "1")).0 t)), or_right (bytes_eq own (codes "0")) (bytes_eq own own) ((bytes_decides own own).1 refl))
 
 latch_read : (own_text next_text : List ℕ) (own next : ℕ) (init : Bool) (words : List (List ℕ)) → number_of own_text ≡ Some own → number_of next_text ≡ Some next → IsInit own_text init words → latch_of (own_text ∷ next_text ∷ words) ≡ Some (Latch own next init)
-latch_read a b own next init words p q (none e f) =
-    ap (λ ws. latch_of (a ∷ b ∷ ws)) e ∙ ap (λ o. latch_with o (number_of b) (Some false)) p ∙ ap (λ o. latch_with (Some own) o (Some false)) q ∙ ap (λ i. Some (Latch own next i)) (sym f)
-latch_read a b own next init words p q (zero_word e f) =
-    ap (λ ws. latch_of (a ∷ b ∷ ws)) e ∙ ap (λ o. latch_with o (number_of b) (Some false)) p ∙ ap (λ o. latch_with (Some own) o (Some false)) q ∙ ap (λ i. Some (Latch own next i)) (sym f)
-latch_read a b own next init words p q (own_word e ne f) =
-    ap (λ ws. latch_of (a ∷ b ∷ ws)) e ∙ ap (λ o. latch_with o (number_of b) (init_of a a)) p ∙ ap (λ o. latch_with (Some own) o (init_of a a)) q ∙ ap (latch_with (Some own) (Some next)) (own_init a ne) ∙ ap (λ i. Some (Latch own next i)) (sym f)
-latch_read a b own next init words p q (one_word e f) =
-    ap (λ ws. latch_of (a ∷ b ∷ ws)) e ∙ ap (λ o. latch_with o (number_of b) (Some true)) p ∙ ap (λ o. latch_with (Some own) o (Some true)) q ∙ ap (λ i. Some (Latch own next i)) (sym f)
+latch_read own_text next_text own next init words p q e = grind (arith, own_init)
 
 gate_read : (words : List (List ℕ)) (own left right : ℕ) → AreNumbers words (own ∷ left ∷ right ∷ []) → and_of words ≡ Some (And own left right)
-gate_read [] own left right are = absurd are
-gate_read (a ∷ []) own left right are = absurd are.1
-gate_read (a ∷ b ∷ []) own left right are = absurd are.1.1
-gate_read (a ∷ b ∷ c ∷ []) own left right are =
-    ap (λ o. and_with o (number_of b) (number_of c)) (number_is a own are.0) ∙ ap (λ o. and_with (Some own) o (number_of c)) (number_is b left are.1.0) ∙ ap (and_with (Some own) (Some left)) (number_is c right are.1.1.0)
-gate_read (a ∷ b ∷ c ∷ d ∷ more) own left right are = absurd are.1.1.1
+gate_read words own left right are = grind (arith, number_is)
 
 gate_words : (row : List ℕ) (words : List (List ℕ)) (own left right : ℕ) → row ≡ join_with_byte 32 words → AreNumbers words (own ∷ left ∷ right ∷ []) → words_of row ≡ words
 gate_words row [] own left right e are = absurd are
@@ -156,35 +210,23 @@ one_number_form row w make item None is p row_is q = absurd (cc)
 one_number_form row w make item (Some n) is p row_is q = made row (make n) item (row_is n (subst (λ r. IsNumber r n) (sym (words_joined row (w ∷ []) is)) (number_spells w n p))) q
 
 one_form : (row : List ℕ) (make : ℕ → Item) (words : List (List ℕ)) (item : Item) → words_of row ≡ words → ((n : ℕ) → IsNumber row n → IsItemRow row (make n)) → option_map make (one_number words) ≡ Some item → IsItemRow row item
-one_form row make (w ∷ []) item is row_is e = one_number_form row w make item (number_of w) is refl row_is e
-one_form row make words item is row_is e = absurd (cc)
+one_form row make words item is row_is e = grind (arith, one_number_form)
 
 zero_init : (own word : List ℕ) → bytes_eq word (codes "1") ≡ false → (bytes_eq word (codes "0") ≡ true) ⊎ (bytes_eq word own ≡ true) → IsInit own false (word ∷ [])
-zero_init own word f (inl t) = zero_word (ap (λ w. w ∷ []) ((bytes_decides word (codes "0")).0 t)) refl
-zero_init own word f (inr t) =
-    let same : word ≡ own = (bytes_decides word own).0 t in
-    own_word (ap (λ w. w ∷ []) same) (λ e. true≢false (sym ((bytes_decides word (codes "1")).1 (same ∙ e)) ∙ f)) refl
+zero_init own word f e = search (rules, codes, true≢false)
 
 other_init : (own word : List ℕ) (init : Bool) → bytes_eq word (codes "1") ≡ false → cond (bytes_eq word (codes "0") || bytes_eq word own) (Some false) None ≡ Some init → IsInit own init (word ∷ [])
-other_init own word init f s =
-    let t = some_then (bytes_eq word (codes "0") || bytes_eq word own) (Some false) init s in
-    let same : false ≡ init = cc in subst (λ i. IsInit own i (word ∷ [])) same (zero_init own word f (or_cases (bytes_eq word (codes "0")) (bytes_eq word own) t.0))
+other_init own word init f s = grind (arith, some_then, codes, zero_init, or_cases)
 
 init_form : (own word : List ℕ) (init : Bool) → init_of own word ≡ Some init → IsInit own init (word ∷ [])
-init_form own word init e = elim (chosen (bytes_eq word (codes "1")) (Some true) _ (Some init) e) [
-  | inl t ↦ one_word (ap (λ w. w ∷ []) ((bytes_decides word (codes "1")).0 t.0)) (cc)
-  | inr t ↦ other_init own word init t.0 t.1
-]
+init_form own word init e = search (rules, chosen, codes, other_init)
 
 latch_form : (row a b : List ℕ) (words : List (List ℕ)) (x y : Option ℕ) (z : Option Bool) (item : Item) → words_of row ≡ a ∷ b ∷ words → number_of a ≡ x → number_of b ≡ y → ((init : Bool) → z ≡ Some init → IsInit a init words) → latch_with x y z ≡ Some item → IsItemRow row item
-latch_form row a b words (Some own) (Some next) (Some bit) item is p q init e =
-    made row (Latch own next bit) item (record { own_word = a; next_word = b; init_words = words; row_is = words_joined row (a ∷ b ∷ words) is; own_is = number_spells a own p; next_is = number_spells b next q; init_is = init bit refl }) e
+latch_form row a b words (Some own) (Some next) (Some bit) item is p q init e = search (rules, made, words_joined, number_spells)
 latch_form row a b words x y z item is p q init e = absurd (cc)
 
 latches_form : (row : List ℕ) (words : List (List ℕ)) (item : Item) → words_of row ≡ words → latch_of words ≡ Some item → IsItemRow row item
-latches_form row (a ∷ b ∷ []) item is e = latch_form row a b [] (number_of a) (number_of b) (Some false) item is refl refl (λ init s. none refl (cc)) e
-latches_form row (a ∷ b ∷ c ∷ []) item is e = latch_form row a b (c ∷ []) (number_of a) (number_of b) (init_of a c) item is refl refl (λ init s. init_form a c init s) e
-latches_form row words item is e = absurd (cc)
+latches_form row words item is e = grind (arith, latch_form, init_form)
 
 gate_form : (row a b c : List ℕ) (x y z : Option ℕ) (item : Item) → words_of row ≡ a ∷ b ∷ c ∷ [] → number_of a ≡ x → number_of b ≡ y → number_of c ≡ z → and_with x y z ≡ Some item → IsItemRow row item
 gate_form row a b c (Some own) (Some left) (Some right) item is p q r e =
@@ -192,23 +234,10 @@ gate_form row a b c (Some own) (Some left) (Some right) item is p q r e =
 gate_form row a b c x y z item is p q r e = absurd (cc)
 
 gates_form : (row : List ℕ) (words : List (List ℕ)) (item : Item) → words_of row ≡ words → and_of words ≡ Some item → IsItemRow row item
-gates_form row (a ∷ b ∷ c ∷ []) item is e = gate_form row a b c (number_of a) (number_of b) (number_of c) item is refl refl refl e
-gates_form row words item is e = absurd (cc)
+gates_form row words item is e = grind (arith, gate_form)
 
 pub item_spelled : (row : List ℕ) (k : Kind) (item : Item) → item_of k (words_of row) ≡ Some item → IsItemRow row item
-item_spelled row kind.Input item e = one_form row (λ (l : ℕ). Input l) (words_of row) item refl (λ n is. is) e
-item_spelled row kind.Latch item e = latches_form row (words_of row) item refl e
-item_spelled row kind.Output item e = one_form row (λ (l : ℕ). Output l) (words_of row) item refl (λ n is. is) e
-item_spelled row kind.And item e = gates_form row (words_of row) item refl e
-
-get_front : (w ys : List ℕ) (k : ℕ) → k < length w → get_or (w ++ ys) k 0 ≡ get_or w k 0
-get_front [] ys k l = absurd (let e : k < length {A = ℕ} [] = l in omega arith)
-get_front (x ∷ w) ys zero l = refl
-get_front (x ∷ w) ys (suc k) l = get_front w ys k (omega arith)
-
-get_behind : (w ys : List ℕ) (b : ℕ) → get_or (w ++ b ∷ ys) (length w) 0 ≡ b
-get_behind [] ys b = refl
-get_behind (x ∷ w) ys b = get_behind w ys b
+item_spelled row k item e = grind (arith, one_form, latches_form, gates_form)
 
 drop_behind : (w ys : List ℕ) (b : ℕ) → drop (suc (length w)) (w ++ b ∷ ys) ≡ ys
 drop_behind [] ys b = refl
@@ -216,16 +245,14 @@ drop_behind (x ∷ w) ys b = drop_behind w ys b
 
 blank_at : (w rest : List ℕ) → HasNoBlank w → position_or_len (λ b. eqb b 32) (w ++ 32 ∷ rest) ≡ length w
 blank_at w rest clean = position_or_len_is (λ b. eqb b 32) (w ++ 32 ∷ rest) (length w) 0 (omega (arith, length-append w (32 ∷ rest)))
-    (λ k l. ap (λ b. eqb b 32) (get_front w (32 ∷ rest) k l) ∙ clean (get_or w k 0) (In-get_or w k 0 l)) (λ l. ap (λ b. eqb b 32) (get_behind w rest 32))
+    (λ k l. ap (λ b. eqb b 32) (get_or-append w (32 ∷ rest) 0 k l) ∙ clean (get_or w k 0) (In-get_or w k 0 l)) (λ l. ap (λ b. eqb b 32) (get_or-append_seam w 32 rest 0))
 
 -- a line with a blank is what stands before it and what stands behind it
 pub symbol_split : (key name : List ℕ) → HasNoBlank key → symbol_of (key ++ 32 ∷ name) ≡ symbol_with key name
 symbol_split key name clean =
     let at : position_or_len (λ b. eqb b 32) (key ++ 32 ∷ name) ≡ length key = blank_at key name clean in
     let z : length key + 1 ≡ suc (length key) = omega arith in
-    ap (λ n. symbol_with (take n (key ++ 32 ∷ name)) (drop (n + 1) (key ++ 32 ∷ name))) at
-    ∙ ap (λ w. symbol_with w (drop (length key + 1) (key ++ 32 ∷ name))) (take-append_seam key (32 ∷ name))
-    ∙ ap (symbol_with key) (ap (λ n. drop n (key ++ 32 ∷ name)) z ∙ drop_behind key name 32)
+    grind (arith, take-append_seam, drop_behind)
 
 letter_read : (k : Kind) (letter : ℕ) → IsLetterOf k letter → kind_of letter ≡ Some k
 letter_read k letter e = grind (arith, nat_tests)
@@ -234,12 +261,10 @@ letter_blank : (k : Kind) (letter : ℕ) → IsLetterOf k letter → eqb letter 
 letter_blank k letter e = grind (arith, nat_tests)
 
 key_blank : (letter : ℕ) (digits : List ℕ) → eqb letter 32 ≡ false → HasNoBlank digits → HasNoBlank (letter ∷ digits)
-key_blank letter digits f clean b (inl e) = subst (λ x. eqb x 32 ≡ false) (sym e) f
-key_blank letter digits f clean b (inr i) = clean b i
+key_blank letter digits f clean b e = grind (arith, eqb)
 
 parts_read : (letter : ℕ) (digits name : List ℕ) (k : Kind) (n : ℕ) → kind_of letter ≡ Some k → number_of digits ≡ Some n → 0 < length name → symbol_with (letter ∷ digits) name ≡ Some (record { kind = k; ordinal = n; name = name })
-parts_read letter digits [] k n p q some = absurd (let e : 0 < length {A = ℕ} [] = some in omega arith)
-parts_read letter digits (b ∷ bs) k n p q some = ap (λ o. symbol_by (b ∷ bs) o (kind_of letter)) q ∙ ap (symbol_by (b ∷ bs) (Some n)) p
+parts_read letter digits name k n p q some = grind arith
 
 pub symbol_read : (row : List ℕ) (s : Symbol) → IsSymbolRow row s → symbol_of row ≡ Some s
 symbol_read row s r =
@@ -262,20 +287,15 @@ record AreParts (key name : List ℕ) (s : Symbol) : Type 0 where
   some : 0 < length s.name
 
 by_parts : (letter : ℕ) (digits name : List ℕ) (o : Option ℕ) (k : Option Kind) (s : Symbol) → 0 < length name → number_of digits ≡ o → kind_of letter ≡ k → symbol_by name o k ≡ Some s → AreParts (letter ∷ digits) name s
-by_parts letter digits name (Some n) (Some k) s some p q e =
-    let same : record { kind = k; ordinal = n; name = name } ≡ s = cc in
-    subst (AreParts (letter ∷ digits) name) same (record { letter = letter; digits = digits; key_is = refl; name_is = refl; letter_is = letter_is letter k q; ordinal_is = number_spells digits n p; some = some })
-by_parts letter digits name o k s some p q e = absurd (cc)
+by_parts letter digits name o k s some p q e = grind (arith, letter_is, number_spells)
 
 parts_are : (key name : List ℕ) (s : Symbol) → symbol_with key name ≡ Some s → AreParts key name s
-parts_are (letter ∷ digits) (b ∷ bs) s e = by_parts letter digits (b ∷ bs) (number_of digits) (kind_of letter) s (omega arith) refl refl e
-parts_are key name s e = absurd (cc)
+parts_are key name s e = grind (arith, by_parts)
 
 pub symbol_spelled : (row : List ℕ) (s : Symbol) → symbol_of row ≡ Some s → IsSymbolRow row s
 symbol_spelled row s e =
     let p = parts_are (before_first (λ b. eqb b 32) row) (after_first (λ b. eqb b 32) row) s e in
     let n : length (after_first (λ b. eqb b 32) row) ≡ length s.name = ap length p.name_is in
-    let some : 0 < length s.name = p.some in
     let within : position_or_len (λ b. eqb b 32) row < length row = omega (arith, length-drop (position_or_len (λ b. eqb b 32) row + 1) row) in
     let blank : get_or row (position_or_len (λ b. eqb b 32) row) 0 ≡ 32 = eqb-true (get_or row (position_or_len (λ b. eqb b 32) row) 0) 32 (passes_at_first (λ b. eqb b 32) row 0 within) in
     record {
@@ -285,5 +305,5 @@ symbol_spelled row s e =
           ∙ ap (λ k. k ++ 32 ∷ after_first (λ b. eqb b 32) row) p.key_is ∙ ap (λ x. (p.letter ∷ p.digits) ++ 32 ∷ x) p.name_is;
       letter_is = p.letter_is;
       ordinal_is = p.ordinal_is;
-      some = some;
+      some = p.some;
     }

@@ -1,11 +1,11 @@
 -- What symbols say, at the places of inputs, latches and outputs: a symbol may stand where its place is free, and then its name stands there.
--- The names of inputs and outputs that are read are their symbols', or the default ones, and these are one list alone.
-use Rattle.aiger_io.proofs.Common.{◌≡◌, ℕ, ◌+◌, ◌<◌, true, false, not, ltb, List, [], ◌∷◌, ◌++◌, length, map, Option, Some, None, inl, inr, refl, sym, ap, ◌∙◌, subst, arith, true≢false, slice_get, slice_set, slice_index_or, is_some, and_from, and_parts, ltb-true, lt-ltb, not-true, length-replicate, map-append, get_or_from_slice_get, In, In-left, In-push, In-pushed, at_within, set_here, set_other, set_length, same_or, named_count, SymbolsValue, no_name, no_symbols, first_of, place_of, may_stand, with_symbol, Header, Kind, zero, suc, ◌≤◌, Bool, ◌&&◌, take, drop, unwrap_or, bytes_eq, bytes_decides, same_Some, slice_get_within, In-get, same_list, has_name, in_has, Circuit, input_names, output_names, port_names, is_twice, is_port, name_at, first_twice, IsPort, IsAlike, Symbol, count_of, AagErr, BadSymbol, nat_tests}
-use Rattle.aiger_io.specs.SymbolRow.{MayStand, is_bad_name}
+-- The names of inputs and outputs that are read are their symbols', or the default ones, and these are one list alone. The lines of symbols one by one.
+use Rattle.aiger_io.proofs.Common.{◌≡◌, ℕ, ◌+◌, ◌<◌, true, false, not, ltb, List, [], ◌∷◌, ◌++◌, length, map, Option, Some, None, inl, inr, refl, sym, ap, ◌∙◌, subst, arith, true≢false, slice_get, slice_set, slice_index_or, is_some, and_from, and_parts, ltb-true, lt-ltb, not-true, length-replicate, map-append, get_or_from_slice_get, In, In-left, In-push, In-pushed, at_within, set_here, set_other, set_length, same_or, named_count, SymbolsValue, no_name, no_symbols, first_of, place_of, may_stand, with_symbol, Header, Kind, zero, suc, ◌≤◌, Bool, ◌&&◌, take, drop, unwrap_or, bytes_eq, bytes_decides, same_Some, slice_get_within, In-get, same_list, has_name, in_has, Circuit, input_names, output_names, port_names, is_twice, is_port, name_at, first_twice, IsPort, IsAlike, Symbol, count_of, AagErr, BadSymbol, nat_tests, or_left, or_right, cond-true, cond-false, cases_Bool, MayStand, is_bad_name, default_name, IsNameOf, by_symbol, AreNamesOf, Ok, Err, codes, append_assoc, append-nil, false_from_ne_true, IsSymbolRow, AreSymbolRows, AllStand, IsComment, symbol_of, symbol_at, symbols_from, rules}
 use Rattle.aiger_io.specs.declared.item.Kind.TheVariants.{Input, Latch, Output}
 use Rattle.aiger_io.proofs.PortLemmas.{none_at, names_at, take_at, drop_at, inputs_length, outputs_length, two_places}
-use Rattle.std.proofs.lemmas.Bool.{or_left, or_right, cond-true, cond-false, cases_Bool}
-use Rattle.aiger_io.specs.PortName.{default_name, IsNameOf, by_symbol, by_default, AreNamesOf}
+use Rattle.aiger_io.specs.declared.aag_err.AagErr.TheVariants as aag_err
+use Rattle.aiger_io.proofs.LineLemmas.{symbols_next}
+use Rattle.aiger_io.proofs.Format.RowLemmas.{symbol_read, symbol_spelled}
 
 -- a place is that of one kind and ordinal
 pub record AreSame (k l : Kind) (m n : ℕ) : Type 0 where
@@ -36,13 +36,7 @@ pub record Says (h : Header) (symbols : List Symbol) (said : SymbolsValue) : Typ
   pub places : said.places ≡ map (place_of h) symbols
 
 pub nothing_said : (h : Header) → Says h [] (no_symbols h)
-nothing_said h = record {
-  size = length-replicate (h.inputs + h.latches + h.outputs) no_name;
-  below = λ s i. absurd i;
-  there = λ s i. absurd i;
-  only = λ p name e. absurd (none_at (h.inputs + h.latches + h.outputs) p name e);
-  places = refl;
-}
+nothing_said h = search (rules, length-replicate, none_at)
 
 module _ (h : Header) (symbols : List Symbol) (said : SymbolsValue) (says : Says h symbols said) (s : Symbol) where
   -- a symbol that may stand has a free place
@@ -55,24 +49,12 @@ module _ (h : Header) (symbols : List Symbol) (said : SymbolsValue) (says : Says
 
   pub may_read : MayStand h symbols s → may_stand h said s ≡ true
   may_read may =
-      let w : place_of h s < length said.names = (let l : place_of h s < named_count h = place_within h s.kind s.ordinal may.below in let n : length said.names ≡ named_count h = says.size in omega arith) in
-      let o = at_within said.names (place_of h s) w in
+      let o = at_within said.names (place_of h s) (let l : place_of h s < named_count h = place_within h s.kind s.ordinal may.below in let n : length said.names ≡ named_count h = says.size in omega arith) in
       and_from (ltb s.ordinal (count_of h s.kind)) _ (lt-ltb s.ordinal (count_of h s.kind) may.below)
       (and_from (not (is_some (slice_index_or said.names (place_of h s) None))) (not (is_bad_name s.name)) (ap not (free_place may o.0 o.1)) (ap not may.good))
 
   pub read_may : may_stand h said s ≡ true → MayStand h symbols s
-  read_may t =
-      let p = and_parts (ltb s.ordinal (count_of h s.kind)) _ t in
-      let q = and_parts (not (is_some (slice_index_or said.names (place_of h s) None))) (not (is_bad_name s.name)) p.1 in
-      let free : is_some (slice_index_or said.names (place_of h s) None) ≡ false = not-true (is_some (slice_index_or said.names (place_of h s) None)) q.0 in
-      record {
-        below = ltb-true s.ordinal (count_of h s.kind) p.0;
-        fresh = λ u i k n.
-            let same : place_of h u ≡ place_of h s = ap (λ x. first_of h x + u.ordinal) k ∙ ap (λ x. first_of h s.kind + x) n in
-            let there : slice_get said.names (place_of h s) ≡ Some (Some u.name) = subst (λ x. slice_get said.names x ≡ Some (Some u.name)) same (says.there u i) in
-            true≢false (sym (ap is_some (get_or_from_slice_get said.names (place_of h s) (Some u.name) None there)) ∙ free);
-        good = not-true (is_bad_name s.name) q.1;
-      }
+  read_may t = grind (arith, and_parts, ltb, not-true, ltb-true, true≢false, get_or_from_slice_get)
 
   module _ (may : MayStand h symbols s) where
     place_there : place_of h s < length said.names
@@ -96,7 +78,6 @@ module _ (h : Header) (symbols : List Symbol) (said : SymbolsValue) (says : Says
       only = λ p name e. elim (same_or p (place_of h s)) [
         | inl q ↦ (
             let here : slice_get (slice_set said.names (place_of h s) (Some s.name)) (place_of h s) ≡ Some (Some s.name) = set_here said.names (place_of h s) (Some s.name) place_there in
-            let there : slice_get (slice_set said.names (place_of h s) (Some s.name)) (place_of h s) ≡ Some (Some name) = subst (λ i. slice_get (slice_set said.names (place_of h s) (Some s.name)) i ≡ Some (Some name)) q e in
             let same : s.name ≡ name = cc in
             record { symbol = s; among = In-pushed symbols s; at = sym q; named = same })
         | inr d ↦ (
@@ -107,16 +88,12 @@ module _ (h : Header) (symbols : List Symbol) (said : SymbolsValue) (says : Says
     }
 
 same_symbol : (s : Symbol) (k : Kind) (n : ℕ) (x : List ℕ) → s.kind ≡ k → s.ordinal ≡ n → s.name ≡ x → s ≡ record { kind = k; ordinal = n; name = x }
-same_symbol s k n x p q r =
-    ap (λ (a : Kind). record { kind = a; ordinal = s.ordinal; name = s.name }) p ∙ ap (λ (b : ℕ). record { kind = k; ordinal = b; name = s.name }) q ∙ ap (λ (c : List ℕ). record { kind = k; ordinal = n; name = c }) r
+same_symbol s k n x p q r = grind arith
 
 module _ (h : Header) (symbols : List Symbol) (said : SymbolsValue) (says : Says h symbols said) where
   -- the name at a place
   name_of : (k : Kind) (letter i : ℕ) (o : Option (List ℕ)) (x : List ℕ) → i < count_of h k → slice_get said.names (first_of h k + i) ≡ Some o → x ≡ unwrap_or o (default_name letter i) → IsNameOf symbols k letter i x
-  name_of k letter i None x l at is = by_default (λ s j p q.
-      let same : place_of h s ≡ first_of h k + i = ap (λ y. first_of h y + s.ordinal) p ∙ ap (λ y. first_of h k + y) q in
-      let there : slice_get said.names (first_of h k + i) ≡ Some (Some s.name) = subst (λ y. slice_get said.names y ≡ Some (Some s.name)) same (says.there s j) in
-      absurd (let e : None ≡ Some s.name = same_Some None (Some s.name) (sym at ∙ there) in cc)) is
+  name_of k letter i None x l at is = grind (arith, same_Some)
   name_of k letter i (Some name) x l at is =
       let f = says.only (first_of h k + i) name at in
       let a = place_apart h f.symbol.kind k f.symbol.ordinal i (says.below f.symbol f.among) l f.at in
@@ -137,34 +114,26 @@ module _ (h : Header) (symbols : List Symbol) (said : SymbolsValue) (says : Says
     count_is = outputs_length h said says.size;
     each = λ i x e.
         let n = names_at 111 0 (drop (h.inputs + h.latches) said.names) i x e in
-        let t = drop_at (h.inputs + h.latches) said.names i n.name n.at in
         let w : i < length (output_names h said) = slice_get_within (output_names h said) i x e in
         let c : length (output_names h said) ≡ h.outputs = outputs_length h said says.size in
         let z : i ≡ 0 + i = omega arith in
-        name_of Output 111 i n.name x (omega arith) t (n.is ∙ ap (λ y. unwrap_or n.name (default_name 111 y)) (sym z));
+        name_of Output 111 i n.name x (omega arith) (drop_at (h.inputs + h.latches) said.names i n.name n.at) (n.is ∙ ap (λ y. unwrap_or n.name (default_name 111 y)) (sym z));
   }
 
   -- one name alone
   name_once : (k : Kind) (letter i : ℕ) (x y : List ℕ) → IsNameOf symbols k letter i x → IsNameOf symbols k letter i y → x ≡ y
-  name_once k letter i x y (by_symbol a) (by_symbol b) =
-      let p : slice_get said.names (first_of h k + i) ≡ Some (Some x) = says.there (record { kind = k; ordinal = i; name = x }) a in
-      let q : slice_get said.names (first_of h k + i) ≡ Some (Some y) = says.there (record { kind = k; ordinal = i; name = y }) b in
-      let e : Some x ≡ Some y = same_Some (Some x) (Some y) (sym p ∙ q) in cc
-  name_once k letter i x y (by_symbol a) (by_default none is) = absurd (none (record { kind = k; ordinal = i; name = x }) a refl refl)
-  name_once k letter i x y (by_default none is) (by_symbol b) = absurd (none (record { kind = k; ordinal = i; name = y }) b refl refl)
-  name_once k letter i x y (by_default none is) (by_default other same) = is ∙ sym same
+  name_once k letter i x y e e2 = grind (arith, same_Some)
 
   pub names_once : (k : Kind) (letter count : ℕ) (names others : List (List ℕ)) → AreNamesOf symbols k letter count names → AreNamesOf symbols k letter count others → names ≡ others
   names_once k letter count names others a b = same_list names others (a.count_is ∙ sym b.count_is) (λ i x y p q. name_once k letter i x y (a.each i x p) (b.each i y q))
 
 -- a name that stands at two places
 twice_at : (names : List (List ℕ)) (i j : ℕ) (x : List ℕ) → i < j → slice_get names i ≡ Some x → slice_get names j ≡ Some x → is_twice names x ≡ true
-twice_at [] i j x l p q = absurd (cc)
 twice_at (n ∷ names) zero (suc j) x l p q =
     let e : n ≡ x = cc in
     or_left (bytes_eq x n && has_name names x) (is_twice names x) (and_from (bytes_eq x n) (has_name names x) ((bytes_decides x n).1 (sym e)) (in_has names x (In-get names j x q)))
 twice_at (n ∷ names) (suc i) (suc j) x l p q = or_right (bytes_eq x n && has_name names x) (is_twice names x) (twice_at names i j x (omega arith) p q)
-twice_at names i j x l p q = absurd (omega arith)
+twice_at names i j x l p q = search rules
 
 -- the places of inputs and outputs
 port_is : (h : Header) (k : Kind) (n : ℕ) → n < count_of h k → IsPort k → is_port h (first_of h k + n) ≡ true
@@ -183,18 +152,10 @@ module _ (c : Circuit) (symbols : List Symbol) (said : SymbolsValue) (says : Say
   name_said s i = ap (λ o. unwrap_or o []) (get_or_from_slice_get said.names (place_of c.header s) (Some s.name) no_name (says.there s i))
 
   alike_read : (s : Symbol) → In symbols s → IsAlike c s → (is_port c.header (place_of c.header s) && is_twice (port_names c.header said) (name_at said (place_of c.header s))) ≡ true
-  alike_read s i a = and_from (is_port c.header (place_of c.header s)) (is_twice (port_names c.header said) (name_at said (place_of c.header s)))
-      (port_is c.header s.kind s.ordinal (says.below s i) a.port)
-      (ap (λ l. is_twice l (name_at said (place_of c.header s))) (sym ports) ∙ ap (is_twice (c.inputs ++ c.outputs)) (name_said s i)
-      ∙ twice_at (c.inputs ++ c.outputs) (a.twice).first (a.twice).second s.name (a.twice).order (a.twice).here (a.twice).there)
+  alike_read s i a = grind (arith, and_from, port_is, name_said, twice_at)
 
   read_alike : (s : Symbol) → In symbols s → (is_port c.header (place_of c.header s) && is_twice (port_names c.header said) (name_at said (place_of c.header s))) ≡ true → IsAlike c s
-  read_alike s i t =
-      let p = and_parts (is_port c.header (place_of c.header s)) (is_twice (port_names c.header said) (name_at said (place_of c.header s))) t in
-      record {
-        port = is_port_of c.header s.kind s.ordinal (says.below s i) p.0;
-        twice = two_places (c.inputs ++ c.outputs) s.name (ap (is_twice (c.inputs ++ c.outputs)) (sym (name_said s i)) ∙ ap (λ l. is_twice l (name_at said (place_of c.header s))) ports ∙ p.1);
-      }
+  read_alike s i t = grind (arith, and_parts, is_port_of, two_places, name_said)
 
   abbrev names_another : Symbol → Bool
   names_another s = is_port c.header (place_of c.header s) && is_twice (port_names c.header said) (name_at said (place_of c.header s))
@@ -208,23 +169,19 @@ module _ (c : Circuit) (symbols : List Symbol) (said : SymbolsValue) (says : Say
   -- where it stands
   pub twice_read : (line : ℕ) (before after : List Symbol) (s : Symbol) → ((t : Symbol) → In (before ++ s ∷ after) t → In symbols t) → ((t : Symbol) → In before t → IsAlike c t → ⊥) → IsAlike c s
       → first_twice c.header said line (map (place_of c.header) (before ++ s ∷ after)) ≡ Some (BadSymbol (line + length before) s.name)
-  twice_read line [] after s among none is =
-      let z : line ≡ line + length {A = Symbol} [] = omega arith in
-      found_here line s after (among s (inl refl)) (alike_read s (among s (inl refl)) is) ∙ ap (λ n. Some (BadSymbol n s.name)) z
+  twice_read line [] after s among none is = grind (arith, found_here, alike_read)
   twice_read line (t ∷ before) after s among none is =
-      let z : line + 1 + length before ≡ line + length (t ∷ before) = omega arith in
       go_on line t (before ++ s ∷ after) (elim (cases_Bool (names_another t)) [
         | inl a ↦ absurd (none t (inl refl) (read_alike t (among t (inl refl)) a))
         | inr f ↦ f
       ])
-      ∙ twice_read (line + 1) before after s (λ u i. among u (inr i)) (λ u i. none u (inr i)) is ∙ ap (λ n. Some (BadSymbol n s.name)) z
+      ∙ twice_read (line + 1) before after s (λ u i. among u (inr i)) (λ u i. none u (inr i)) is ∙ ap (λ n. Some (BadSymbol n s.name)) (omega arith)
 
   -- and whether one does
   behind : (line : ℕ) (t : Symbol) (ss : List Symbol) (o : Option AagErr) → (IsAlike c t → ⊥) → IsTwiceEnd c (line + 1) ss o → IsTwiceEnd c line (t ∷ ss) o
   behind line t ss o not_it (never none is) = never (λ s i a. elim i [ inl e ↦ not_it (subst (IsAlike c) e a) | inr j ↦ none s j a ]) is
   behind line t ss o not_it (first before after s split none a is) =
-      let z : line + 1 + length before ≡ line + length (t ∷ before) = omega arith in
-      first (t ∷ before) after s (ap (λ l. t ∷ l) split) (λ u i b. elim i [ inl e ↦ not_it (subst (IsAlike c) e b) | inr j ↦ none u j b ]) a (is ∙ ap (λ n. Some (BadSymbol n s.name)) z)
+      first (t ∷ before) after s (ap (λ l. t ∷ l) split) (λ u i b. elim i [ inl e ↦ not_it (subst (IsAlike c) e b) | inr j ↦ none u j b ]) a (is ∙ ap (λ n. Some (BadSymbol n s.name)) (omega arith))
 
   pub twice_end : (line : ℕ) (ss : List Symbol) → ((t : Symbol) → In ss t → In symbols t) → IsTwiceEnd c line ss (first_twice c.header said line (map (place_of c.header) ss))
   twice_end line [] among = never (λ s i a. i) refl
@@ -234,3 +191,92 @@ module _ (c : Circuit) (symbols : List Symbol) (said : SymbolsValue) (says : Say
     | inr f ↦ subst (IsTwiceEnd c line (s ∷ ss)) (sym (go_on line s ss f))
         (behind line s ss (first_twice c.header said (line + 1) (map (place_of c.header) ss)) (λ a. true≢false (sym (alike_read s (among s (inl refl)) a) ∙ f)) (twice_end (line + 1) ss (λ t i. among t (inr i))))
   ]
+
+-- a symbol is no comment
+pub no_comment : (row : List ℕ) (s : Symbol) → IsSymbolRow row s → row ≡ codes "c" → ⊥
+no_comment row s r e = let q : r.letter ∷ (r.digits ++ 32 ∷ s.name) ≡ codes "c" = sym r.row_is ∙ e in let c : r.letter ≡ 99 = cc in grind arith
+
+pub not_c : (row : List ℕ) → (row ≡ codes "c" → ⊥) → bytes_eq row (codes "c") ≡ false
+not_c row ne = false_from_ne_true (bytes_eq row (codes "c")) (λ t. ne ((bytes_decides row (codes "c")).0 t))
+
+-- what symbols leave
+pub record IsSaid (h : Header) (line : ℕ) (said : SymbolsValue) (rows : List (List ℕ)) (symbols : List Symbol) (count : ℕ) (rest : List (List ℕ)) : Type 0 where
+  pub more : SymbolsValue
+  pub says : Says h symbols more
+  pub same : symbols_from h line said rows ≡ symbols_from h (line + count) more rest
+
+-- what stands is read
+pub symbols_read : (h : Header) (line : ℕ) (said : SymbolsValue) (earlier : List Symbol) (rows : List (List ℕ)) (symbols : List Symbol) (rest : List (List ℕ)) → AreSymbolRows rows symbols → AllStand h earlier symbols → Says h earlier said
+    → IsSaid h line said (rows ++ rest) (earlier ++ symbols) (length symbols) rest
+symbols_read h line said earlier [] [] rest are stand says = search (rules, append-nil)
+symbols_read h line said earlier (row ∷ rows) (s ∷ symbols) rest are stand says =
+    let t : may_stand h said s ≡ true = may_read h earlier said says s stand.0 in
+    let w = symbols_read h (line + 1) (with_symbol h s said) (earlier ++ s ∷ []) rows symbols rest are.1 stand.1 (says_more h earlier said says s stand.0) in
+    record {
+      more = w.more;
+      says = subst (λ e. Says h e w.more) (append_assoc earlier (s ∷ []) symbols) w.says;
+      same = symbols_next h line said row (rows ++ rest) (with_symbol h s said) (not_c row (λ e. no_comment row s are.0 e))
+          (ap (symbol_at h line said) (symbol_read row s are.0) ∙ cond-true (may_stand h said s) (Ok (with_symbol h s said)) (Err (aag_err.BadSymbol line s.name)) t)
+          ∙ w.same ∙ ap (λ n. symbols_from h n w.more rest) (omega arith);
+    }
+symbols_read h line said earlier rows symbols rest are stand says = absurd are
+
+-- where it ends: a comment or nothing follows, or a line that isn't of its form, or a symbol that may not stand
+pub data IsSymbolsEnd (h : Header) (symbols : List Symbol) (rest : List (List ℕ)) : Type 0 where
+  done : IsComment rest → IsSymbolsEnd h symbols rest
+  formless : (row : List ℕ) (more : List (List ℕ)) → rest ≡ row ∷ more → (row ≡ codes "c" → ⊥) → symbol_of row ≡ None → IsSymbolsEnd h symbols rest
+  bad : (row : List ℕ) (more : List (List ℕ)) (s : Symbol) → rest ≡ row ∷ more → symbol_of row ≡ Some s → (MayStand h symbols s → ⊥) → IsSymbolsEnd h symbols rest
+
+pub record IsSymbolsWalk (h : Header) (earlier : List Symbol) (rows : List (List ℕ)) : Type 0 where
+  pub symbol_rows : List (List ℕ)
+  pub symbols : List Symbol
+  pub rest : List (List ℕ)
+  pub said : SymbolsValue
+  pub rows_are : rows ≡ symbol_rows ++ rest
+  pub are : AreSymbolRows symbol_rows symbols
+  pub stand : AllStand h earlier symbols
+  pub says : Says h (earlier ++ symbols) said
+  pub ends : IsSymbolsEnd h (earlier ++ symbols) rest
+
+walk_ended : (h : Header) (said : SymbolsValue) (earlier : List Symbol) (rows : List (List ℕ)) → Says h earlier said → IsSymbolsEnd h earlier rows → IsSymbolsWalk h earlier rows
+walk_ended h said earlier rows says ends = record {
+  symbol_rows = [];
+  symbols = [];
+  rest = rows;
+  said = said;
+  rows_are = refl;
+  are = tt;
+  stand = tt;
+  says = subst (λ e. Says h e said) (sym (append-nil earlier)) says;
+  ends = subst (λ e. IsSymbolsEnd h e rows) (sym (append-nil earlier)) ends;
+}
+
+-- one step, where the line was looked at
+walk_step : (h : Header) (said : SymbolsValue) (earlier : List Symbol) (row : List ℕ) (rows : List (List ℕ)) (o : Option Symbol) → Says h earlier said → (row ≡ codes "c" → ⊥) → symbol_of row ≡ o
+    → ((s : Symbol) → MayStand h earlier s → IsSymbolsWalk h (earlier ++ s ∷ []) rows) → IsSymbolsWalk h earlier (row ∷ rows)
+walk_step h said earlier row rows None says ne is later = walk_ended h said earlier (row ∷ rows) says (formless row rows refl ne is)
+walk_step h said earlier row rows (Some s) says ne is later = elim (cases_Bool (may_stand h said s)) [
+  | inl t ↦ (
+      let may = read_may h earlier said says s t in
+      let w = later s may in
+      record {
+        symbol_rows = row ∷ w.symbol_rows;
+        symbols = s ∷ w.symbols;
+        rest = w.rest;
+        said = w.said;
+        rows_are = ap (λ l. row ∷ l) w.rows_are;
+        are = (symbol_spelled row s is, w.are);
+        stand = (may, w.stand);
+        says = subst (λ e. Says h e w.said) (append_assoc earlier (s ∷ []) w.symbols) w.says;
+        ends = subst (λ e. IsSymbolsEnd h e w.rest) (append_assoc earlier (s ∷ []) w.symbols) w.ends;
+      })
+  | inr g ↦ walk_ended h said earlier (row ∷ rows) says (bad row rows s refl is (λ may. true≢false (sym (may_read h earlier said says s may) ∙ g)))
+]
+
+pub symbols_walk : (h : Header) (said : SymbolsValue) (earlier : List Symbol) (rows : List (List ℕ)) → Says h earlier said → IsSymbolsWalk h earlier rows
+symbols_walk h said earlier [] says = walk_ended h said earlier [] says (done tt)
+symbols_walk h said earlier (row ∷ rows) says = elim (cases_Bool (bytes_eq row (codes "c"))) [
+  | inl t ↦ walk_ended h said earlier (row ∷ rows) says (done ((bytes_decides row (codes "c")).0 t))
+  | inr f ↦ walk_step h said earlier row rows (symbol_of row) says (λ e. true≢false (sym ((bytes_decides row (codes "c")).1 e) ∙ f)) refl
+      (λ s may. symbols_walk h (with_symbol h s said) (earlier ++ s ∷ []) rows (says_more h earlier said says s may))
+]

@@ -1,18 +1,13 @@
 -- Every text is a circuit or is refused, as it is read; so it has one reading.
-use Rattle.aiger_io.proofs.Common.{◌≡◌, ◌⊎◌, ℕ, ◌+◌, ◌≤◌, true, leb, leb-true, List, [], ◌∷◌, ◌++◌, length, Some, None, Result, Ok, Err, inl, inr, refl, sym, ap, ◌∙◌, subst, arith, IfOk, IfErr, lines, LibraryValue, OrMemory, OrMemory-map, IsOfFormatWith, IsAigerText, Circuit, header_of, IsHeaderRow, words_of, first_twice, circuit_with, circuit_of, IsLibraryIn, refusal_of, Begins, BeginsWithSymbols, IsRefused, later, bad_header, missing, malformed, out_of_range, malformed_symbol, bad_symbol, alike, Symbol, IsComment, no_symbols, AagErr, Header, Item}
-use Rattle.aiger_io.specs.ItemRow.{kind_of_item, item_count, kind_at}
+use Rattle.aiger_io.proofs.Common.{◌≡◌, ◌⊎◌, ℕ, ◌+◌, ◌≤◌, true, leb, leb-true, List, [], ◌∷◌, ◌++◌, length, Some, None, Result, Ok, Err, inl, inr, refl, sym, ap, ◌∙◌, subst, arith, IfOk, IfErr, lines, LibraryValue, OrMemory, OrMemory-map, IsOfFormatWith, IsAigerText, Circuit, header_of, IsHeaderRow, words_of, first_twice, circuit_with, circuit_of, IsLibraryIn, refusal_of, Begins, BeginsWithSymbols, IsRefused, later, bad_header, missing, malformed, out_of_range, malformed_symbol, bad_symbol, alike, Symbol, IsComment, no_symbols, AagErr, Header, Item, kind_of_item, item_count, kind_at, rules}
 use Rattle.aiger_io.specs.Reading.{IsLibraryOf, HasOneReading, HasCircuit, HasRefusal, HasRunsOf}
 use Rattle.aiger_io.specs.declared.aag_err.AagErr.TheVariants as aag_err
-use Rattle.aiger_io.proofs.Format.AigerTextLemmas.{format_parsed, parsed_read, text_read, item_here, ports_of, refused_read}
+use Rattle.aiger_io.proofs.Format.AigerTextLemmas.{format_parsed, parsed_read, text_read, item_here, ports_of, refused_read, IsItemsWalk, IsItemsEnd, whole, gone, formless, out, items_walk, HaveKinds, in_sections}
 use Rattle.aiger_io.proofs.CleanLemmas.{text_ports_once}
 use Rattle.aiger_io.proofs.Format.RowLemmas.{header_row_is, later_row_is, is_header_row, header_error, item_spelled, symbol_read, symbol_spelled}
-use Rattle.aiger_io.proofs.LineLemmas.{same_answer, one_error, no_answer}
-use Rattle.aiger_io.proofs.Format.ItemWalkLemmas.{IsItemsWalk, IsItemsEnd, whole, gone, formless, out, items_walk}
 use Rattle.aiger_io.proofs.LawLemmas.{text_fit, text_runs}
-use Rattle.aiger_io.proofs.Format.SaidLemmas.{never, first, twice_end, inputs_named, outputs_named, nothing_said}
-use Rattle.aiger_io.proofs.Format.SectionLemmas.{HaveKinds, in_sections}
-use Rattle.aiger_io.proofs.Format.SymbolWalkLemmas.{IsSymbolsWalk, IsSymbolsEnd, symbols_walk}
-use Rattle.aiger_io.proofs.Format.SymbolWalkLemmas as symbol
+use Rattle.aiger_io.proofs.Format.SaidLemmas.{never, first, twice_end, inputs_named, outputs_named, nothing_said, IsSymbolsWalk, IsSymbolsEnd, symbols_walk}
+use Rattle.aiger_io.proofs.Format.SaidLemmas as symbol
 use Rattle.aiger_io.proofs.PlaceLemmas.{form_kind}
 
 pub data IsSettled (text : List ℕ) : Type 0 where
@@ -40,13 +35,12 @@ format_settled text c symbols l f =
 no_first : (text row : List ℕ) (rest : List (List ℕ)) (e : AagErr) → lines text ≡ row ∷ rest → header_of (words_of row) ≡ Err e → IsSettled text
 no_first text row rest e are is = elim (header_error row e is) [
   | inl same ↦ (
-      let told : header_of (words_of row) ≡ Err aag_err.Header = is ∙ ap (λ (x : AagErr). Err x) same in
       refused text aag_err.Header (bad_header
       (λ r more a l. (let q : row ∷ rest ≡ r ∷ more = sym are ∙ a in let same_row : r ≡ row = cc in
       let u : header_of (words_of row) ≡ Err aag_err.Unsupported = subst (λ x. header_of (words_of x) ≡ Err aag_err.Unsupported) same_row (later_row_is r l) in
-      let w : aag_err.Unsupported ≡ aag_err.Header = one_error (header_of (words_of row)) aag_err.Unsupported aag_err.Header u told in absurd (cc)))
+      absurd (cc)))
       (λ h r more a k. (let q : row ∷ rest ≡ r ∷ more = sym are ∙ a in let same_row : r ≡ row = cc in
-      no_answer (header_of (words_of row)) aag_err.Header h told (subst (λ x. header_of (words_of x) ≡ Ok h) same_row (header_row_is r h k))))
+      let w : header_of (words_of row) ≡ Ok h = subst (λ x. header_of (words_of x) ≡ Ok h) same_row (header_row_is r h k) in cc))
       refl))
   | inr l ↦ refused text aag_err.Unsupported (later row rest are l.1 refl)
 ]
@@ -57,27 +51,12 @@ module _ (text row : List ℕ) (rest : List (List ℕ)) (are : lines text ≡ ro
   items_kinds p item e = let z : length {A = Item} [] + p ≡ p = omega arith in subst (λ n. kind_of_item item ≡ kind_at h n) z ((w.stretch).kinds p item e)
 
   begins : Begins text h w.items w.rest
-  begins = record {
-    header_row = row;
-    item_rows = w.item_rows;
-    rows_are = are ∙ ap (λ l. row ∷ l) w.rows_are;
-    header = header;
-    items_are = (w.stretch).are;
-    kinds = items_kinds;
-    range = (w.stretch).range;
-  }
+  begins = search (rules, items_kinds)
 
   -- all items are there, and symbols behind them
   module _ (count : length w.items ≡ item_count h) (v : IsSymbolsWalk h [] w.rest) where
     symbols_begin : BeginsWithSymbols text h v.symbols v.rest
-    symbols_begin = record {
-      items = w.items;
-      symbol_rows = v.symbol_rows;
-      begins = subst (Begins text h w.items) v.rows_are begins;
-      whole = count;
-      are_symbols = v.are;
-      stand = v.stand;
-    }
+    symbols_begin = search (rules, begins, whole)
 
     abbrev found : Circuit
     found = circuit_with h w.items v.said
@@ -110,7 +89,6 @@ module _ (text row : List ℕ) (rest : List (List ℕ)) (are : lines text ≡ ro
 
   items_settled : length text ≤ 67108864 → IsItemsEnd h w.items w.rest → IsSettled text
   items_settled l (whole all) =
-      let few : length {A = Item} [] + length w.items ≤ item_count h = w.few in
       let v = symbols_walk h (no_symbols h) [] w.rest (nothing_said h) in
       symbols_settled (omega arith) v l v.ends
   items_settled l (gone low at) = refused text (aag_err.Malformed (length w.items + 2)) (missing h w.items (subst (Begins text h w.items) at begins) low refl)
@@ -134,12 +112,12 @@ settled text l = rows_settled text (lines text) l refl
 
 -- so what is read is so
 circuit_as : (text : List ℕ) (c : Circuit) → circuit_of text ≡ Ok c → IsSettled text → IsAigerText text c
-circuit_as text c e (is_circuit d is same) = subst (IsAigerText text) (same_answer (circuit_of text) d c same e) is
-circuit_as text c e (is_refused f is same) = absurd (no_answer (circuit_of text) f c same e)
+circuit_as text c e (is_circuit d is same) = let q : d ≡ c = cc in subst (IsAigerText text) q is
+circuit_as text c e (is_refused f is same) = absurd (cc)
 
 refused_as : (text : List ℕ) (e : AagErr) → circuit_of text ≡ Err e → IsSettled text → IsRefused text e
-refused_as text e is (is_circuit c k same) = absurd (no_answer (circuit_of text) e c is same)
-refused_as text e is (is_refused f k same) = subst (IsRefused text) (one_error (circuit_of text) f e same is) k
+refused_as text e is (is_circuit c k same) = absurd (cc)
+refused_as text e is (is_refused f k same) = let q : f ≡ e = cc in subst (IsRefused text) q k
 
 pub read_refused : (text : List ℕ) (e : AagErr) → length text ≤ 67108864 → circuit_of text ≡ Err e → IsRefused text e
 read_refused text e l is = refused_as text e is (settled text l)
@@ -183,7 +161,7 @@ some_reading text (is_refused e is same) = inr (record { refusal = e; is = is })
 pub one_reading : (text : List ℕ) → length text ≤ 67108864 → HasOneReading text
 one_reading text l = record {
   some = some_reading text (settled text l);
-  one_circuit = λ c d x y. same_answer (circuit_of text) c d (text_read text c x) (text_read text d y);
-  one_refusal = λ e f x y. one_error (circuit_of text) e f (refused_read text e x) (refused_read text f y);
-  not_both = λ c e x y. no_answer (circuit_of text) e c (refused_read text e y) (text_read text c x);
+  one_circuit = λ c d x y. cc (text_read text c x, text_read text d y);
+  one_refusal = λ e f x y. cc (refused_read text e x, refused_read text f y);
+  not_both = λ c e x y. cc (refused_read text e y, text_read text c x);
 }

@@ -1,6 +1,5 @@
 -- The walk over the controls: what the net of one control says, and where the walk comes to.
-use Rattle.blif_flat.proofs.Common.{◌≡◌, ℕ, ◌+◌, ◌<◌, ◌≤◌, List, [], ◌∷◌, length, drop, drop_of_length-le, Option, Some, None, refl, sym, ap, ◌∙◌, subst, inl, inr, arith, slice_get, same_Some, slice_get_within, at_within, drop_get, Bool, true, false, Result, Ok, Err, ap₂, IfOk, IfErr, option_map, slice_get-map, OrMemory-map, suc, ltb, not, ◌||◌, ◌++◌, map, bytes_eq, filter, IsTrue, option_and_then, ltb-true, ltb-false, lt-ltb, le-ltb, or_parts, cases_Bool, both_ways, none-some, some_then, bytes_decides, list_any-append, list_any-position_none, LibraryValue, position_or_len, net_of_driver, one_net, latch_at-some, flat_all, has_with_names}
-use Rattle.blif_flat.specs.{LatchValue, ModelValue, Path, model_at, inputs_of, LatchAt, input_net, latch_net, cover_net, Drives, IsDriven, IsRead, latch_control, Place, latch_at, is_cover, is_latch, Latch as LatchBody, FlatErr, ClockNotInput, Gate, Instance, places_at, AreInstances, paths_of, IsWritten, Clocks, free, no_input, second, same, IsControl, some_latch, no_latch, NetsValue, table_of, AreAllNets, IsGateAt, AreGatesAt, IsControlled, IsWrittenAt, input_at, IsKeptInput, IsSecond, IsMetInput, IsRefused, not_input, another, ControlNext, ControlFault, AreFree, IsControlSoFar, CameTo, OrMemory, IsClock, FlatNet, refusal_of, is_gate, data_of, ClockAmong, ClockData, outputs, here as clock_here, AreClockMarks, or_later, Tells, marked_name, clock_named, clock_fault, names_fault, place_of as index_place, has_name, listed, controls, FlatOrder, with_names, input_name, is_control, clock_test, TellsClocks}
+use Rattle.blif_flat.proofs.Common.{◌≡◌, ℕ, ◌+◌, ◌<◌, ◌≤◌, List, [], ◌∷◌, length, drop, drop_of_length-le, Option, Some, None, refl, sym, ap, ◌∙◌, subst, inl, inr, arith, slice_get, same_Some, slice_get_within, at_within, drop_get, Bool, true, false, Result, Ok, Err, ap₂, IfOk, IfErr, option_map, slice_get-map, OrMemory-map, suc, ltb, not, ◌||◌, ◌++◌, map, bytes_eq, filter, IsTrue, option_and_then, ltb-true, ltb-false, lt-ltb, le-ltb, or_parts, cases_Bool, both_ways, none-some, some_then, bytes_decides, list_any-append, list_any-position_none, LibraryValue, position_or_len, net_of_driver, one_net, latch_at-some, flat_all, has_with_names, LatchValue, ModelValue, Path, model_at, inputs_of, LatchAt, input_net, latch_net, cover_net, Drives, IsDriven, IsRead, latch_control, Place, latch_at, is_cover, is_latch, Latch as LatchBody, FlatErr, ClockNotInput, Gate, Instance, places_at, AreInstances, paths_of, IsWritten, Clocks, free, no_input, second, same, IsControl, some_latch, no_latch, NetsValue, table_of, AreAllNets, IsGateAt, AreGatesAt, IsControlled, IsWrittenAt, input_at, IsKeptInput, IsSecond, IsMetInput, IsRefused, not_input, another, ControlNext, ControlFault, AreFree, IsControlSoFar, CameTo, OrMemory, IsClock, FlatNet, refusal_of, is_gate, data_of, ClockAmong, ClockData, outputs, here as clock_here, AreClockMarks, or_later, Tells, marked_name, clock_named, clock_fault, names_fault, place_of as index_place, has_name, listed, controls, FlatOrder, with_names, input_name, is_control, clock_test, TellsClocks}
 use Rattle.blif_flat.specs.ClockFaults.{stop, none, first as clock_first, later}
 use Rattle.netlist.specs.declared.flat.Net.TheVariants.{Input, Latch, Cover}
 use Rattle.blif_flat.proofs.Clocking.ControlLemmas.{clocks-one}
@@ -179,8 +178,7 @@ module _ (library : LibraryValue) (driven : IsDriven library) (instances : List 
   marked = marks_are are.main are.first
 
   mark_at : (j : ℕ) (input : List ℕ) → slice_get inputs j ≡ Some input → slice_get marks j ≡ Some (marked.test input)
-  mark_at j input e =
-      ap (λ (l : List Bool). slice_get l j) marked.marks_are ∙ slice_get-map marked.test (inputs_of are.main) j
+  mark_at j input e = ap (λ (l : List Bool). slice_get l j) marked.marks_are ∙ slice_get-map marked.test (inputs_of are.main) j
       ∙ ap (option_map marked.test) (ap (λ (l : List (List ℕ)). slice_get l j) (sym (inputs_are are.main are.first)) ∙ e)
 
   module _ (row : ℕ) (path : Path) (at : slice_get (paths_of instances) row ≡ Some path) where
@@ -255,10 +253,6 @@ module _ (library : LibraryValue) (driven : IsDriven library) (instances : List 
 same_tests : (f g : List ℕ → Bool) → ((x : List ℕ) → f x ≡ g x) → f ≡ g
 same_tests f g h i x = h x i
 
--- names that were added one by one are those that were given
-has_added : (given all names : List (List ℕ)) → given ≡ names → all ≡ with_names [] given → (x : List ℕ) → has_name all x ≡ has_name names x
-has_added given all names b e x = ap (λ ns. has_name ns x) (e ∙ ap (with_names []) b) ∙ has_with_names [] names x
-
 -- the first place of a name in joined lists is in the first one exactly where the name is
 both_more : (p n : ℕ) → ltb (1 + p) (suc n) ≡ ltb p n
 both_more p n = elim (cases_Bool (ltb p n)) [
@@ -290,7 +284,7 @@ module _ (m : ModelValue) where
   marked_inputs control given clocks inputs b e f =
       let same : (λ (name : List ℕ). has_name clocks name || is_control (input_name m control) name) ≡ clock_test m (input_name m control) =
       same_tests (λ name. has_name clocks name || is_control (input_name m control) name) (clock_test m (input_name m control))
-      (λ x. ap (λ t. t || is_control (input_name m control) x) (has_added given clocks m.clocks b e x)) in
+      (λ x. ap (λ t. t || is_control (input_name m control) x) (ap (λ ns. has_name ns x) (e ∙ ap (with_names []) b) ∙ has_with_names [] m.clocks x)) in
       ap (λ (xs : List (List ℕ)). map (λ name. has_name clocks name || is_control (option_and_then (slice_get xs) control) name) xs) f ∙ ap (λ (test : List ℕ → Bool). map test (inputs_of m)) same
 
 module _ (library : LibraryValue) (main : ModelValue) (at : model_at library [] ≡ Some main) where

@@ -1,6 +1,5 @@
 -- Where the walks of the clocks and of the data find no fault, every latch control has one main input as its net, and no clock net is data; at a sound library they find none.
-use Rattle.blif_flat.proofs.Common.{◌≡◌, ◌⊎◌, ℕ, List, [], ◌∷◌, Option, Some, None, refl, sym, ap, ◌∙◌, subst, inl, inr, option_and_then, none-some, same_Some, option_and_then_some, In, In-right, ap₂, subst₂, ◌++◌, LibraryValue, CoverValue, one_net, flat_all, not_empty, same_first, same_rest}
-use Rattle.blif_flat.specs.{Latch, Cover, Subckt, LatchValue, ModelValue, Body, Path, model_at, body_at, LatchAt, CoverAt, Net, input_net, Drives, IsClock, IsDriven, Place, is_latch, FlatOrder, cover_in, latch_in, cover_at, latch_at, FlatErr, SecondClock, ClockNotInput, ClockAsData, Clocks, free, no_input, second, same, is_gate, data_of, ClockAmong, ClockData, outputs, here, data_inputs, IsData, cover_data, latch_data, IsSound, IsWritten}
+use Rattle.blif_flat.proofs.Common.{IsControlNet, ◌≡◌, ◌⊎◌, ℕ, List, [], ◌∷◌, Option, Some, None, refl, sym, ap, ◌∙◌, subst, inl, inr, option_and_then, none-some, same_Some, option_and_then_some, In, In-right, ap₂, subst₂, ◌++◌, LibraryValue, CoverValue, one_net, flat_all, not_empty, same_first, same_rest, Latch, Cover, Subckt, LatchValue, ModelValue, Body, Path, model_at, body_at, LatchAt, CoverAt, Net, input_net, Drives, IsClock, IsDriven, Place, is_latch, FlatOrder, cover_in, latch_in, cover_at, latch_at, FlatErr, SecondClock, ClockNotInput, ClockAsData, Clocks, free, no_input, second, same, is_gate, data_of, ClockAmong, ClockData, outputs, here, data_inputs, IsData, cover_data, latch_data, IsSound, IsWritten}
 use Rattle.blif_flat.specs.ClockFaults.{stop, none, first, later}
 use Rattle.netlist.proofs.PlaceLemmas.{place_of, one_latch}
 use Rattle.blif_flat.proofs.Hierarchy.PlaceLemmas.{written_once}
@@ -148,10 +147,6 @@ module _ (library : LibraryValue) where
   data_from p name None e (Some l) f (inr i) = absurd i
   data_from p name None e None f i = absurd i
 
-  -- what a place takes as data is data
-  is_data : (p : Place) (name : List ℕ) → In (data_of library p) name → IsData library p.path name
-  is_data p name i = data_from p name (cover_at library p) refl (latch_at library p) refl i
-
   -- a fault among names is one of them
   among_some : {path : Path} {names : List (List ℕ)} {result : Option FlatErr} (fault : FlatErr) → ClockAmong library path names result → result ≡ Some fault
       → ((name net : List ℕ) → In names name → Drives library path name (input_net net) → IsClock library net → ⊥) → ⊥
@@ -159,27 +154,16 @@ module _ (library : LibraryValue) where
   among_some fault (first before rest name net a b t c q) e o = o name net (subst (λ l. In l name) (sym a) (In-right before (name ∷ rest) name (inl refl))) t c
 
   module _ (sound : IsSound library) where
-    -- a main input that is the net of a latch control
-    record IsControlNet (name : List ℕ) : Type 0 where
-      path : Path
-      command : ℕ
-      latch : LatchValue
-      control : List ℕ
-      at : LatchAt library path command latch
-      is : latch.control ≡ Some control
-      drives : Drives library path control (input_net name)
-
     no_clock_fault : {first : Option (List ℕ)} {places : List Place} {result : Option FlatErr} (fault : FlatErr) → Clocks library first places result → result ≡ Some fault
-        → ((name : List ℕ) → first ≡ Some name → IsControlNet name) → ⊥
+        → ((name : List ℕ) → first ≡ Some name → IsControlNet library name) → ⊥
     no_clock_fault fault (stop a q) e met = none-some fault (sym q ∙ e)
     no_clock_fault fault (free p rest l a at off c) e met = no_clock_fault fault c e met
     no_clock_fault fault (no_input p rest l control net text a at is t off w q) e met =
-        let r = sound.control_input p.path p.command l control at is in
-        off r.0 (one_net library sound.driven t r.1)
+        let r = sound.control_input p.path p.command l control at is in off r.0 (one_net library sound.driven t r.1)
     no_clock_fault fault (second p rest l control name earlier a at is t f off q) e met =
         let k = met earlier f in
         off (sound.one_control p.path k.path p.command k.command l k.latch control k.control name earlier at k.at is k.is t k.drives)
-    no_clock_fault fault (same p rest l control name a at is t f c) e met = no_clock_fault fault c e (λ other q. subst IsControlNet (same_Some name other q)
+    no_clock_fault fault (same p rest l control name a at is t f c) e met = no_clock_fault fault c e (λ other q. subst (IsControlNet library) (same_Some name other q)
         (record { path = p.path; command = p.command; latch = l; control = control; at = at; is = is; drives = t }))
 
     -- no F7 and F8
@@ -188,7 +172,8 @@ module _ (library : LibraryValue) where
 
     no_data_fault : (main : ModelValue) → model_at library [] ≡ Some main → {places : List Place} {result : Option FlatErr} (fault : FlatErr) → ClockData library main places result → result ≡ Some fault → ⊥
     no_data_fault main at fault (outputs a c) e = among_some fault c e (λ name net i. sound.no_clock_output name net (subst (λ (m : ModelValue). In m.outputs name) (same_Some main sound.main (sym at ∙ sound.at)) i))
-    no_data_fault main at fault (here p rest own a c q) e = among_some own c refl (λ name net i. sound.no_clock_data p.path name net (is_data p name i))
+    no_data_fault main at fault (here p rest own a c q) e = among_some own c refl (λ name net i. sound.no_clock_data p.path name net
+        (data_from p name (cover_at library p) refl (latch_at library p) refl i))
     no_data_fault main at fault (later p rest a c d) e = no_data_fault main at fault d e
 
     -- no F9

@@ -1,25 +1,20 @@
 -- How the instances of rows are connected: an inner one by the line that places it, and the main model's own by none.
-use Rattle.blif_flat.proofs.Common.{◌≡◌, ℕ, zero, suc, ◌<◌, List, [], ◌∷◌, ◌++◌, length, map, Option, Some, None, refl, sym, ap, ◌∙◌, subst, inl, inr, arith, slice_get, option_and_then, none-some, same_Some, slice_get_within, In, In-left, In-right, at_within, item_there, ◌≤◌, get_or, IsTrue, or_cases, slice_get_read, apart_once, Body, Cover, Latch, Subckt, Command, Pair, ModelValue, Path, with_subckt, subckts_of, model_at, ConnectionAt, Instance, path_of, paths_of, IsRow, AreInstances, body_names, commands_names, all_names, Link, line_of, link_of, link_under, link_at, has_name, is_input, is_output, inputs_of, IsDriven, is_cover, is_latch, Gate, places_at, AreGatesAt, IsSoundTable, HasOwn, HasOutputs, HasInputs, AreNetsAt, net_places, HasSlots, AreEmptyNets, IsNext, AreAllNets, NetsValue, table_of, IsNets, output_of_cover, output_of_latch, with_covers, with_latches, with_inputs, linked_out, linked_in, formal_of, actual_of, links_out, links_in, AreLinesOf, IsWellFormed, Ports, ports_value, IsLight, SubcktValue, LibraryValue, Places, Inside, inside, child_at, has_in}
+use Rattle.blif_flat.proofs.Common.{◌≡◌, ℕ, zero, suc, ◌<◌, List, [], ◌∷◌, ◌++◌, length, map, Option, Some, None, refl, sym, ap, ◌∙◌, subst, inl, inr, arith, slice_get, option_and_then, none-some, same_Some, slice_get_within, In, In-left, In-right, In-map, at_within, item_there, ◌≤◌, get_or, IsTrue, or_cases, slice_get_read, apart_once, Body, Cover, Latch, Subckt, Command, Pair, ModelValue, Path, with_subckt, subckts_of, model_at, ConnectionAt, Instance, path_of, paths_of, IsRow, AreInstances, body_names, commands_names, all_names, Link, line_of, link_of, link_under, link_at, has_name, is_input, is_output, inputs_of, IsDriven, is_cover, is_latch, Gate, places_at, AreGatesAt, IsSoundTable, HasOwn, HasOutputs, HasInputs, AreNetsAt, net_places, HasSlots, AreEmptyNets, IsNext, AreAllNets, NetsValue, table_of, IsNets, output_of_cover, output_of_latch, with_covers, with_latches, with_inputs, linked_out, linked_in, formal_of, actual_of, links_out, links_in, AreLinesOf, IsWellFormed, Ports, ports_value, IsLight, SubcktValue, LibraryValue, Places, Inside, inside, child_at, has_in}
 use Rattle.netlist.specs.declared.flat.Net.TheVariants.{Latch as LatchNumber, Cover as CoverNumber}
-use Rattle.blif_flat.proofs.Connections.NetCopyLemmas.{sound_empty, own_kept, outputs_kept, inputs_start, outputs_start, inputs_step, outputs_step, next_same, next_on, pairs_next, pairs_known, IsConnection, passes_out, passes_in}
+use Rattle.blif_flat.proofs.Connections.NetCopyLemmas.{sound_empty, own_kept, inputs_start, outputs_start, inputs_step, outputs_step, next_same, next_on, pairs_next, pairs_known, IsConnection, passes_out, passes_in}
 use Rattle.blif_flat.proofs.Connections.NetLemmas.{HasParent, has_parent, formal_known, actual_known, table_found}
-use Rattle.blif_flat.proofs.Connections.NetOwnLemmas.{commands_within, slots_on, gates_next, gates_known, covers_own, latches_own, gate_of, first_path, input_named, main_next, main_known}
+use Rattle.blif_flat.proofs.Connections.NetOwnLemmas.{commands_within, slots_on, gates_next, gates_known, covers_own, latches_own, gate_of, input_named, main_next, main_known}
 use Rattle.blif_flat.proofs.Hierarchy.InstanceRowLemmas.{paths_of-length}
 use Rattle.blif_flat.proofs.Hierarchy.InstanceWeightLemmas.{few_inputs}
-use Rattle.blif_flat.proofs.Hierarchy.OrderLemmas.{instances_apart}
+use Rattle.blif_flat.proofs.Hierarchy.OrderLemmas.{instances_apart, order_first}
 
 -- the actuals of a subcircuit are among the names of its model
-actual_in : (pairs : List Pair) (pair : Pair) → In pairs pair → In (map (λ (p : Pair). p.actual) pairs) pair.actual
-actual_in [] pair i = absurd i
-actual_in (p ∷ pairs) pair (inl e) = inl (ap (λ (q : Pair). q.actual) e)
-actual_in (p ∷ pairs) pair (inr i) = inr (actual_in pairs pair i)
-
 body_actual : (b : Body) (cs : List Command) (k : ℕ) (s : SubcktValue) (pair : Pair) → ((j : ℕ) → slice_get (subckts_of cs) j ≡ Some s → In (commands_names cs) pair.actual)
     → slice_get (with_subckt b (subckts_of cs)) k ≡ Some s → In s.pairs pair → In (body_names b ++ commands_names cs) pair.actual
 body_actual (Cover c) cs k s pair rest e i = In-right (body_names (Cover c)) (commands_names cs) pair.actual (rest k e)
 body_actual (Latch l) cs k s pair rest e i = In-right (body_names (Latch l)) (commands_names cs) pair.actual (rest k e)
 body_actual (Subckt t) cs zero s pair rest e i =
-    In-left (body_names (Subckt t)) (commands_names cs) pair.actual (actual_in t.pairs pair (subst (λ (x : SubcktValue). In x.pairs pair) (sym (same_Some t s e)) i))
+    In-left (body_names (Subckt t)) (commands_names cs) pair.actual (In-map (λ (p : Pair). p.actual) t.pairs pair (subst (λ (x : SubcktValue). In x.pairs pair) (sym (same_Some t s e)) i))
 body_actual (Subckt t) cs (suc k) s pair rest e i = In-right (body_names (Subckt t)) (commands_names cs) pair.actual (rest k e)
 
 actual_named : (cs : List Command) (k : ℕ) (s : SubcktValue) (pair : Pair) → slice_get (subckts_of cs) k ≡ Some s → In s.pairs pair → In (commands_names cs) pair.actual
@@ -60,15 +55,10 @@ module _ (library : LibraryValue) (instances : List Instance) (are : AreInstance
         there = child;
         earlier = r.earlier h.place h.parent;
         connects = λ pair i. (record { model = w.model; subckt = w.subckt; child = r.model; at = w.at; is = w.is; member = i; places = w.places }, refl);
-        all = λ pair a.
-            (let m : a.model ≡ w.model = same_Some a.model w.model (sym a.at ∙ w.at) in
+        all = λ pair a. (let m : a.model ≡ w.model = same_Some a.model w.model (sym a.at ∙ w.at) in
             let s : a.subckt ≡ w.subckt = same_Some a.subckt w.subckt (sym a.is ∙ ap (λ (x : ModelValue). slice_get (subckts_of x.commands) k) m ∙ w.is) in
             subst (λ (x : SubcktValue). In x.pairs pair) s a.member);
       }
-
-  -- the actual of a connection is among the names of its model
-  pub connection_named : (path : Path) (k : ℕ) (pair : Pair) (a : ConnectionAt library path k pair) → In (all_names a.model) pair.actual
-  connection_named path k pair a = commands_within a.model pair.actual (actual_named (a.model).commands k a.subckt pair a.is a.member)
 
   -- the main model's own instance stands in no other one
   inner_path : (row : Instance) (p : ℕ) (path : Path) → row.parent ≡ Some p → slice_get (paths_of instances) p ≡ Some path → path_of (paths_of instances) row ≡ row.ordinal ∷ path
@@ -120,10 +110,9 @@ module _ (library : LibraryValue) (main : ModelValue) (instances : List Instance
       let child : a.child ≡ (l.link).child = same_Some a.child (l.link).child (sym (child_at library path k pair a) ∙ l.there) in
       let known : table_of (linked_out n t (Some l.link)) (l.link).outer pair.actual ≡ None → ⊥ =
       pairs_known library at (paths_of instances) (is_output (l.link).child) formal_of actual_of t (l.link).outer (k ∷ path) path f l.outside (IsConnection library at (paths_of instances) (l.link).child path k) (passes_out library at (paths_of instances) (l.link).child path k)
-      (l.link).pairs n right.nets right.sound l.connects pair (l.all pair a)
-      (subst (λ m. IsTrue (is_output m pair.formal)) child out)
+      (l.link).pairs n right.nets right.sound l.connects pair (l.all pair a) (subst (λ m. IsTrue (is_output m pair.formal)) child out)
       (formal_known library instances are driven (table_of n) own (suc t) outputs t path k pair a out f (omega arith))
-      ((right.slots).each (l.link).outer path a.model pair.actual l.outside a.at (connection_named library instances are path k pair a)) in
+      ((right.slots).each (l.link).outer path a.model pair.actual l.outside a.at (commands_within a.model pair.actual (actual_named (a.model).commands k a.subckt pair a.is a.member))) in
       subst (λ o. table_of (linked_out n t o) i pair.actual ≡ None → ⊥) (sym l.is) (subst (λ j. table_of (linked_out n t (Some l.link)) j pair.actual ≡ None → ⊥) place known)
 
   outs : (t : ℕ) → t ≤ length (paths_of instances) → (n : NetsValue) → AreRight n → HasOwn library (paths_of instances) (table_of n) → HasOutputs library (paths_of instances) (table_of n) t
@@ -156,14 +145,14 @@ module _ (library : LibraryValue) (main : ModelValue) (instances : List Instance
   ready_on n next ready step = record {
     right = right_on n next ready.right step;
     own = own_kept library (paths_of instances) (table_of n) (table_of next) ready.own step.kept;
-    outputs = outputs_kept library (paths_of instances) (table_of n) (table_of next) 0 ready.outputs step.kept;
+    outputs = record { each = λ i j path k pair a out e f h. step.kept.each i pair.actual (ready.outputs.each i j path k pair a out e f h) };
     mains = λ name is. (step.kept).each 0 name (ready.mains name is);
   }
 
   in_known : (n : NetsValue) → AreReady n → (t : ℕ) → HasInputs library (paths_of instances) (table_of n) t → (path : Path) (m : ModelValue) → slice_get (paths_of instances) t ≡ Some path → model_at library path ≡ Some m
       → (name : List ℕ) → IsTrue (is_input m name) → table_of (linked_in n t (link_at library instances t)) t name ≡ None → ⊥
   in_known n ready t inputs [] m e there name is =
-      let place : 0 ≡ t = apart_once (paths_of instances) 0 t [] (instances_apart library are.order) (first_path library instances are) e in
+      let place : 0 ≡ t = apart_once (paths_of instances) 0 t [] (instances_apart library are.order) (order_first library are.order) e in
       let model : m ≡ main = same_Some m main (sym there ∙ first) in
       let step : IsNext library at (paths_of instances) n (linked_in n t (link_at library instances t)) = in_next n ready.right t [] e in
       (step.kept).each t name (subst (λ j. table_of n j name ≡ None → ⊥) place (ready.mains name (subst (λ x. IsTrue (is_input x name)) model is)))
@@ -176,8 +165,7 @@ module _ (library : LibraryValue) (main : ModelValue) (instances : List Instance
       let formal : IsTrue (is_input m (c.0).formal) = subst (λ x. IsTrue (is_input m x)) (sym c.2) is in
       let known : table_of (linked_in n t (Some l.link)) t (c.0).formal ≡ None → ⊥ =
       pairs_known library at (paths_of instances) (is_input (l.link).child) actual_of formal_of (l.link).outer t path (k ∷ path) l.outside e (IsConnection library at (paths_of instances) (l.link).child path k) (passes_in library at (paths_of instances) (l.link).child path k)
-      (l.link).pairs n right.nets right.sound l.connects c.0 (l.all c.0 c.1)
-      (subst (λ x. IsTrue (is_input x (c.0).formal)) model formal)
+      (l.link).pairs n right.nets right.sound l.connects c.0 (l.all c.0 c.1) (subst (λ x. IsTrue (is_input x (c.0).formal)) model formal)
       (actual_known library instances are driven (table_of n) ready.own ready.outputs t inputs (l.link).outer path k c.0 c.1 (subst (λ x. IsTrue (is_input x (c.0).formal)) child formal) l.outside l.earlier)
       ((right.slots).each t (k ∷ path) m (c.0).formal e there (input_named m (c.0).formal formal)) in
       subst (λ o. table_of (linked_in n t o) t name ≡ None → ⊥) (sym l.is) (subst (λ x. table_of (linked_in n t (Some l.link)) t x ≡ None → ⊥) c.2 known)
@@ -326,8 +314,7 @@ module _ (library : LibraryValue) (instances : List Instance) (models : List Mod
 
   -- the main model's inputs are few
   pub inputs_fit : IsLight library → length p.inputs < 4294967296
-  inputs_fit light =
-      omega (arith, few_inputs library light main main_at, ap length inputs_are)
+  inputs_fit light = omega (arith, few_inputs library light main main_at, ap length inputs_are)
 
   -- and after the steps all nets are known
   pub filled : IsDriven library → (covers latches : List Gate) → AreGatesAt (paths_of instances) covers (places_at library is_cover (paths_of instances)) → AreGatesAt (paths_of instances) latches (places_at library is_latch (paths_of instances))

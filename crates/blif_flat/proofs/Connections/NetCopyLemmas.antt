@@ -1,20 +1,16 @@
 -- Slots of nets: the slot of a name, and the table when one more slot is filled.
-use Rattle.blif_flat.proofs.Common.{◌≡◌, ℕ, ◌+◌, ◌<◌, ◌≤◌, Bool, eqb, List, length, Option, Some, None, refl, sym, ap, ◌∙◌, inl, inr, bytes_eq, arith, slice_get, slice_set, ◌&&◌, option_map, option_and_then, cases_Bool, both_ways, cond-true, cond-false, and_parts, and_from, bytes_decides, set_here, set_other, set_length, [], subst, zero, suc, ◌∷◌, ◌⊎◌, IsTrue, none-some, same_Some, slice_get_within, In, place_of, Pair, FlatNet, Start, with_net, NetsValue, name_place, slot_number, slot_at, table_of, with_slot, with_found, copied, pair_copied, pairs_copied, IsNets, most_weight, ModelValue, Path, model_at, inputs_of, Net, input_net, latch_net, cover_net, Drives, Place, is_cover, is_latch, Instance, places_at, AreInstances, paths_of, IsNumbered, an_input, a_latch, a_cover, net_places, IsNetFound, AreAllNets, is_input, is_output, ConnectionAt, IsNetOf, IsSoundTable, HasOwn, HasOutputs, HasInputs, IsKeptIn, IsNext, LibraryValue, Places}
-use Rattle.std.proofs.Common.{eqb-true, eq-eqb}
+use Rattle.blif_flat.proofs.Common.{◌≡◌, ℕ, ◌+◌, ◌<◌, ◌≤◌, Bool, eqb, List, length, Option, Some, None, refl, sym, ap, ◌∙◌, inl, inr, bytes_eq, arith, slice_get, slice_set, ◌&&◌, option_map, option_and_then, get_or, slice_get_read, cases_Bool, cases_lt, both_ways, cond-true, cond-false, and_parts, and_from, bytes_decides, set_here, set_other, set_length, [], subst, zero, suc, ◌∷◌, ◌⊎◌, IsTrue, none-some, same_Some, slice_get_within, In, place_of, Pair, FlatNet, Start, with_net, NetsValue, name_place, slot_number, slot_at, table_of, with_slot, with_found, copied, pair_copied, pairs_copied, IsNets, most_weight, ModelValue, Path, model_at, inputs_of, Net, input_net, latch_net, cover_net, Drives, Place, is_cover, is_latch, Instance, places_at, AreInstances, paths_of, IsNumbered, an_input, a_latch, a_cover, net_places, IsNetFound, AreAllNets, is_input, is_output, ConnectionAt, IsNetOf, IsSoundTable, HasOwn, HasOutputs, HasInputs, IsKeptIn, IsNext, LibraryValue, Places, eqb-true, eq-eqb}
 use Rattle.netlist.specs.declared.flat.Net.TheVariants.{Input, Latch, Cover}
 use Rattle.blif_flat.proofs.Connections.NetLemmas.{outer_number, inner_number}
 
--- the slot of a name, and why there is none
-pub no_start : (n : NetsValue) (i : ℕ) (name : List ℕ) → slice_get n.starts i ≡ None → slot_number n i name ≡ None
-no_start n i name e = ap (option_and_then (λ (s : Start). name_place n.names s name)) e
-
-pub no_names : (n : NetsValue) (i : ℕ) (name : List ℕ) (s : Start) → slice_get n.starts i ≡ Some s → slice_get n.names s.model ≡ None → slot_number n i name ≡ None
-no_names n i name s e f = ap (option_and_then (λ (s : Start). name_place n.names s name)) e ∙ ap (λ o. option_map (λ (p : ℕ). s.first + p) (option_and_then (λ (ns : List (List ℕ)). place_of ns name) o)) f
-
-pub slot_by_place : (n : NetsValue) (i : ℕ) (name : List ℕ) (s : Start) (ns : List (List ℕ)) (o : Option ℕ) → slice_get n.starts i ≡ Some s → slice_get n.names s.model ≡ Some ns → o ≡ place_of ns name
-    → slot_number n i name ≡ option_map (λ (p : ℕ). s.first + p) o
-slot_by_place n i name s ns o e f g = ap (option_and_then (λ (s : Start). name_place n.names s name)) e ∙ ap (λ o. option_map (λ (p : ℕ). s.first + p) (option_and_then (λ (ns : List (List ℕ)). place_of ns name) o)) f
-    ∙ ap (option_map (λ (p : ℕ). s.first + p)) (sym g)
+-- the slot of a name
+pub slot_found : (n : NetsValue) (i : ℕ) (name : List ℕ) (starts : List Start) (names : List (List (List ℕ))) (s : Start) (o : Option ℕ) → starts ≡ n.starts → names ≡ n.names → i < length starts → s ≡ get_or starts i s
+    → o ≡ option_and_then (λ (ns : List (List ℕ)). place_of ns name) (slice_get names s.model) → option_map (λ (p : ℕ). s.first + p) o ≡ slot_number n i name
+slot_found n i name starts names s o a b h e f =
+    let at : slice_get n.starts i ≡ Some s = subst (λ l. slice_get l i ≡ Some s) a (slice_get_read starts (length starts) i s refl h e) in
+    let place : o ≡ option_and_then (λ (ns : List (List ℕ)). place_of ns name) (slice_get n.names s.model) =
+    f ∙ ap (λ (l : List (List (List ℕ))). option_and_then (λ (ns : List (List ℕ)). place_of ns name) (slice_get l s.model)) b in
+    sym (ap (option_and_then (λ (x : Start). name_place n.names x name)) at ∙ ap (option_map (λ (p : ℕ). s.first + p)) (sym place))
 
 -- a slot has a small number
 pub slot_fits : (n : NetsValue) (is : IsNets n) (i : ℕ) (name : List ℕ) (k : ℕ) → Some k ≡ slot_number n i name → k < most_weight
@@ -28,15 +24,13 @@ option_apart slots k number (Some j) h = ap (option_and_then (λ (o : Option Fla
 pub with_slot-table : (n : NetsValue) (is : IsNets n) (i : ℕ) (name : List ℕ) (k : ℕ) (number : FlatNet) → slot_number n i name ≡ Some k → (j : ℕ) (other : List ℕ)
     → table_of (with_slot n k number) j other ≡ with_net (table_of n) i name number j other
 with_slot-table n is i name k number e j other = elim (cases_Bool (eqb j i && bytes_eq other name)) [
-  | inl t ↦
-      (let b = and_parts (eqb j i) (bytes_eq other name) t in
+  | inl t ↦ (let b = and_parts (eqb j i) (bytes_eq other name) t in
       let place : j ≡ i = eqb-true j i b.0 in
       let same : other ≡ name = (bytes_decides other name).0 b.1 in
       let here : slot_number n j other ≡ Some k = ap (λ x. slot_number n x other) place ∙ ap (slot_number n i) same ∙ e in
       ap (slot_at (slice_set n.slots k (Some number))) here ∙ ap (option_and_then (λ (o : Option FlatNet). o)) (set_here n.slots k (Some number) (is.within i name k e))
       ∙ sym (cond-true (eqb j i && bytes_eq other name) (Some number) (table_of n j other) t))
-  | inr f ↦
-      option_apart n.slots k number (slot_number n j other) (λ g.
+  | inr f ↦ option_apart n.slots k number (slot_number n j other) (λ g.
       let q = is.apart i j name other k e g in
       both_ways (eqb j i && bytes_eq other name) f (and_from (eqb j i) (bytes_eq other name) (eq-eqb j i (sym q.0)) ((bytes_decides other name).1 (sym q.1))))
       ∙ sym (cond-false (eqb j i && bytes_eq other name) (Some number) (table_of n j other) f)
@@ -79,26 +73,16 @@ abbrev pub cover_of : Place → Net
 cover_of p = cover_net p.path p.command
 
 module _ (library : LibraryValue) (at : Places) (path : Path) (name : List ℕ) where
-  by_input : (j : ℕ) (net : Net) → Drives library path name net → IsNumbered at net (Input j) → ByInput library at.inputs path name j
-  by_input j net t (an_input input i q g n) =
-      let same : i ≡ j = cc in
-      record { input = input; at = subst (λ k. slice_get at.inputs k ≡ Some input) same g; drives = subst (Drives library path name) q t }
-  by_input j net t (a_latch p i q g n) = absurd (cc)
-  by_input j net t (a_cover p i q g n) = absurd (cc)
+  -- what the number of a name's net says
+  abbrev Behind : FlatNet → Type 0
+  Behind (Input j) = ByInput library at.inputs path name j
+  Behind (Latch k) = ByPlace library latch_of at.latches path name k
+  Behind (Cover k) = ByPlace library cover_of at.covers path name k
 
-  by_latch : (j : ℕ) (net : Net) → Drives library path name net → IsNumbered at net (Latch j) → ByPlace library latch_of at.latches path name j
-  by_latch j net t (an_input input i q g n) = absurd (cc)
-  by_latch j net t (a_latch p i q g n) =
-      let same : i ≡ j = cc in
-      record { place = p; at = subst (λ k. slice_get at.latches k ≡ Some p) same g; drives = subst (Drives library path name) q t }
-  by_latch j net t (a_cover p i q g n) = absurd (cc)
-
-  by_cover : (j : ℕ) (net : Net) → Drives library path name net → IsNumbered at net (Cover j) → ByPlace library cover_of at.covers path name j
-  by_cover j net t (an_input input i q g n) = absurd (cc)
-  by_cover j net t (a_latch p i q g n) = absurd (cc)
-  by_cover j net t (a_cover p i q g n) =
-      let same : i ≡ j = cc in
-      record { place = p; at = subst (λ k. slice_get at.covers k ≡ Some p) same g; drives = subst (Drives library path name) q t }
+  by_number : (number : FlatNet) (net : Net) → Drives library path name net → IsNumbered at net number → Behind number
+  by_number number net t (an_input input i q g n) = subst Behind (sym n) (record { input = input; at = g; drives = subst (Drives library path name) q t })
+  by_number number net t (a_latch p i q g n) = subst Behind (sym n) (record { place = p; at = g; drives = subst (Drives library path name) q t })
+  by_number number net t (a_cover p i q g n) = subst Behind (sym n) (record { place = p; at = g; drives = subst (Drives library path name) q t })
 
 module _ (library : LibraryValue) (instances : List Instance) (are : AreInstances library instances) (nets : NetsValue) (all : AreAllNets library instances nets)
     (row : ℕ) (path : Path) (at : slice_get (paths_of instances) row ≡ Some path) (name : List ℕ) where
@@ -111,22 +95,19 @@ module _ (library : LibraryValue) (instances : List Instance) (are : AreInstance
   pub input_found : (inputs : List (List ℕ)) → ((main : ModelValue) → model_at library [] ≡ Some main → inputs ≡ inputs_of main) → (j : ℕ) → table_of nets row name ≡ Some (Input j) → ByInput library inputs path name j
   input_found inputs inputs_are j e =
       let r = found (Some (Input j)) e in
-      subst (λ l. ByInput library l path name j) (sym (inputs_are are.main are.first)) (by_input library (net_places library are.main (paths_of instances)) path name j r.net r.drives r.numbered)
+      subst (λ l. ByInput library l path name j) (sym (inputs_are are.main are.first)) (by_number library (net_places library are.main (paths_of instances)) path name (Input j) r.net r.drives r.numbered)
 
   pub latch_found : (k : ℕ) → table_of nets row name ≡ Some (Latch k) → ByPlace library latch_of (places_at library is_latch (paths_of instances)) path name k
-  latch_found k e = let r = found (Some (Latch k)) e in by_latch library (net_places library are.main (paths_of instances)) path name k r.net r.drives r.numbered
+  latch_found k e = let r = found (Some (Latch k)) e in by_number library (net_places library are.main (paths_of instances)) path name (Latch k) r.net r.drives r.numbered
 
   pub cover_found : (k : ℕ) → table_of nets row name ≡ Some (Cover k) → ByPlace library cover_of (places_at library is_cover (paths_of instances)) path name k
-  cover_found k e = let r = found (Some (Cover k)) e in by_cover library (net_places library are.main (paths_of instances)) path name k r.net r.drives r.numbered
+  cover_found k e = let r = found (Some (Cover k)) e in by_number library (net_places library are.main (paths_of instances)) path name (Cover k) r.net r.drives r.numbered
 
 -- Tables of nets are filled step by step: a number is put in, and an instance is done.
 
 -- a number before the next one is before this one or is it
 before_or_at : (i t : ℕ) → i < suc t → (i < t) ⊎ (i ≡ t)
-before_or_at zero zero h = inr refl
-before_or_at zero (suc t) h = inl (omega arith)
-before_or_at (suc i) zero h = absurd (omega arith)
-before_or_at (suc i) (suc t) h = elim (before_or_at i t (omega arith)) [ inl a ↦ inl (omega arith) | inr e ↦ inr (ap suc e) ]
+before_or_at i t h = elim (cases_lt i t) [ inl a ↦ inl a | inr b ↦ inr (omega arith) ]
 
 abbrev Table : Type 0
 Table = ℕ → List ℕ → Option FlatNet
@@ -135,22 +116,16 @@ Table = ℕ → List ℕ → Option FlatNet
 pub with_net-here : (table : Table) (i : ℕ) (name : List ℕ) (number : FlatNet) → with_net table i name number i name ≡ Some number
 with_net-here table i name number = cond-true (eqb i i && bytes_eq name name) (Some number) (table i name) (and_from (eqb i i) (bytes_eq name name) (eq-eqb i i refl) ((bytes_decides name name).1 refl))
 
-some-not_none : (o : Option FlatNet) (number : FlatNet) → o ≡ Some number → o ≡ None → ⊥
-some-not_none o number a b = none-some number (sym b ∙ a)
-
 pub with_net-known : (table : Table) (i : ℕ) (name : List ℕ) (number : FlatNet) → with_net table i name number i name ≡ None → ⊥
-with_net-known table i name number = some-not_none (with_net table i name number i name) number (with_net-here table i name number)
+with_net-known table i name number = λ b. none-some number (sym b ∙ (with_net-here table i name number))
 
 pub with_net-kept : (table : Table) (i : ℕ) (name : List ℕ) (number : FlatNet) → IsKeptIn table (with_net table i name number)
 with_net-kept table i name number = record {
   each = λ j other known. elim (cases_Bool (eqb j i && bytes_eq other name)) [
-    | inl t ↦ some-not_none (with_net table i name number j other) number (cond-true (eqb j i && bytes_eq other name) (Some number) (table j other) t)
+    | inl t ↦ λ b. none-some number (sym b ∙ (cond-true (eqb j i && bytes_eq other name) (Some number) (table j other) t))
     | inr f ↦ (λ n. known (sym (cond-false (eqb j i && bytes_eq other name) (Some number) (table j other) f) ∙ n))
   ];
 }
-
-pub kept_same : (table : Table) → IsKeptIn table table
-kept_same table = record { each = λ i name known. known }
 
 pub kept_on : (table middle next : Table) → IsKeptIn table middle → IsKeptIn middle next → IsKeptIn table next
 kept_on table middle next a b = record { each = λ i name known. b.each i name (a.each i name known) }
@@ -161,8 +136,7 @@ module _ (library : LibraryValue) (at : Places) (paths : List Path) where
       → IsSoundTable library at paths (with_net table i name number)
   sound_with table i path name number sound e o = record {
     each = λ j p other n f g. elim (cases_Bool (eqb j i && bytes_eq other name)) [
-      | inl t ↦
-          (let b = and_parts (eqb j i) (bytes_eq other name) t in
+      | inl t ↦ (let b = and_parts (eqb j i) (bytes_eq other name) t in
           let place : j ≡ i = eqb-true j i b.0 in
           let same : name ≡ other = sym ((bytes_decides other name).0 b.1) in
           let there : path ≡ p = same_Some path p (sym e ∙ subst (λ x. slice_get paths x ≡ Some p) place f) in
@@ -184,9 +158,6 @@ module _ (library : LibraryValue) (paths : List Path) where
     cover = λ i path c r e a. kept.each i r.output (own.cover i path c r e a);
   }
 
-  pub outputs_kept : (table next : Table) (t : ℕ) → HasOutputs library paths table t → IsKeptIn table next → HasOutputs library paths next t
-  outputs_kept table next t outputs kept = record { each = λ i j path k pair a out e f h. kept.each i pair.actual (outputs.each i j path k pair a out e f h) }
-
   -- the stages at their starts
   pub inputs_start : (table : Table) → HasInputs library paths table 0
   inputs_start table = record { each = λ i path m name h e g is n. absurd (omega arith) }
@@ -200,8 +171,7 @@ module _ (library : LibraryValue) (paths : List Path) where
   inputs_step table next t path m inputs kept here there all = record {
     each = λ i p x name h e g is n. elim (before_or_at i t h) [
       | inl b ↦ kept.each i name (inputs.each i p x name b e g is) n
-      | inr q ↦
-          (let f : slice_get paths t ≡ Some p = subst (λ y. slice_get paths y ≡ Some p) q e in
+      | inr q ↦ (let f : slice_get paths t ≡ Some p = subst (λ y. slice_get paths y ≡ Some p) q e in
           let same : p ≡ path = same_Some p path (sym f ∙ here) in
           let model : x ≡ m = same_Some x m (sym g ∙ ap (model_at library) same ∙ there) in
           all name (subst (λ y. IsTrue (is_input y name)) model is) (subst (λ y. next y name ≡ None) q n))
@@ -224,7 +194,7 @@ tables_same n is i name k number e x j other = with_slot-table n is i name k num
 
 -- a number that is put in where the name has a slot
 found_kept : (n : NetsValue) (is : IsNets n) (i : ℕ) (name : List ℕ) (number : FlatNet) (o : Option ℕ) → slot_number n i name ≡ o → IsKeptIn (table_of n) (table_of (with_found n o number))
-found_kept n is i name number None e = kept_same (table_of n)
+found_kept n is i name number None e = record { each = λ i name known. known }
 found_kept n is i name number (Some k) e = subst (IsKeptIn (table_of n)) (sym (tables_same n is i name k number e)) (with_net-kept (table_of n) i name number)
 
 found_known : (n : NetsValue) (is : IsNets n) (i : ℕ) (name : List ℕ) (number : FlatNet) (o : Option ℕ) → slot_number n i name ≡ o → (o ≡ None → ⊥) → table_of (with_found n o number) i name ≡ None → ⊥
@@ -232,7 +202,7 @@ found_known n is i name number None e slot known = slot refl
 found_known n is i name number (Some k) e slot none = with_net-known (table_of n) i name number (sym (with_slot-table n is i name k number e i name) ∙ none)
 
 pub copied-kept : (n : NetsValue) (is : IsNets n) (i : ℕ) (name : List ℕ) (o : Option FlatNet) → IsKeptIn (table_of n) (table_of (copied n i name o))
-copied-kept n is i name None = kept_same (table_of n)
+copied-kept n is i name None = record { each = λ i name known. known }
 copied-kept n is i name (Some number) = found_kept n is i name number (slot_number n i name) refl
 
 pub copied-known : (n : NetsValue) (is : IsNets n) (i : ℕ) (name : List ℕ) (o : Option FlatNet) → (o ≡ None → ⊥) → (slot_number n i name ≡ None → ⊥) → table_of (copied n i name o) i name ≡ None → ⊥
@@ -262,7 +232,7 @@ module _ (library : LibraryValue) (at : Places) (paths : List Path) where
 
 module _ (library : LibraryValue) (at : Places) (paths : List Path) where
   pub next_same : (n : NetsValue) → IsNets n → IsSoundTable library at paths (table_of n) → IsNext library at paths n n
-  next_same n is sound = record { nets = is; sound = sound; kept = kept_same (table_of n); slots = λ j other. refl }
+  next_same n is sound = record { nets = is; sound = sound; kept = record { each = λ i name known. known }; slots = λ j other. refl }
 
   pub next_on : (n middle next : NetsValue) → IsNext library at paths n middle → IsNext library at paths middle next → IsNext library at paths n next
   next_on n middle next a b = record { nets = b.nets; sound = b.sound; kept = kept_on (table_of n) (table_of middle) (table_of next) a.kept b.kept; slots = λ j other. b.slots j other ∙ a.slots j other }
@@ -274,13 +244,12 @@ module _ (library : LibraryValue) (at : Places) (paths : List Path) where
     pair_next n is sound pair known =
         let copy : NetsValue = copied n to (target pair) (table_of n from (source pair)) in
         elim (cases_Bool (test pair.formal)) [
-          | inl t ↦
-              subst (IsNext library at paths n) (sym (cond-true (test pair.formal) copy n t)) (record {
-                nets = copied-nets n to (target pair) (table_of n from (source pair)) is;
-                sound = copied-sound library at paths n is to here (target pair) (table_of n from (source pair)) sound at_to (λ number e. passes pair number known t (sound.each from there (source pair) number at_from e));
-                kept = copied-kept n is to (target pair) (table_of n from (source pair));
-                slots = λ j other. copied-slots n to (target pair) (table_of n from (source pair)) j other;
-              })
+          | inl t ↦ subst (IsNext library at paths n) (sym (cond-true (test pair.formal) copy n t)) (record {
+            nets = copied-nets n to (target pair) (table_of n from (source pair)) is;
+            sound = copied-sound library at paths n is to here (target pair) (table_of n from (source pair)) sound at_to (λ number e. passes pair number known t (sound.each from there (source pair) number at_from e));
+            kept = copied-kept n is to (target pair) (table_of n from (source pair));
+            slots = λ j other. copied-slots n to (target pair) (table_of n from (source pair)) j other;
+          })
           | inr f ↦ subst (IsNext library at paths n) (sym (cond-false (test pair.formal) copy n f)) (next_same n is sound)
         ]
 

@@ -1,10 +1,9 @@
 -- Each driven name has one net, where no name is driven twice and each connection has a driver.
-use Rattle.blif_flat.proofs.Common.{◌≡◌, ℕ, List, [], ◌∷◌, Option, Some, None, refl, sym, ap, ◌∙◌, subst, inl, inr, IsTrue, none-some, same_Some, zero, suc, ◌+◌, ◌<◌, ◌≤◌, Bool, true, ◌++◌, length, take, arith, slice_get, option_and_then, cases_Bool, cond-true, length-append, slice_get_within, apart_once, place_in, get_left, item_there, Pair, ModelValue, Path, model_at, is_input, is_output, ConnectionAt, Net, input_net, Drives, main_input, from_inside, from_outside, Driver, by_input, IsDriver, input, latch, cover, output, input_actual, model_output, IsDriven, Body, Command, inputs_of, Place, own_places, Instance, FlatNet, itself, model_places, places_at, path_under, path_of, paths_of, IsRow, AreInstances, an_input, IsNetOf, net_places, IsNetFound, AreNetsAt, IsSoundTable, HasOwn, HasOutputs, HasInputs, kind_count, base_of, own_number, LibraryValue, get_right, Places, order_all}
-use Rattle.netlist.specs.declared.flat.Net.TheVariants.{Input as InputNumber}
+use Rattle.blif_flat.proofs.Common.{◌≡◌, ℕ, List, [], ◌∷◌, Option, Some, None, refl, sym, ap, ◌∙◌, subst, inl, inr, IsTrue, none-some, same_Some, zero, suc, ◌+◌, ◌<◌, ◌≤◌, Bool, true, ◌++◌, length, take, arith, slice_get, option_and_then, cases_Bool, cond-true, length-append, slice_get_within, apart_once, place_in, get_left, item_there, Pair, ModelValue, Path, model_at, is_input, is_output, ConnectionAt, Net, input_net, Drives, main_input, from_inside, from_outside, Driver, by_input, IsDriver, input, latch, cover, output, input_actual, model_output, IsDriven, Body, Command, inputs_of, Place, own_places, Instance, FlatNet, itself, model_places, places_at, path_under, path_of, paths_of, IsRow, AreInstances, an_input, IsNetOf, net_places, IsNetFound, AreNetsAt, IsSoundTable, HasOwn, HasOutputs, HasInputs, kind_count, base_of, own_number, LibraryValue, get_right, Places, order_all, driver_of, Input as InputNumber}
 use Rattle.blif_flat.proofs.Hierarchy.InstanceRowLemmas.{paths_of-length}
 use Rattle.blif_flat.proofs.Hierarchy.OrderLemmas.{instances_apart}
 use Rattle.netlist.proofs.PlaceLemmas.{child_at, place_of}
-use Rattle.netlist.proofs.NetLemmas.{driver_of, no_input}
+use Rattle.netlist.proofs.NetLemmas.{no_input}
 
 module _ (library : LibraryValue) (driven : IsDriven library) where
   -- a name that has a net has a driver
@@ -26,11 +25,9 @@ own_at kind path i (d ∷ cs) (suc j) c e t =
     let count : ℕ = kind_count kind (take j cs) in
     let r : slice_get (own_places kind path (suc i) cs) count ≡ Some (place_of path (i + suc j)) = own_at kind path (suc i) cs j c e t ∙ ap (λ x. Some (place_of path x)) n in
     elim (cases_Bool (kind d.body)) [
-      | inl y ↦
-          (let one : suc count ≡ 1 + count = omega arith in
+      | inl y ↦ (let one : suc count ≡ 1 + count = omega arith in
           rw y (subst (λ x. slice_get (place_of path i ∷ own_places kind path (suc i) cs) x ≡ Some (place_of path (i + suc j))) one r))
-      | inr y ↦
-          (let none : count ≡ 0 + count = omega arith in
+      | inr y ↦ (let none : count ≡ 0 + count = omega arith in
           rw y (subst (λ x. slice_get (own_places kind path (suc i) cs) x ≡ Some (place_of path (i + suc j))) none r))
     ]
 
@@ -117,13 +114,13 @@ module _ (library : LibraryValue) (instances : List Instance) (are : AreInstance
       place_in (paths_of instances) path (order_all library itself are.main (paths_of instances) are.first are.order path m e path (inl refl))
 
   module _ (driven : IsDriven library) (table : ℕ → List ℕ → Option FlatNet) (own : HasOwn library (paths_of instances) table) where
-    -- a driver that is no input has its number in the table, if its subcircuit stands from place t on
+    -- a driver has its number in the table, if it is no input whose number isn't there, and its subcircuit stands from place t on
     driver_known : (t : ℕ) → HasOutputs library (paths_of instances) table t → (i : ℕ) (path : Path) (name : List ℕ) (driver : Driver) → slice_get (paths_of instances) i ≡ Some path → t ≤ suc i → IsDriver library path name driver
-        → (driver ≡ by_input → ⊥) → table i name ≡ None → ⊥
-    driver_known t outputs i path name driver e from (input a j q) off n = off q
-    driver_known t outputs i path name driver e from (latch c l a p q) off n = own.latch i path c l e a (ap (table i) (sym p) ∙ n)
-    driver_known t outputs i path name driver e from (cover c r a p q) off n = own.cover i path c r e a (ap (table i) (sym p) ∙ n)
-    driver_known t outputs i path name driver e from (output k pair a out p q) off n =
+        → (driver ≡ by_input → (m : ModelValue) → model_at library path ≡ Some m → IsTrue (is_input m name) → table i name ≡ None → ⊥) → table i name ≡ None → ⊥
+    driver_known t outputs i path name driver e from (input a j q) on n = on q a.model a.at j n
+    driver_known t outputs i path name driver e from (latch c l a p q) on n = own.latch i path c l e a (ap (table i) (sym p) ∙ n)
+    driver_known t outputs i path name driver e from (cover c r a p q) on n = own.cover i path c r e a (ap (table i) (sym p) ∙ n)
+    driver_known t outputs i path name driver e from (output k pair a out p q) on n =
         let child = instance_place (k ∷ path) a.child (child_at library path k pair a) in
         outputs.each i child.0 path k pair a out e child.1 (omega (arith, parent_earlier i child.0 k path e child.1)) (ap (table i) (sym p) ∙ n)
 
@@ -132,24 +129,18 @@ module _ (library : LibraryValue) (instances : List Instance) (are : AreInstance
         → slice_get (paths_of instances) j ≡ Some (k ∷ path) → t ≤ suc j → table j pair.formal ≡ None → ⊥
     formal_known t outputs j path k pair a out e from =
         let d = driven.driven (k ∷ path) pair.formal (model_output a.child (child_at library path k pair a) out) in
-        driver_known t outputs j (k ∷ path) pair.formal d.0 e from d.1 (no_input library driven path k pair a out d.0 d.1)
+        driver_known t outputs j (k ∷ path) pair.formal d.0 e from d.1 (λ q m at is. absurd (no_input library driven path k pair a out d.0 d.1 q))
 
     module _ (outputs : HasOutputs library (paths_of instances) table 0) where
       -- any driver of an instance whose inputs are known
       any_known : (t : ℕ) → HasInputs library (paths_of instances) table t → (i : ℕ) (path : Path) (name : List ℕ) (driver : Driver) → i < t → slice_get (paths_of instances) i ≡ Some path → IsDriver library path name driver → table i name ≡ None → ⊥
-      any_known t inputs i path name driver h e (input a j q) n = inputs.each i path a.model name h e a.at j n
-      any_known t inputs i path name driver h e (latch c l a p q) n = own.latch i path c l e a (ap (table i) (sym p) ∙ n)
-      any_known t inputs i path name driver h e (cover c r a p q) n = own.cover i path c r e a (ap (table i) (sym p) ∙ n)
-      any_known t inputs i path name driver h e (output k pair a out p q) n =
-          let child = instance_place (k ∷ path) a.child (child_at library path k pair a) in
-          outputs.each i child.0 path k pair a out e child.1 (omega arith) (ap (table i) (sym p) ∙ n)
+      any_known t inputs i path name driver h e d = driver_known 0 outputs i path name driver e (omega arith) d (λ q m at is. inputs.each i path m name h e at is)
 
       -- forwards: the actual of an input stands in the table of the parent, whose inputs are known
       pub actual_known : (t : ℕ) → HasInputs library (paths_of instances) table t → (i : ℕ) (path : Path) (k : ℕ) (pair : Pair) (a : ConnectionAt library path k pair) → IsTrue (is_input a.child pair.formal)
           → slice_get (paths_of instances) i ≡ Some path → i < t → table i pair.actual ≡ None → ⊥
       actual_known t inputs i path k pair a is e h =
-          let d = driven.driven path pair.actual (input_actual k pair a is refl) in
-          any_known t inputs i path pair.actual d.0 h e d.1
+          let d = driven.driven path pair.actual (input_actual k pair a is refl) in any_known t inputs i path pair.actual d.0 h e d.1
 
       -- complete: a name without a number is driven by nothing
       pub none_drives : HasInputs library (paths_of instances) table (length (paths_of instances)) → (i : ℕ) (path : Path) (name : List ℕ) → slice_get (paths_of instances) i ≡ Some path → table i name ≡ None

@@ -1,6 +1,5 @@
 -- The covers and latches of all instances are put in at their outputs: the table stays right, and their outputs stand in it.
-use Rattle.blif_flat.proofs.Common.{◌≡◌, ℕ, zero, suc, ◌+◌, Bool, List, [], ◌∷◌, ◌++◌, Option, Some, None, refl, sym, ap, ◌∙◌, subst, inl, inr, arith, slice_get, IsTrue, option_and_then, apart_once, none-some, same_Some, option_and_then_some, In, In-left, In-right, item_there, true, is_some, or_cases, false≢true, In-get, CoverValue, LibraryValue, Places, place_is, has_in, in_has, in_input, input_in, place_some}
-use Rattle.blif_flat.specs.{Body, Cover, Latch, Subckt, Command, LatchValue, ModelValue, Path, body_at, model_at, latch_net, cover_net, is_cover, is_latch, FlatNet, Gate, Instance, latch_output as drives_latch, cover_output as drives_cover, places_at, paths_of, AreInstances, IsNumbered, a_latch, a_cover, IsNetOf, IsGateAt, AreGatesAt, body_names, commands_names, all_names, IsSoundTable, net_places, own_number, HasSlots, IsNext, NetsValue, table_of, IsNets, body_in, gate_body, output_of_cover, output_of_latch, with_named, with_gates, place_of as index_place, has_name, is_input, inputs_of, with_place, with_inputs}
+use Rattle.blif_flat.proofs.Common.{◌≡◌, ℕ, zero, suc, ◌+◌, Bool, List, [], ◌∷◌, ◌++◌, Option, Some, None, refl, sym, ap, ◌∙◌, subst, inl, inr, arith, slice_get, IsTrue, option_and_then, apart_once, none-some, same_Some, option_and_then_some, In, In-left, In-right, item_there, true, is_some, or_cases, false≢true, In-get, CoverValue, LibraryValue, Places, place_is, has_in, in_has, in_input, input_in, place_some, Net, Place, Drives, Body, Cover, Latch, Subckt, Command, LatchValue, ModelValue, Path, body_at, model_at, latch_net, cover_net, is_cover, is_latch, FlatNet, Gate, Instance, latch_output as drives_latch, cover_output as drives_cover, places_at, paths_of, AreInstances, IsNumbered, a_latch, a_cover, IsNetOf, IsGateAt, AreGatesAt, body_names, commands_names, all_names, IsSoundTable, net_places, own_number, HasSlots, IsNext, NetsValue, table_of, IsNets, body_in, gate_body, output_of_cover, output_of_latch, with_named, with_gates, place_of as index_place, has_name, is_input, inputs_of, with_place, with_inputs}
 use Rattle.netlist.specs.declared.flat.Net.TheVariants.{Latch as LatchNumber, Cover as CoverNumber, Input as InputNumber}
 use Rattle.blif_flat.proofs.Connections.NetCopyLemmas.{copied-nets, copied-kept, copied-known, copied-slots, copied-sound, next_same, next_on}
 use Rattle.blif_flat.proofs.Connections.NetLemmas.{gate_place_at, input_number}
@@ -113,62 +112,51 @@ module _ (library : LibraryValue) (main : ModelValue) (instances : List Instance
   command_body g path m b here there is =
       gate_place library instances are g (record { path = path; command = g.command }) (record { row = here; command = refl }) ∙ ap (body_in g.command) there ∙ is
 
-  cover_body : (b : Body) (name : List ℕ) → output_of_cover b ≡ Some name → (c : CoverValue) × (b ≡ Cover c) × (c.output ≡ name)
-  cover_body (Cover c) name e = (c, refl, same_Some c.output name e)
-  cover_body (Latch l) name e = absurd (none-some name e)
-  cover_body (Subckt s) name e = absurd (none-some name e)
-
-  latch_body : (b : Body) (name : List ℕ) → output_of_latch b ≡ Some name → (l : LatchValue) × (b ≡ Latch l) × (l.output ≡ name)
-  latch_body (Cover c) name e = absurd (none-some name e)
-  latch_body (Latch l) name e = (l, refl, same_Some l.output name e)
-  latch_body (Subckt s) name e = absurd (none-some name e)
-
-  -- the outputs of the covers have the covers' numbers
-  pub covers_own : (covers : List Gate) → AreGatesAt (paths_of instances) covers (places_at library is_cover (paths_of instances))
-      → AreOwn library (net_places library main (paths_of instances)) (paths_of instances) instances output_of_cover (λ j. CoverNumber j) 0 covers
-  covers_own covers gates i g name e f =
-      let p = item_there covers (places_at library is_cover (paths_of instances)) i g gates.count e in
-      let stands : IsGateAt (paths_of instances) g p.0 = gates.each i g p.0 e p.1 in
-      option_and_then_some output_of_cover (gate_body library instances g) name f (λ b h t.
-      let c = cover_body b name t in
-      let k : IsCommandOf g (p.0).path b = gate_command g (p.0).path b stands.row h in
-      let cover : body_at k.model (p.0).command ≡ Some (Cover c.0) = ap (body_at k.model) (sym stands.command) ∙ k.is ∙ ap Some c.1 in
+  -- the outputs of the gates of a kind have the gates' numbers
+  gates_own : (kind : Body → Bool) (output : Body → Option (List ℕ)) (net : Place → Net) (number : ℕ → FlatNet) (gates : List Gate) → AreGatesAt (paths_of instances) gates (places_at library kind (paths_of instances))
+      → ((i : ℕ) (p : Place) → slice_get (places_at library kind (paths_of instances)) i ≡ Some p → IsNumbered (net_places library main (paths_of instances)) (net p) (number i))
+      → ((b : Body) (p : Place) (m : ModelValue) (name : List ℕ) → output b ≡ Some name → model_at library p.path ≡ Some m → body_at m p.command ≡ Some b → In (body_names b) name × Drives library p.path name (net p))
+      → AreOwn library (net_places library main (paths_of instances)) (paths_of instances) instances output number 0 gates
+  gates_own kind output net number gates stand numbered drives i g name e f =
+      let p = item_there gates (places_at library kind (paths_of instances)) i g stand.count e in
+      let at : IsGateAt (paths_of instances) g p.0 = stand.each i g p.0 e p.1 in
+      option_and_then_some output (gate_body library instances g) name f (λ b h t.
+      let k : IsCommandOf g (p.0).path b = gate_command g (p.0).path b at.row h in
+      let is : body_at k.model (p.0).command ≡ Some b = ap (body_at k.model) (sym at.command) ∙ k.is in
+      let d = drives b p.0 k.model name t k.there is in
       let z : i ≡ 0 + i = omega arith in
       record {
         path = (p.0).path;
-        here = stands.row;
+        here = at.row;
         model = k.model;
         there = k.there;
-        named = body_named k.model (p.0).command (Cover c.0) name cover (In-right (c.0).inputs ((c.0).output ∷ []) name (inl (sym c.2)));
-        right = record {
-          net = cover_net (p.0).path (p.0).command;
-          drives = drives_cover (p.0).command c.0 (record { model = k.model; at = k.there; is = cover }) (sym c.2) refl;
-          numbered = subst (λ j. IsNumbered (net_places library main (paths_of instances)) (cover_net (p.0).path (p.0).command) (CoverNumber j)) z (a_cover p.0 i refl p.1 refl);
-        };
+        named = body_named k.model (p.0).command b name is d.0;
+        right = record { net = net p.0; drives = d.1; numbered = subst (λ j. IsNumbered (net_places library main (paths_of instances)) (net p.0) (number j)) z (numbered i p.0 p.1) };
       })
+
+  cover_drives : (b : Body) (p : Place) (m : ModelValue) (name : List ℕ) → output_of_cover b ≡ Some name → model_at library p.path ≡ Some m → body_at m p.command ≡ Some b → In (body_names b) name × Drives library p.path name (cover_net p.path p.command)
+  cover_drives (Cover c) p m name e at is =
+      let q : name ≡ c.output = sym (same_Some c.output name e) in
+      (In-right c.inputs (c.output ∷ []) name (inl q), drives_cover p.command c (record { model = m; at = at; is = is }) q refl)
+  cover_drives (Latch l) p m name e at is = absurd (none-some name e)
+  cover_drives (Subckt s) p m name e at is = absurd (none-some name e)
+
+  latch_drives : (b : Body) (p : Place) (m : ModelValue) (name : List ℕ) → output_of_latch b ≡ Some name → model_at library p.path ≡ Some m → body_at m p.command ≡ Some b → In (body_names b) name × Drives library p.path name (latch_net p.path p.command)
+  latch_drives (Cover c) p m name e at is = absurd (none-some name e)
+  latch_drives (Latch l) p m name e at is =
+      let q : name ≡ l.output = sym (same_Some l.output name e) in
+      (inr (inl q), drives_latch p.command l (record { model = m; at = at; is = is }) q refl)
+  latch_drives (Subckt s) p m name e at is = absurd (none-some name e)
+
+  pub covers_own : (covers : List Gate) → AreGatesAt (paths_of instances) covers (places_at library is_cover (paths_of instances))
+      → AreOwn library (net_places library main (paths_of instances)) (paths_of instances) instances output_of_cover (λ j. CoverNumber j) 0 covers
+  covers_own covers stand =
+      gates_own is_cover output_of_cover (λ p. cover_net p.path p.command) (λ j. CoverNumber j) covers stand (λ i p e. a_cover p i refl e refl) cover_drives
 
   pub latches_own : (latches : List Gate) → AreGatesAt (paths_of instances) latches (places_at library is_latch (paths_of instances))
       → AreOwn library (net_places library main (paths_of instances)) (paths_of instances) instances output_of_latch (λ j. LatchNumber j) 0 latches
-  latches_own latches gates i g name e f =
-      let p = item_there latches (places_at library is_latch (paths_of instances)) i g gates.count e in
-      let stands : IsGateAt (paths_of instances) g p.0 = gates.each i g p.0 e p.1 in
-      option_and_then_some output_of_latch (gate_body library instances g) name f (λ b h t.
-      let l = latch_body b name t in
-      let k : IsCommandOf g (p.0).path b = gate_command g (p.0).path b stands.row h in
-      let latch : body_at k.model (p.0).command ≡ Some (Latch l.0) = ap (body_at k.model) (sym stands.command) ∙ k.is ∙ ap Some l.1 in
-      let z : i ≡ 0 + i = omega arith in
-      record {
-        path = (p.0).path;
-        here = stands.row;
-        model = k.model;
-        there = k.there;
-        named = body_named k.model (p.0).command (Latch l.0) name latch (inr (inl (sym l.2)));
-        right = record {
-          net = latch_net (p.0).path (p.0).command;
-          drives = drives_latch (p.0).command l.0 (record { model = k.model; at = k.there; is = latch }) (sym l.2) refl;
-          numbered = subst (λ j. IsNumbered (net_places library main (paths_of instances)) (latch_net (p.0).path (p.0).command) (LatchNumber j)) z (a_latch p.0 i refl p.1 refl);
-        };
-      })
+  latches_own latches stand =
+      gates_own is_latch output_of_latch (λ p. latch_net p.path p.command) (λ j. LatchNumber j) latches stand (λ i p e. a_latch p i refl e refl) latch_drives
 
   -- each command of a kind is that of a gate
   pub record IsGateOf (gates : List Gate) (i c : ℕ) (b : Body) : Type 0 where
@@ -196,8 +184,6 @@ module _ (library : LibraryValue) (main : ModelValue) (instances : List Instance
       }
 
 -- The inputs of the main model are put in by their places: they are few, the table stays right, and they stand in it.
-pub first_path : (library : LibraryValue) (instances : List Instance) → AreInstances library instances → slice_get (paths_of instances) 0 ≡ Some []
-first_path library instances are = order_first library are.order
 
 -- the inputs of a model are among its names
 pub input_named : (m : ModelValue) (name : List ℕ) → IsTrue (is_input m name) → In (all_names m) name
@@ -217,7 +203,7 @@ module _ (library : LibraryValue) (main : ModelValue) (instances : List Instance
   input_own name j e =
       let place : slice_get (inputs_of main) j ≡ Some name = place_is (inputs_of main) name j e in
       let is : IsTrue (is_input main name) = in_input main name (In-get (inputs_of main) j name place) in
-      record { path = []; here = first_path library instances are; model = main; there = first; named = input_named main name is; right = input_number library main (paths_of instances) j name first is place }
+      record { path = []; here = order_first library are.order; model = main; there = first; named = input_named main name is; right = input_number library main (paths_of instances) j name first is place }
 
   place_next : (n : NetsValue) → IsNets n → IsSoundTable library at (paths_of instances) (table_of n) → (name : List ℕ) (o : Option ℕ) → index_place (inputs_of main) name ≡ o → IsNext library at (paths_of instances) n (with_place n name o)
   place_next n is sound name None e = next_same library at (paths_of instances) n is sound

@@ -1,8 +1,8 @@
 -- The slots of the instances one behind the other: each name of each instance has its own, and they are as many as the instances' names.
-use Rattle.blif_flat.proofs.Common.{◌≡◌, ℕ, zero, suc, ◌+◌, ◌<◌, ◌≤◌, true, false, List, [], ◌∷◌, map, replicate, length, Option, Some, None, is_some, refl, sym, ap, ◌∙◌, subst, arith, slice_get, option_map, option_and_then, both_ways, length-replicate, none-some, same_Some, slice_get-map, slice_get_within, at_within, place_of, ModelValue, Path, model_at, has_name, FlatNet, Instance, Start, AreInstances, IsLight, paths_of, NetsValue, name_place, slot_number, slot_at, IsNets, HasSlots, AreEmptyNets, distinct_names, count_in, name_count, starts_from, slot_count, most_weight, LibraryValue, name_place_within, place_is, place_some}
+use Rattle.blif_flat.proofs.Common.{◌≡◌, ℕ, zero, suc, ◌+◌, ◌<◌, ◌≤◌, true, false, List, [], ◌∷◌, map, replicate, length, Option, Some, None, is_some, refl, sym, ap, ◌∙◌, subst, arith, slice_get, option_map, option_and_then, both_ways, length-replicate, none-some, same_Some, slice_get-map, slice_get_within, at_within, place_of, ModelValue, Path, model_at, has_name, FlatNet, Instance, Start, AreInstances, IsLight, paths_of, NetsValue, name_place, slot_number, slot_at, IsNets, HasSlots, AreEmptyNets, distinct_names, count_in, name_count, starts_from, slot_count, most_weight, LibraryValue, name_place_within, place_is, place_some, has_with_names, in_has, all_names}
 use Rattle.blif_flat.proofs.Hierarchy.InstanceRowLemmas.{AreModelsOf, models_rest, models_of}
 use Rattle.blif_flat.proofs.Hierarchy.InstanceWeightLemmas.{held, held_by, light_held}
-use Rattle.blif_flat.proofs.Models.ModelNameLemmas.{distinct_few, distinct_has}
+use Rattle.blif_flat.proofs.Models.ModelNameLemmas.{distinct_few}
 
 -- a slot by the names of its model and the place of its name among them
 record IsSlotOf (names : List (List (List ℕ))) (s : Start) (name : List ℕ) (k : ℕ) : Type 0 where
@@ -29,8 +29,7 @@ slot_from : (names : List (List (List ℕ))) (s : Start) (name : List ℕ) (k : 
 slot_from names s name k h = let e : s.first + h.place ≡ k = h.is in omega arith
 
 slot_below : (names : List (List (List ℕ))) (s : Start) (name : List ℕ) (k : ℕ) → IsSlotOf names s name k → k < s.first + name_count names s.model
-slot_below names s name k h =
-    omega (arith, ap count_in h.there, name_place_within h.own name h.place h.at)
+slot_below names s name k h = omega (arith, ap count_in h.there, name_place_within h.own name h.place h.at)
 
 -- and there it has one name
 slot_name : (names : List (List (List ℕ))) (s : Start) (name other : List ℕ) (k : ℕ) → IsSlotOf names s name k → IsSlotOf names s other k → name ≡ other
@@ -72,8 +71,7 @@ module _ (names : List (List (List ℕ))) where
       let s : Start = record { model = row.model; first = first } in
       absurd (omega (arith, slot_below names s other k (slot_parts names s other k f), slots_from instances (first + name_count names row.model) i name k e))
   slots_apart (row ∷ instances) first (suc i) (suc j) name other k e f =
-      let r = slots_apart instances (first + name_count names row.model) i j name other k e f in
-      (ap suc r.0, r.1)
+      let r = slots_apart instances (first + name_count names row.model) i j name other k e f in (ap suc r.0, r.1)
 
   -- a name of a row's model has one
   slot_there : (instances : List Instance) (first i : ℕ) (row : Instance) (own : List (List ℕ)) (name : List ℕ) → slice_get instances i ≡ Some row → slice_get names row.model ≡ Some own → has_name own name ≡ true
@@ -125,8 +123,7 @@ module _ (library : LibraryValue) where
     are_nets : IsNets made_nets
     are_nets = record {
       few = let a : length made_nets.slots ≡ slot_count all_distinct instances = slots_long in let b : slot_count all_distinct instances ≤ most_weight = few_slots in omega arith;
-      within = λ i name k e.
-          omega (arith, slots_long, slots_below all_distinct instances 0 i name k e);
+      within = λ i name k e. omega (arith, slots_long, slots_below all_distinct instances 0 i name k e);
       apart = λ i j name other k e f. slots_apart all_distinct instances 0 i j name other k e f;
     }
 
@@ -136,11 +133,8 @@ module _ (library : LibraryValue) where
           let models : AreModelsOf library instances (paths_of instances) = models_of library instances are in
           let row = at_within instances i (let n : length instances ≡ length (paths_of instances) = models.count in let h : i < length (paths_of instances) = slice_get_within (paths_of instances) i path e in omega arith) in
           let own : slice_get all_distinct row.0.model ≡ Some (distinct_names m) = slice_get-map distinct_names library.models row.0.model ∙ ap (option_map distinct_names) (models.each i row.0 path row.1 e ∙ at) in
-          slot_there all_distinct instances 0 i row.0 (distinct_names m) name row.1 own (distinct_has m name among) none;
+          slot_there all_distinct instances 0 i row.0 (distinct_names m) name row.1 own (has_with_names [] (all_names m) name ∙ in_has (all_names m) name among) none;
     }
-
-    empty_nets : AreEmptyNets library (paths_of instances) made_nets
-    empty_nets = record { nets = are_nets; slots = have_slots; empty = λ i name. no_net (slot_count all_distinct instances) (slot_number made_nets i name) }
 
     pub nets_made : (names : List (List (List ℕ))) (starts : List Start) (slots : List (Option FlatNet)) (count : ℕ) → names ≡ all_distinct → starts ≡ starts_from names 0 instances → count ≡ slot_count names instances → slots ≡ replicate count None
         → AreEmptyNets library (paths_of instances) (record { names = names; starts = starts; slots = slots })
@@ -149,4 +143,4 @@ module _ (library : LibraryValue) where
         ap (λ (ns : List (List (List ℕ))). record { names = ns; starts = starts; slots = slots }) a
         ∙ ap (λ (ss : List Start). record { names = all_distinct; starts = ss; slots = slots }) (b ∙ ap (λ ns. starts_from ns 0 instances) a)
         ∙ ap (λ (os : List (Option FlatNet)). record { names = all_distinct; starts = starts_from all_distinct 0 instances; slots = os }) (d ∙ ap (λ n. replicate n None) (c ∙ ap (λ ns. slot_count ns instances) a))) in
-        subst (AreEmptyNets library (paths_of instances)) (sym made) empty_nets
+        subst (AreEmptyNets library (paths_of instances)) (sym made) (record { nets = are_nets; slots = have_slots; empty = λ i name. no_net (slot_count all_distinct instances) (slot_number made_nets i name) })

@@ -154,14 +154,7 @@ module _ (library : LibraryValue) (main : ModelValue) (at : model_at library [] 
         (λ r k. too_large main (models_at library.models numbers) k.1.weight at walks k.1.weighs k.1.is k.0) h
 
     walked_light : HasWeight library main (λ w. w ≤ most_weight) → IsWalked library (models_at library.models numbers)
-    walked_light light = record {
-      main = main;
-      at = at;
-      walks = walks;
-      weight = light.weight;
-      weighs = light.weighs;
-      light = light.is;
-    }
+    walked_light light = record { main = main; at = at; walks = walks; weight = light.weight; weighs = light.weighs; light = light.is }
 
     pub driver_fault : (result : Result (Unit {0}) FlatErr) → HasWeight library main (λ w. w ≤ most_weight) → Tells result (models_fault library (models_at library.models numbers)) → IfErr result (λ e. OrMemory refusal_of (IsFault library) e)
     driver_fault (Ok u) light h = tt
@@ -206,8 +199,7 @@ module _ (library : LibraryValue) (instances : List Instance) (are : AreInstance
       clear = subst (λ m. ClockData library m (places_at library is_gate (paths_of instances)) None) (same_Some main past.past.main (sym at ∙ past.past.at)) are_clocks.clear
 
       pub loop_refused : (e : FlatErr) → OrMemory refusal_of (IsLoop library) e → OrMemory refusal_of (IsFault library) e
-      loop_refused e h =
-          OrMemory-map refusal_of (IsLoop library) (IsFault library) e
+      loop_refused e h = OrMemory-map refusal_of (IsLoop library) (IsFault library) e
           (λ r l. in_loops (clocked are_clocks.controlled.clean) (places_at library is_gate (paths_of instances)) gates_order clear l) h
 
       pub all_sound : IsWellFormed library → LoopWalk library None → IsSound library

@@ -1,6 +1,5 @@
 -- The parts of a flat circuit make its fields.
-use Rattle.blif_flat.proofs.Common.{◌≡◌, ℕ, ◌≤◌, List, [], ◌++◌, map, length, reverse, filter, Some, refl, sym, ap, ◌∙◌, subst, subst₂, arith, Bool, not, slice_get, same_Some, length-map, ◌<◌, inl, inr, is_some, option_map, slice_get_within, slice_get-map, In, In-get, at_within, apart_once, reversed_in, in_reversed, nodes_done, LibraryValue, CoverValue, Places, none, more, FlatCoverValue, FlatValue, behind_is, nodes_only, nodes_after, reversed_forward, reversed_apart, reads_earlier, filtered_apart, length-filter_le}
-use Rattle.blif_flat.specs.{ModelValue, Path, model_at, inputs_of, is_cover, is_latch, Circuit, ClockNets, Instance, FlatNet, OutPort, FlatLatch, paths_of, IsLight, places_at, is_gate, input_name, clock_test, cover_reads, PostsAll, most_weight, own_weight, AreNetsOf, IsControl, with_control_net, most_underscores, IsFlat, regular_numbers, IsRegular, regular_places, AreFlatCovers, AreFlatLatches, AreCounted, root_numbers, IsCircuit, AreClockNets, input_ports, Place, AreOnce, IsWellFormed, FlatNet as Net, IsNumbered, an_input, a_latch, a_cover, reads_at, IsFlatCover, IsFlatLatch, cover_behind, IsThere, StandsBefore, IsWithinBounds}
+use Rattle.blif_flat.proofs.Common.{◌≡◌, ℕ, ◌≤◌, List, [], ◌++◌, map, length, reverse, filter, Some, refl, sym, ap, ◌∙◌, subst, subst₂, arith, Bool, Option, not, slice_get, same_Some, length-map, ◌<◌, inl, inr, is_some, option_map, slice_get_within, slice_get-map, In, In-get, at_within, apart_once, reversed_in, in_reversed, nodes_done, LibraryValue, CoverValue, Places, none, more, FlatCoverValue, FlatValue, behind_is, nodes_only, nodes_after, reversed_forward, reversed_apart, reads_earlier, filtered_apart, length-filter_le, ModelValue, Path, model_at, inputs_of, is_cover, is_latch, Circuit, ClockNets, Instance, FlatNet, OutPort, FlatLatch, paths_of, IsLight, places_at, is_gate, input_name, clock_test, cover_reads, PostsAll, most_weight, own_weight, AreNetsOf, IsControl, with_control_net, most_underscores, IsFlat, regular_numbers, IsRegular, regular_places, AreFlatCovers, AreFlatLatches, IsLogic, AreCounted, root_numbers, IsCircuit, AreClockNets, input_ports, Place, AreOnce, IsWellFormed, FlatNet as Net, IsNumbered, an_input, a_latch, a_cover, reads_at, IsFlatCover, IsFlatLatch, cover_behind, IsThere, StandsBefore, IsWithinBounds}
 use Rattle.blif_flat.proofs.Clocking.ControlLemmas.{data-output, data-clock}
 use Rattle.blif_flat.proofs.Faults.FaultOnceLemmas.{rows_order}
 use Rattle.blif_flat.proofs.Fields.NumberWalkLemmas.{flat_walked, in_range, root_below}
@@ -19,8 +18,7 @@ module _ (library : LibraryValue) (main : ModelValue) (at : model_at library [] 
   places = regular_places library main test paths
 
   pub few_marks : IsLight library → length clocks.marks.items ≤ most_weight
-  few_marks light =
-      omega (arith, few_inputs library light main at, ap length known.marks ∙ length-map (inputs_of main) test)
+  few_marks light = omega (arith, few_inputs library light main at, ap length known.marks ∙ length-map (inputs_of main) test)
 
   abbrev pub regular_clocks : (numbers : List ℕ) → numbers ≡ regular_numbers 0 clocks.marks.items → IsRegular library numbers
   regular_clocks numbers e = record {
@@ -34,89 +32,80 @@ module _ (library : LibraryValue) (main : ModelValue) (at : model_at library [] 
   }
 
   -- what the parts are by the new numbers
-  module _ (numbers : List ℕ) (instances : List Instance) (numbers_are : numbers ≡ regular_numbers 0 clocks.marks.items) (rows_are : instances ≡ circuit.instances.items) where
-    pub covers_known : (flat : List FlatCoverValue) → ((r : IsRegular library numbers) → AreFlatCovers library (regular_places library r.main r.test (paths_of instances)) flat) → AreFlatCovers library places flat
-    covers_known flat h = subst (λ rs. AreFlatCovers library (regular_places library main test (paths_of rs)) flat) rows_are (h (regular_clocks numbers numbers_are))
+  pub logic_known : (numbers : List ℕ) (instances : List Instance) → numbers ≡ regular_numbers 0 clocks.marks.items → instances ≡ circuit.instances.items
+      → (covers : List FlatCoverValue) (latches : List FlatLatch) (outputs : List OutPort)
+      → ((r : IsRegular library numbers) → AreFlatCovers library (regular_places library r.main r.test (paths_of instances)) covers)
+      → ((r : IsRegular library numbers) → AreFlatLatches library (regular_places library r.main r.test (paths_of instances)) latches)
+      → ((r : IsRegular library numbers) → map (λ (o : OutPort). o.name) outputs ≡ r.main.outputs)
+      → ((r : IsRegular library numbers) → AreNetsOf library (regular_places library r.main r.test (paths_of instances)) [] r.main.outputs (map (λ (o : OutPort). o.net) outputs))
+      → IsLogic library main places covers latches outputs
+  logic_known numbers instances n rows covers latches outputs c l names nets = record {
+    covers_are = subst (λ rs. AreFlatCovers library (regular_places library main test (paths_of rs)) covers) rows (c (regular_clocks numbers n));
+    latches_are = subst (λ rs. AreFlatLatches library (regular_places library main test (paths_of rs)) latches) rows (l (regular_clocks numbers n));
+    names = names (regular_clocks numbers n);
+    nets = subst (λ rs. AreNetsOf library (regular_places library main test (paths_of rs)) [] main.outputs (map (λ (o : OutPort). o.net) outputs)) rows (nets (regular_clocks numbers n));
+  }
 
-    pub latches_known : (flat : List FlatLatch) → ((r : IsRegular library numbers) → AreFlatLatches library (regular_places library r.main r.test (paths_of instances)) flat) → AreFlatLatches library places flat
-    latches_known flat h = subst (λ rs. AreFlatLatches library (regular_places library main test (paths_of rs)) flat) rows_are (h (regular_clocks numbers numbers_are))
-
-    pub nets_known : (nets : List FlatNet) → ((r : IsRegular library numbers) → AreNetsOf library (regular_places library r.main r.test (paths_of instances)) [] r.main.outputs nets) → AreNetsOf library places [] main.outputs nets
-    nets_known nets h = subst (λ rs. AreNetsOf library (regular_places library main test (paths_of rs)) [] main.outputs nets) rows_are (h (regular_clocks numbers numbers_are))
-
-    pub names_known : (names : List (List ℕ)) → ((r : IsRegular library numbers) → names ≡ r.main.outputs) → names ≡ main.outputs
-    names_known names h = h (regular_clocks numbers numbers_are)
-
-  module _ (covers : List FlatCoverValue) (covers_are : AreFlatCovers library places covers) where
+  module _ (covers : List FlatCoverValue) (latches : List FlatLatch) (outputs : List OutPort) (logic : IsLogic library main places covers latches outputs) where
     pub few_covers : length covers ≤ most_weight
-    few_covers =
-        omega arith
+    few_covers = omega arith
 
-    module _ (latches : List FlatLatch) (latches_are : AreFlatLatches library places latches) (outputs : List OutPort)
-        (nets : AreNetsOf library places [] main.outputs (map (λ (o : OutPort). o.net) outputs)) where
-      pub counted : AreCounted library paths (map (λ (o : OutPort). o.net) outputs) covers latches
-      counted = record {
-        main = main;
-        at = places;
-        walked = record {
-          is_main = at;
-          covers_order = rows_order library circuit.instances.items is.instances is_cover main at;
-          latches_order = rows_order library circuit.instances.items is.instances is_latch main at;
-          cover_count = covers_are.count;
-          covers_are = covers_are.each;
-          latch_count = latches_are.count;
-          latches_are = latches_are.each;
-          outputs_are = nets;
-        };
-        covers_at = refl;
-      }
+    pub counted : AreCounted library paths (map (λ (o : OutPort). o.net) outputs) covers latches
+    counted = record {
+      main = main;
+      at = places;
+      walked = record {
+        is_main = at;
+        covers_order = rows_order library circuit.instances.items is.instances is_cover main at;
+        latches_order = rows_order library circuit.instances.items is.instances is_latch main at;
+        cover_count = logic.covers_are.count;
+        covers_are = logic.covers_are.each;
+        latch_count = logic.latches_are.count;
+        latches_are = logic.latches_are.each;
+        outputs_are = logic.nets;
+      };
+      covers_at = refl;
+    }
 
-      pub counted_as : (instances : List Instance) (ports : List OutPort) (gates : List FlatCoverValue) (last : List FlatLatch) → instances ≡ circuit.instances.items → ports ≡ outputs → gates ≡ covers → last ≡ latches
-          → AreCounted library (paths_of instances) (map (λ (o : OutPort). o.net) ports) gates last
-      counted_as instances ports gates last r o c l =
+    module _ (gates : List FlatCoverValue) (last : List FlatLatch) (ports : List OutPort) (c : gates ≡ covers) (l : last ≡ latches) (o : ports ≡ outputs) where
+      pub counted_as : (instances : List Instance) → instances ≡ circuit.instances.items → AreCounted library (paths_of instances) (map (λ (o : OutPort). o.net) ports) gates last
+      counted_as instances r =
           subst₂ (λ (x : List Instance) (y : List OutPort). AreCounted library (paths_of x) (map (λ (o : OutPort). o.net) y) gates last) (sym r) (sym o)
           (subst₂ (λ (x : List FlatCoverValue) (y : List FlatLatch). AreCounted library paths (map (λ (o : OutPort). o.net) outputs) x y) (sym c) (sym l) counted)
 
-      -- the order of the walk stays that of the same lists
-      walked : {other : List FlatCoverValue} {last : List FlatLatch} {ports : List OutPort} {order : List ℕ} → covers ≡ other → latches ≡ last → outputs ≡ ports
-          → PostsAll (cover_reads covers) [] (root_numbers (map (λ (o : OutPort). o.net) outputs) latches) order → PostsAll (cover_reads other) [] (root_numbers (map (λ (o : OutPort). o.net) ports) last) order
-      walked {other} {last} {ports} {order} c l o h =
-          subst (λ y. PostsAll (cover_reads y) [] (root_numbers (map (λ (x : OutPort). x.net) ports) last) order) c
-          (subst₂ (λ (y : List FlatLatch) (z : List OutPort). PostsAll (cover_reads covers) [] (root_numbers (map (λ (x : OutPort). x.net) z) y) order) l o h)
-
-      pub fields : (flat : FlatValue) → flat.covers ≡ covers → flat.latches ≡ latches → flat.outputs ≡ outputs → flat.model ≡ main.name → flat.inputs ≡ filter (λ name. not (test name)) main.inputs
-          → flat.control ≡ input_name main clocks.control → flat.clocks ≡ with_control_net main.clocks flat.control → map (λ (o : OutPort). o.name) outputs ≡ main.outputs
-          → PostsAll (cover_reads covers) [] (root_numbers (map (λ (o : OutPort). o.net) outputs) latches) (reverse flat.order) → flat.under ≡ most_underscores (main.inputs ++ (main.clocks ++ main.outputs)) → IsFlat library flat
-      fields flat c l o model inputs control clock_names names order under = record {
+      pub fields : (name : List ℕ) (inputs clock_names : List (List ℕ)) (control : Option (List ℕ)) (order : List ℕ) (under : ℕ) → name ≡ main.name → inputs ≡ filter (λ name. not (test name)) main.inputs
+          → control ≡ input_name main clocks.control → clock_names ≡ with_control_net main.clocks control
+          → PostsAll (cover_reads gates) [] (root_numbers (map (λ (o : OutPort). o.net) ports) last) (reverse order) → under ≡ most_underscores (main.inputs ++ (main.clocks ++ main.outputs))
+          → IsFlat library (record { model = name; inputs = inputs; clocks = clock_names; control = control; outputs = outputs; covers = covers; latches = latches; order = order; under = under })
+      fields name inputs clock_names control order under name_is inputs_are control_is clocks_are posts under_is = record {
         main = main;
         is_main = at;
-        model = model;
+        model = name_is;
         test = test;
         tells = known.tells;
-        inputs = inputs;
-        control = subst (IsControl library) (sym control) known.controlled.is;
-        clocks = clock_names;
+        inputs = inputs_are;
+        control = subst (IsControl library) (sym control_is) known.controlled.is;
+        clocks = clocks_are;
         at = places;
-        places = sym inputs;
+        places = sym inputs_are;
         covers_order = rows_order library circuit.instances.items is.instances is_cover main at;
         latches_order = rows_order library circuit.instances.items is.instances is_latch main at;
-        cover_count = ap length c ∙ covers_are.count;
-        covers = λ k p f a b. covers_are.each k p f a (ap (λ y. slice_get y k) (sym c) ∙ b);
-        latch_count = ap length l ∙ latches_are.count;
-        latches = λ k p f a b. latches_are.each k p f a (ap (λ y. slice_get y k) (sym l) ∙ b);
-        output_names = ap (map (λ (x : OutPort). x.name)) o ∙ names;
-        outputs = subst (λ y. AreNetsOf library places [] main.outputs (map (λ (x : OutPort). x.net) y)) (sym o) nets;
-        order = walked (sym c) (sym l) (sym o) order;
-        under = under;
+        cover_count = logic.covers_are.count;
+        covers = logic.covers_are.each;
+        latch_count = logic.latches_are.count;
+        latches = logic.latches_are.each;
+        output_names = logic.names;
+        outputs = logic.nets;
+        order = subst₂ (λ (y : List FlatLatch) (z : List OutPort). PostsAll (cover_reads covers) [] (root_numbers (map (λ (x : OutPort). x.net) z) y) (reverse order)) l o
+            (subst (λ y. PostsAll (cover_reads y) [] (root_numbers (map (λ (x : OutPort). x.net) ports) last) (reverse order)) c posts);
+        under = under_is;
       }
 
 module _ (library : LibraryValue) (flat : FlatValue) (f : IsFlat library flat) where
   numbered_there : {e : _} (number : Net) → IsNumbered f.at e number → IsThere flat number
   numbered_there number (an_input name j q g n) = subst (IsThere flat) (sym n) (slice_get_within flat.inputs j name (subst (λ l. slice_get l j ≡ Some name) f.places g))
-  numbered_there number (a_latch p j q g n) =
-      subst (IsThere flat) (sym n) (omega (arith, slice_get_within (f.at).latches j p g))
-  numbered_there number (a_cover p j q g n) =
-      subst (IsThere flat) (sym n) (omega (arith, slice_get_within (f.at).covers j p g))
+  numbered_there number (a_latch p j q g n) = subst (IsThere flat) (sym n) (omega (arith, slice_get_within (f.at).latches j p g))
+  numbered_there number (a_cover p j q g n) = subst (IsThere flat) (sym n) (omega (arith, slice_get_within (f.at).covers j p g))
 
   nets_there : {path : Path} {names : List (List ℕ)} {numbers : List Net} → AreNetsOf library f.at path names numbers → (net : Net) → In numbers net → IsThere flat net
   nets_there none net i = absurd i
@@ -134,8 +123,7 @@ module _ (library : LibraryValue) (flat : FlatValue) (f : IsFlat library flat) w
 
   at_cover : (k : ℕ) (c : FlatCoverValue) → slice_get flat.covers k ≡ Some c → IsAt k c
   at_cover k c e =
-      let p = at_within (f.at).covers k (omega (arith, slice_get_within flat.covers k c e)) in
-      record { place = p.0; is = f.covers k p.0 c p.1 e }
+      let p = at_within (f.at).covers k (omega (arith, slice_get_within flat.covers k c e)) in record { place = p.0; is = f.covers k p.0 c p.1 e }
 
   latch_there : (k : ℕ) (l : FlatLatch) → slice_get flat.latches k ≡ Some l → IsThere flat l.input
   latch_there k l e =

@@ -67,14 +67,10 @@ module _ (library : LibraryValue) where
     same_main : v.main ≡ w.main
     same_main = same_Some v.main w.main (sym v.at ∙ w.at)
 
-    same_covers : v.covers ≡ w.covers
-    same_covers = order_once library is_cover (subst (λ m. FlatOrder library is_cover [] m v.covers) same_main v.covers_are) w.covers_are
-
-    same_latches : v.latches ≡ w.latches
-    same_latches = order_once library is_latch (subst (λ m. FlatOrder library is_latch [] m v.latches) same_main v.latches_are) w.latches_are
-
     same_start : start_of v.net v.main v.latches v.covers ≡ start_of v.net w.main w.latches w.covers
-    same_start = ap (λ m. start_of v.net m v.latches v.covers) same_main ∙ ap₂ (λ (l c : List Place). start_of v.net w.main l c) same_latches same_covers
+    same_start = ap (λ m. start_of v.net m v.latches v.covers) same_main ∙ ap₂ (λ (l c : List Place). start_of v.net w.main l c)
+        (order_once library is_latch (subst (λ m. FlatOrder library is_latch [] m v.latches) same_main v.latches_are) w.latches_are)
+        (order_once library is_cover (subst (λ m. FlatOrder library is_cover [] m v.covers) same_main v.covers_are) w.covers_are)
 
     other_meets : MeetsAll (reads_of library w.net) [] (start_of w.net w.main w.latches w.covers) other
     other_meets = subst (λ net. MeetsAll (reads_of library net) [] (start_of net w.main w.latches w.covers) other) (same_nets library v.net w.net v.nets w.nets)

@@ -19,13 +19,11 @@ module _ (library : LibraryValue) where
 
     here : (k : ℕ) (g : Gate) → slice_get gates k ≡ Some g → IsHere k g
     here k g e =
-        let p = at_within gate_places k (omega (arith, slice_get_within gates k g e)) in
-        record { place = p.0; at = p.1; gate = w.each k g p.0 e p.1 }
+        let p = at_within gate_places k (omega (arith, slice_get_within gates k g e)) in record { place = p.0; at = p.1; gate = w.each k g p.0 e p.1 }
 
     pub number_row : (k : ℕ) (d : Gate) → k < length gates → (get_or gates k d).row < length instances
     number_row k d b =
-        let h = here k (get_or gates k d) (slice_get-get_or gates k d b) in
-        row_within instances (get_or gates k d).row h.place.path h.gate.row
+        let h = here k (get_or gates k d) (slice_get-get_or gates k d b) in row_within instances (get_or gates k d).row h.place.path h.gate.row
 
     -- the text of a gate's cover is that of its number
     pub written_here : (k : ℕ) (d : Gate) (text : List ℕ) → k < length gates
@@ -45,9 +43,6 @@ module _ (library : LibraryValue) where
         }
 
   -- the texts of several numbers, one by one
-  pub written_start : (covers : List Place) (texts : List (List ℕ)) → texts ≡ [] → AreWrittenAt library covers [] texts
-  written_start covers texts e = record { places = []; at = refl; written = subst (AreWritten library []) (sym e) none }
-
   pub written_next : (covers : List Place) (numbers : List ℕ) (i d : ℕ) (texts news : List (List ℕ)) (text : List ℕ) → i < length numbers → AreWrittenAt library covers (take i numbers) texts
       → IsWrittenAt library covers (get_or numbers i d) text → news ≡ texts ++ text ∷ [] → AreWrittenAt library covers (take (i + 1) numbers) news
   written_next covers numbers i d texts news text h a t e =

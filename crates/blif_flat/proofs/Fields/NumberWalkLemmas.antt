@@ -1,6 +1,5 @@
 -- The covers as a graph: a walk along its edges is one of the covers that are read, and what the walks of the roots and of all covers find.
-use Rattle.blif_flat.proofs.Common.{◌≡◌, ℕ, ◌+◌, ◌<◌, List, [], ◌∷◌, ◌++◌, map, length, get_or, reverse, Some, None, refl, sym, ap, ◌∙◌, subst, subst₂, arith, slice_get, zero, suc, Bool, true, false, Option, ap₂, inl, inr, eqb, if◌then◌else◌, both_ways, cases_Bool, map-append, slice_get_within, In, In-append, at_within, apart_once, leads, PostsAll, WalkValue, FlatNet, cover_numbers, inputs_at, cover_reads, edge_of, cover_edges, InRange, IsReady, IsClear, IsNumberLoop, all_starts, IsOrder, MeetsAll, ModelValue, Path, Net, Place, same_place, latch_at, is_cover, OutPort, FlatLatch, AreNets, with_cover, covers_among, reads_in, reads_of, latch_covers, all_latch_covers, roots_of, from_node, AreWritten, LoopWalk, IsLoop, IsNumbered, an_input, a_latch, a_cover, IsNetOf, AreNetsOf, IsFlatCover, IsFlatLatch, IsFlat, AreWalked, latch_nets, root_numbers, Repeat, LibraryValue, range_with_len, nodes_of, ways_of, ways_from, successors, AreNodes, Places, none, more, FlatCoverValue, FlatValue, Loop, latch_at-some, places_apart, same_place-is, same_place-refl, cover_at-is}
-use Rattle.std.proofs.Common.{eqb-true, eq-eqb}
+use Rattle.blif_flat.proofs.Common.{choose, In-push, of_range, ◌≡◌, ℕ, ◌+◌, ◌<◌, List, [], ◌∷◌, ◌++◌, map, length, get_or, reverse, Some, None, refl, sym, ap, ◌∙◌, subst, subst₂, arith, slice_get, zero, suc, Bool, true, false, Option, ap₂, inl, inr, eqb, if◌then◌else◌, both_ways, cases_Bool, map-append, slice_get_within, In, In-append, at_within, apart_once, leads, PostsAll, WalkValue, FlatNet, cover_numbers, inputs_at, cover_reads, edge_of, cover_edges, InRange, IsReady, IsClear, IsNumberLoop, all_starts, IsOrder, MeetsAll, ModelValue, Path, Net, Place, same_place, latch_at, is_cover, OutPort, FlatLatch, AreNets, with_cover, covers_among, reads_in, reads_of, latch_covers, all_latch_covers, roots_of, from_node, AreWritten, LoopWalk, IsLoop, IsNumbered, an_input, a_latch, a_cover, IsNetOf, AreNetsOf, IsFlatCover, IsFlatLatch, IsFlat, AreWalked, latch_nets, root_numbers, Repeat, LibraryValue, range_with_len, nodes_of, ways_of, ways_from, successors, AreNodes, Places, none, more, FlatCoverValue, FlatValue, Loop, latch_at-some, places_apart, same_place-is, same_place-refl, cover_at-is, eqb-true, eq-eqb}
 use Rattle.std.proofs.Math.Path.{fun_ext}
 use Rattle.std.proofs.lemmas.List.FromFn.{length-range_with_len, get_or-range_with_len}
 use Rattle.depth_first.specs.Walk.{leads_to, from_node as from_number, VisitedAll}
@@ -52,9 +51,6 @@ module _ (covers : List FlatCoverValue) where
   }
 
   -- the roots, and then all covers
-  pub new_ready : (w : WalkValue) → w ≡ record { count = length covers; begun = []; order = []; path = [] } → IsReady covers w
-  new_ready w e = subst (IsReady covers) (sym e) (record { count = refl; settled = tt; path = refl })
-
   pub loop_of_roots : (roots nodes : List ℕ) → IsNumberLoop covers roots nodes → IsNumberLoop covers (all_starts covers roots) nodes
   loop_of_roots roots nodes c = record { repeat = c.repeat; meets = found_append (cover_reads covers) c.meets c.repeat refl (range_with_len 0 (length covers)); nodes_are = c.nodes_are }
 
@@ -107,11 +103,6 @@ mapped_numbers at k (p ∷ ps) h =
 all_places : (at : Places) (n : ℕ) → n ≡ length at.covers → map (place_at at) (range_with_len 0 n) ≡ at.covers
 all_places at n e =
     ap (λ m. map (place_at at) (range_with_len 0 m)) e ∙ mapped_numbers at 0 at.covers (λ i. (let z : 0 + i ≡ i = omega arith in ap (slice_get at.covers) z))
-
-numbers_below : (k n m : ℕ) → In (range_with_len k n) m → m < k + n
-numbers_below k zero m i = absurd i
-numbers_below k (suc n) m (inl e) = omega arith
-numbers_below k (suc n) m (inr i) = (let b : m < k + 1 + n = numbers_below (k + 1) n m i in omega arith)
 
 -- a net before others
 first_numbers : (net : FlatNet) (nets : List FlatNet) → cover_numbers (net ∷ nets) ≡ cover_numbers (net ∷ []) ++ cover_numbers nets
@@ -222,7 +213,7 @@ module _ (library : LibraryValue) (main : ModelValue) (at : Places) (outputs : L
   starts_below : (m : ℕ) → In starts m → m < length at.covers
   starts_below m i = elim (In-append (root_numbers outputs latches) (range_with_len 0 (length covers)) m i) as (λ _. m < length at.covers) [
     | inl j ↦ roots_below m j
-    | inr j ↦ (let b : m < 0 + length covers = numbers_below 0 (length covers) m j in let e : length covers ≡ length at.covers = w.cover_count in omega arith)
+    | inr j ↦ (let b : m < 0 + length covers = (of_range 0 (length covers) m j).1 in let e : length covers ≡ length at.covers = w.cover_count in omega arith)
   ]
 
   -- the loop of numbers is one of places
@@ -244,17 +235,13 @@ module _ (library : LibraryValue) (main : ModelValue) (at : Places) (outputs : L
       ap (λ b. if b then place_at at m ∷ [] else from_node (place_at at n) (map (place_at at) path) ++ place_at at m ∷ []) (same_number n m p (h m (inl refl)) (eqb n m) refl)
       ∙ from_case (eqb n m) m (from_number n path) (from_node (place_at at n) (map (place_at at) path)) (from_mapped n path p (λ k i. h k (inr i)))
 
-  within_case : (b : Bool) (k : ℕ) (xs : List ℕ) (m : ℕ) → k < length at.covers → (In xs m → m < length at.covers) → In (if b then k ∷ [] else xs ++ k ∷ []) m → m < length at.covers
-  within_case true k xs m l h (inl e) = subst (λ x. x < length at.covers) (sym e) l
-  within_case true k xs m l h (inr i) = absurd i
-  within_case false k xs m l h i = elim (In-append xs (k ∷ []) m i) as (λ _. m < length at.covers) [
-    | inl j ↦ h j
-    | inr j ↦ elim j as (λ _. m < length at.covers) [ inl e ↦ subst (λ x. x < length at.covers) (sym e) l | inr o ↦ absurd o ]
-  ]
-
   from_within : (n : ℕ) (path : List ℕ) → ((m : ℕ) → In path m → m < length at.covers) → (m : ℕ) → In (from_number n path) m → m < length at.covers
   from_within n [] h m i = absurd i
-  from_within n (k ∷ path) h m i = within_case (eqb n k) k (from_number n path) m (h k (inl refl)) (from_within n path (λ l j. h l (inr j)) m) i
+  from_within n (k ∷ path) h m i =
+      let here : m ≡ k → m < length at.covers = λ e. subst (λ x. x < length at.covers) (sym e) (h k (inl refl)) in
+      choose (λ (l : List ℕ). In l m → m < length at.covers) (eqb n k) (k ∷ []) (from_number n path ++ k ∷ [])
+      (λ _ j. elim j as (λ _. m < length at.covers) [ inl e ↦ here e | inr o ↦ absurd o ])
+      (λ _ j. elim (In-push (from_number n path) k m j) as (λ _. m < length at.covers) [ inl a ↦ from_within n path (λ l b. h l (inr b)) m a | inr e ↦ here e ]) i
 
   module _ (net : Path → List ℕ → Option Net) (nets : AreNets library net) where
     reads_here : (k : ℕ) (c : FlatCoverValue) → slice_get covers k ≡ Some c → (h : IsHere k c) → reads_of library net (place_at at k) ≡ map (place_at at) (cover_reads covers k)
@@ -263,21 +250,20 @@ module _ (library : LibraryValue) (main : ModelValue) (at : Places) (outputs : L
         ap (reads_of library net) (place_at-is at k p h.at_place) ∙ ap (reads_in (net p.path)) (cover_at-is library p.path p.command (h.is).cover (h.is).is)
         ∙ among_mapped library at net nets p.path (h.is).inputs ∙ sym (ap (λ y. map (place_at at) (cover_numbers (inputs_at y))) e)
 
-    -- the numbers that a cover reads are those of the places that its place reads
-    pub same_reads : (k : ℕ) → k < length at.covers → reads_of library net (place_at at k) ≡ map (place_at at) (cover_reads covers k)
-    same_reads k b =
-        let c = at_within covers k (omega arith) in
-        reads_here k c.0 c.1 (here k c.0 c.1)
-
     same_roots : roots_of library net main at.latches ≡ map (place_at at) (root_numbers outputs latches)
     same_roots =
         ap₂ (λ (x y : List Place). x ++ y) (among_mapped library at net nets [] w.outputs_are) (latches_mapped library at net nets at.latches latches w.latch_count w.latches_are)
         ∙ sym (map-append (place_at at) (cover_numbers outputs) (cover_numbers (latch_nets latches)))
 
     same_starts : map (place_at at) starts ≡ roots_of library net main at.latches ++ at.covers
-    same_starts =
-        map-append (place_at at) (root_numbers outputs latches) (range_with_len 0 (length covers))
+    same_starts = map-append (place_at at) (root_numbers outputs latches) (range_with_len 0 (length covers))
         ∙ ap₂ (λ (x y : List Place). x ++ y) (sym same_roots) (all_places at (length covers) w.cover_count)
+
+    -- the numbers that a cover reads are those of the places that its place reads
+    pub same_reads : (k : ℕ) → k < length at.covers → reads_of library net (place_at at k) ≡ map (place_at at) (cover_reads covers k)
+    same_reads k b =
+        let c = at_within covers k (omega arith) in
+        reads_here k c.0 c.1 (here k c.0 c.1)
 
     -- what the walk of the numbers finds, the walk of the places does
     pub walk_mapped : (result : Option (Repeat ℕ)) → MeetsAll (cover_reads covers) [] starts result → LoopWalk library (result_mapped (place_at at) result)

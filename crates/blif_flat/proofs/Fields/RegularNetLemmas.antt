@@ -1,10 +1,9 @@
 -- Nets by the numbers of the regular inputs: an input that is no clock net stands among the regular ones at its number.
-use Rattle.blif_flat.proofs.Common.{◌≡◌, ℕ, zero, suc, ◌+◌, Bool, true, false, not, cond, List, [], ◌∷◌, ◌++◌, map, Option, Some, None, refl, sym, ap, ◌∙◌, subst, inl, inr, arith, filter, slice_get, cases_Bool, both_ways, none-some, same_Some, In, length, drop, drop_of_length-le, ◌≤◌, option_and_then, length-map, In-get, ◌<◌, max, get_or, ap₂, append_assoc, and_from, slice_get_read, LibraryValue, Path, has_name, inputs_of, Net, input_net, Drives, IsClock, listed, FlatNet, Instance, number_or_zero, paths_of, IsNumbered, an_input, a_latch, a_cover, IsNetOf, AreNetsOf, net_places, IsNetFound, NetsValue, table_of, AreAllNets, regular_numbers, renumbered, IsRegular, regular_places, renumbered_or, regular_net, regular_nets, Body, Cover, Latch, LatchValue, ModelValue, body_at, model_at, CoverAt, LatchAt, IsDriven, cover_input, latch_input, Place, cover_in, latch_in, is_cover, is_latch, Gate, cover_data, latch_data, places_at, AreInstances, IsGateAt, AreGatesAt, body_in, gate_body, IsFlatCover, IsFlatLatch, AreFlatCovers, AreFlatLatches, row_model, inputs_or, flat_cover, made_latch, latch_or, flat_latch, is_input, is_output, main_input, model_output, OutPort, underscores, most_underscores, out_port, outputs_or, with_unmarked, unmarked_after, CoverValue, Places, none, more, Input, net_of_driver, In-filter, mapped_at, IsOfKind, flat_only, in_has}
-use Rattle.std.proofs.Common.{append-nil}
+use Rattle.blif_flat.proofs.Common.{◌≡◌, ℕ, zero, suc, ◌+◌, Bool, true, false, not, cond, List, [], ◌∷◌, ◌++◌, map, Option, Some, None, refl, sym, ap, ◌∙◌, subst, inl, inr, arith, filter, slice_get, cases_Bool, both_ways, none-some, same_Some, In, length, drop, drop_of_length-le, ◌≤◌, option_and_then, length-map, In-get, ◌<◌, max, get_or, ap₂, append_assoc, and_from, slice_get_read, LibraryValue, Path, has_name, inputs_of, Net, input_net, Drives, IsClock, listed, FlatNet, Instance, number_or_zero, paths_of, IsNumbered, an_input, a_latch, a_cover, IsNetOf, AreNetsOf, net_places, IsNetFound, NetsValue, table_of, AreAllNets, regular_numbers, renumbered, IsRegular, regular_places, renumbered_or, regular_net, regular_nets, Body, Cover, Latch, LatchValue, ModelValue, body_at, model_at, CoverAt, LatchAt, IsDriven, cover_input, latch_input, Place, cover_in, latch_in, is_cover, is_latch, Gate, cover_data, latch_data, places_at, AreInstances, IsGateAt, AreGatesAt, body_in, gate_body, IsFlatCover, IsFlatLatch, AreFlatCovers, AreFlatLatches, row_model, inputs_or, flat_cover, made_latch, latch_or, flat_latch, is_input, is_output, main_input, model_output, OutPort, underscores, most_underscores, out_port, outputs_or, with_unmarked, unmarked_after, CoverValue, Places, none, more, Input, net_of_driver, In-filter, mapped_at, IsOfKind, flat_only, in_has, append-nil}
 use Rattle.std.proofs.lemmas.List.Elements.{filter-append}
-use Rattle.blif_flat.proofs.Hierarchy.GateLemmas.{place_model, gate_row, gate_place}
+use Rattle.blif_flat.proofs.Hierarchy.GateLemmas.{place_model, gate_row, gate_place, latch_place}
 use Rattle.netlist.proofs.UnderscoreLemmas.{most-append}
-use Rattle.blif_flat.proofs.Hierarchy.OrderLemmas.{is_cover-some, is_latch-some, order_places, order_first}
+use Rattle.blif_flat.proofs.Hierarchy.OrderLemmas.{is_cover-some, order_places, order_first}
 
 -- an element that isn't marked has a number, counted on from n, and stands there among those that aren't marked
 record IsKept {A : Type 0} (test : A → Bool) (n : ℕ) (xs : List A) (j : ℕ) (x : A) : Type 0 where
@@ -17,9 +16,7 @@ kept_first test n xs x true e off = absurd (both_ways true off refl)
 kept_first test n xs x false e off = refl
 
 kept_next : {A : Type 0} (test : A → Bool) (n : ℕ) (y : A) (ys : List A) (j : ℕ) (x : A) (b : Bool) → test y ≡ b → ((m : ℕ) → IsKept test m ys j x) → IsKept test n (y ∷ ys) (suc j) x
-kept_next test n y ys j x true e rest =
-    let r = rest n in
-    record { place = r.place; number = rw e r.number; at = rw e r.at }
+kept_next test n y ys j x true e rest = let r = rest n in record { place = r.place; number = rw e r.number; at = rw e r.at }
 kept_next test n y ys j x false e rest =
     let r = rest (1 + n) in
     let z : 1 + n + r.place ≡ n + suc r.place = omega arith in
@@ -55,10 +52,7 @@ module _ (library : LibraryValue) (numbers : List ℕ) (r : IsRegular library nu
   ]
 
   not_marked : (name : List ℕ) → (IsClock library name → ⊥) → r.test name ≡ false
-  not_marked name h = elim (cases_Bool (r.test name)) [
-    | inl t ↦ absurd (h (r.tells.yes name t))
-    | inr f ↦ f
-  ]
+  not_marked name h = elim (cases_Bool (r.test name)) [ inl t ↦ absurd (h (r.tells.yes name t)) | inr f ↦ f ]
 
   -- the inputs that aren't marked stand in `.inputs`
   pub unmarked_inputs : filter (λ name. not (r.test name)) (inputs_of r.main) ≡ filter (λ name. not (r.test name)) r.main.inputs
@@ -125,12 +119,6 @@ module _ (library : LibraryValue) (instances : List Instance) (are : AreInstance
       let c = is_cover-some o.body o.kind_is in
       (c.0, record { model = o.model; at = o.at; is = o.is ∙ ap Some c.1 })
 
-  latch_there : (p : Place) → In (places_at library is_latch (paths_of instances)) p → (l : LatchValue) × LatchAt library p.path p.command l
-  latch_there p i =
-      let o : IsOfKind library is_latch p = flat_only library is_latch are.main (places_at library is_latch (paths_of instances)) are.first (order_places library is_latch are.order are.first) p i in
-      let l = is_latch-some o.body o.kind_is in
-      (l.0, record { model = o.model; at = o.at; is = o.is ∙ ap Some l.1 })
-
   -- the model and the body of a gate are those of its place
   gate_model : (g : Gate) (p : Place) → IsGateAt (paths_of instances) g p → slice_get library.models (row_model (slice_get instances g.row)) ≡ model_at library p.path
   gate_model g p w = let r = gate_row library instances are g p w in ap (λ o. slice_get library.models (row_model o)) r.1 ∙ place_model library instances are g p w r.0 r.1
@@ -176,9 +164,9 @@ module _ (library : LibraryValue) (instances : List Instance) (are : AreInstance
       clocked = refl;
     }
 
-    latch_is : (g : Gate) (p : Place) → IsGateAt (paths_of instances) g p → In (places_at library is_latch (paths_of instances)) p → IsFlatLatch library gates_at p (flat_latch library instances n numbers g)
-    latch_is g p w i =
-        let l = latch_there p i in
+    latch_is : (g : Gate) (p : Place) → IsGateAt (paths_of instances) g p → (k : ℕ) → slice_get (places_at library is_latch (paths_of instances)) k ≡ Some p → IsFlatLatch library gates_at p (flat_latch library instances n numbers g)
+    latch_is g p w k e =
+        let l = latch_place library instances are k p e in
         let same : flat_latch library instances n numbers g ≡ made_latch numbers n g.row l.0 =
         ap (λ o. latch_or numbers n g.row (option_and_then latch_in o)) (gate_body-is g p (l.1).model (Latch l.0) w (l.1).at (l.1).is) in
         subst (IsFlatLatch library gates_at p) (sym same) (made_latch-is g.row p l.0 w.row l.1)
@@ -199,7 +187,7 @@ module _ (library : LibraryValue) (instances : List Instance) (are : AreInstance
       count = length-map gates (flat_latch library instances n numbers) ∙ w.count;
       each = λ k p l e f. (
           let g = mapped_at (flat_latch library instances n numbers) gates k l f in
-          subst (IsFlatLatch library gates_at p) (sym g.2) (latch_is g.0 p (w.each k g.0 p g.1 e) (In-get (places_at library is_latch (paths_of instances)) k p e)));
+          subst (IsFlatLatch library gates_at p) (sym g.2) (latch_is g.0 p (w.each k g.0 p g.1 e) k e));
     }
 
 -- The ports of a flat circuit: its outputs, its regular inputs, and the greatest number of leading underscores.
@@ -225,9 +213,6 @@ module _ (library : LibraryValue) (instances : List Instance) (are : AreInstance
         net_of_driver library driven [] name d.0 d.1)
   ]
 
-  output_no_clock : (name : List ℕ) → In r.main.outputs name → IsNoClock library [] name
-  output_no_clock name i = record { driven = output_driven name i; off = λ net. r.no_clock_output name net i }
-
   main_outputs : outputs_or (slice_get library.models 0) ≡ r.main.outputs
   main_outputs = ap outputs_or r.is_main
 
@@ -240,7 +225,7 @@ module _ (library : LibraryValue) (instances : List Instance) (are : AreInstance
   output_nets ports names e f =
       let all : map (λ (o : OutPort). o.net) ports ≡ regular_nets numbers n 0 r.main.outputs = ap (map (λ (o : OutPort). o.net)) e ∙ port_nets numbers n names ∙ ap (regular_nets numbers n 0) (f ∙ main_outputs) in
       subst (AreNetsOf library (regular_places library r.main r.test (paths_of instances)) [] r.main.outputs) (sym all)
-      (nets_are library numbers r instances n nets 0 [] (order_first library are.order) r.main.outputs output_no_clock)
+      (nets_are library numbers r instances n nets 0 [] (order_first library are.order) r.main.outputs (λ name i. record { driven = output_driven name i; off = λ net. r.no_clock_output name net i }))
 
 -- the names whose marks are off, one by one
 no_marks : (kept names : List (List ℕ)) → unmarked_after kept names [] ≡ kept
@@ -278,5 +263,4 @@ regular_names test kept given marks m e f g =
     e ∙ ap₂ (unmarked_after []) f g ∙ unmarked_are test [] m.inputs (filter (λ name. not (has_name m.inputs name)) m.clocks)
 
 pub most_of_three : (xs ys zs : List (List ℕ)) (a b c : ℕ) → a ≡ max 0 (most_underscores xs) → b ≡ max a (most_underscores ys) → c ≡ max b (most_underscores zs) → c ≡ most_underscores (xs ++ (ys ++ zs))
-most_of_three xs ys zs a b c e f g =
-    omega (arith, most-append xs (ys ++ zs) ∙ ap (max (most_underscores xs)) (most-append ys zs))
+most_of_three xs ys zs a b c e f g = omega (arith, most-append xs (ys ++ zs) ∙ ap (max (most_underscores xs)) (most-append ys zs))

@@ -39,8 +39,7 @@ module _ (kind : Body → Bool) (paths : List Path) where
         let g : Gate = record { row = row; command = i } in
         let p : Place = record { path = path; command = i } in
         record {
-          count = let a : length (gates ++ g ∷ []) ≡ length gates + 1 = length-append gates (g ∷ []) in
-              omega (arith, length-append places (p ∷ []));
+          count = let a : length (gates ++ g ∷ []) ≡ length gates + 1 = length-append gates (g ∷ []) in omega (arith, length-append places (p ∷ []));
           each = λ k h q e f. elim (pushed_pair gates places g p k h q are.count e f) [
             | inl old ↦ are.each k h q old.0 old.1
             | inr new ↦ subst₂ (λ (x : Gate) (y : Place). IsGateAt paths x y) (sym new.0) (sym new.1) (record { row = at; command = refl })
@@ -143,5 +142,4 @@ module _ (library : LibraryValue) (instances : List Instance) (are : AreInstance
     pub latch_written : (text : List ℕ) (l : LatchValue) → ((q : Place) → IsGateAt (paths_of instances) g q → latch_at library q ≡ Some l)
         → ((path : Path) → slice_get (paths_of instances) g.row ≡ Some path → text ≡ path_text path ++ l.output) → IsWritten library (latch_net p.path p.command) text
     latch_written text l h t =
-        let is = ats.each k g p here at in
-        of_latch p.path p.command l refl (is_latch_at library p l (h p is)) (t p.path is.row)
+        let is = ats.each k g p here at in of_latch p.path p.command l refl (is_latch_at library p l (h p is)) (t p.path is.row)

@@ -1,6 +1,6 @@
 -- The drivers and the reads of an instance are those of its model's commands, and its ports.
-use Rattle.blif_flat.proofs.Common.{◌≡◌, ℕ, true, not, List, [], ◌∷◌, Option, Some, None, refl, sym, ap, ap₂, ◌∙◌, subst, inl, inr, ◌⊎◌, slice_get, cases_Bool, and_from, and_parts, not_from_false, cond-true, cond-false, none-some, same_Some, In, In-left, In-right, In-append, In-get, place_in, Body, Cover, Latch, Subckt, Command, Pair, ModelValue, Path, body_at, with_subckt, subckts_of, model_named, model_at, has_name, is_input, is_output, inputs_of, LatchAt, Driver, by_input, IsDriver, input, latch, cover, output, IsRead, cover_input, latch_input, latch_control, input_actual, model_output, input_actuals, read_pairs, control_names, reads, all_drives, driven_names, SubcktValue, LibraryValue, command_of, body_of, has_in, in_has, input_in, in_input}
-use Rattle.blif_flat.proofs.Models.TagLemmas.{Tag, tag, tags, tag_names, In-names, names_in, Source, from_cover, from_latch, from_subckt, tag_in, tag_source, AreNew, new_apart, new_once, IsClean}
+use Rattle.blif_flat.proofs.Common.{◌≡◌, ℕ, true, not, List, [], ◌∷◌, Option, Some, None, refl, sym, ap, ap₂, ◌∙◌, subst, inl, inr, ◌⊎◌, slice_get, cases_Bool, and_from, and_parts, not_from_false, cond-true, cond-false, none-some, same_Some, In, In-left, In-right, In-append, In-get, In-map, from_map, map, filter, in_filter, In-filter, place_in, Body, Cover, Latch, Subckt, Command, Pair, ModelValue, Path, body_at, with_subckt, subckts_of, model_named, model_at, has_name, is_input, is_output, inputs_of, LatchAt, Driver, by_input, IsDriver, input, latch, cover, output, IsRead, cover_input, latch_input, latch_control, input_actual, model_output, input_actuals, read_pairs, control_names, reads, all_drives, driven_names, SubcktValue, LibraryValue, command_of, body_of, has_in, in_has, input_in, in_input}
+use Rattle.blif_flat.proofs.Models.TagLemmas.{Tag, tag, tags, tag_names, Source, from_cover, from_latch, from_subckt, tag_in, tag_source, AreNew, new_apart, new_once, IsClean}
 
 -- the command of a subcircuit
 pub record CommandOf (commands : List Command) (s : SubcktValue) : Type 0 where
@@ -29,15 +29,16 @@ subckt_in (c ∷ cs) d s (inl q) e = subst (λ b. In (with_subckt b (subckts_of 
 subckt_in (c ∷ cs) d s (inr i) e = subckt_more c.body (subckts_of cs) s (subckt_in cs d s i e)
 
 -- the actuals of input connections
-actual_in : (child : ModelValue) (pairs : List Pair) (pair : Pair) → In pairs pair → is_input child pair.formal ≡ true → In (input_actuals child pairs) pair.actual
-actual_in child [] pair i t = absurd i
-actual_in child (p ∷ pairs) pair (inl e) t =
-    let y : is_input child p.formal ≡ true = subst (λ (x : Pair). is_input child x.formal ≡ true) e t in
-    subst (λ ns. In ns pair.actual) (sym (cond-true (is_input child p.formal) (p.actual ∷ input_actuals child pairs) (input_actuals child pairs) y)) (inl (ap (λ (x : Pair). x.actual) e))
-actual_in child (p ∷ pairs) pair (inr i) t = elim (cases_Bool (is_input child p.formal)) [
-  | inl y ↦ subst (λ ns. In ns pair.actual) (sym (cond-true (is_input child p.formal) (p.actual ∷ input_actuals child pairs) (input_actuals child pairs) y)) (inr (actual_in child pairs pair i t))
-  | inr f ↦ subst (λ ns. In ns pair.actual) (sym (cond-false (is_input child p.formal) (p.actual ∷ input_actuals child pairs) (input_actuals child pairs) f)) (actual_in child pairs pair i t)
+actuals_kept : (child : ModelValue) (pairs : List Pair) → input_actuals child pairs ≡ map (λ (p : Pair). p.actual) (filter (λ (p : Pair). is_input child p.formal) pairs)
+actuals_kept child [] = refl
+actuals_kept child (p ∷ pairs) = elim (cases_Bool (is_input child p.formal)) [
+  | inl t ↦ rw t (ap (λ ns. p.actual ∷ ns) (actuals_kept child pairs))
+  | inr f ↦ rw f (actuals_kept child pairs)
 ]
+
+actual_in : (child : ModelValue) (pairs : List Pair) (pair : Pair) → In pairs pair → is_input child pair.formal ≡ true → In (input_actuals child pairs) pair.actual
+actual_in child pairs pair i t = subst (λ ns. In ns pair.actual) (sym (actuals_kept child pairs))
+    (In-map (λ (p : Pair). p.actual) (filter (λ (p : Pair). is_input child p.formal) pairs) pair (in_filter (λ (p : Pair). is_input child p.formal) pairs pair i t))
 
 record ActualOf (child : ModelValue) (pairs : List Pair) (name : List ℕ) : Type 0 where
   pair : Pair
@@ -45,18 +46,11 @@ record ActualOf (child : ModelValue) (pairs : List Pair) (name : List ℕ) : Typ
   on : is_input child pair.formal ≡ true
   is : name ≡ pair.actual
 
-more_actuals : (child : ModelValue) (p : Pair) (pairs : List Pair) (name : List ℕ) → ActualOf child pairs name → ActualOf child (p ∷ pairs) name
-more_actuals child p pairs name r = record { pair = r.pair; member = inr r.member; on = r.on; is = r.is }
-
 actual_of : (child : ModelValue) (pairs : List Pair) (name : List ℕ) → In (input_actuals child pairs) name → ActualOf child pairs name
-actual_of child [] name i = absurd i
-actual_of child (p ∷ pairs) name i = elim (cases_Bool (is_input child p.formal)) [
-  | inl y ↦ (elim (subst (λ ns. In ns name) (cond-true (is_input child p.formal) (p.actual ∷ input_actuals child pairs) (input_actuals child pairs) y) i) [
-    | inl e ↦ record { pair = p; member = inl refl; on = y; is = e }
-    | inr j ↦ more_actuals child p pairs name (actual_of child pairs name j)
-  ])
-  | inr f ↦ more_actuals child p pairs name (actual_of child pairs name (subst (λ ns. In ns name) (cond-false (is_input child p.formal) (p.actual ∷ input_actuals child pairs) (input_actuals child pairs) f) i))
-]
+actual_of child pairs name i =
+    let r = from_map (λ (p : Pair). p.actual) (filter (λ (p : Pair). is_input child p.formal) pairs) name (subst (λ ns. In ns name) (actuals_kept child pairs) i) in
+    let m = In-filter (λ (p : Pair). is_input child p.formal) pairs r.0 r.1 in
+    record { pair = r.0; member = m.0; on = m.1; is = r.2 }
 
 control_in : (o : Option (List ℕ)) (name : List ℕ) → o ≡ Some name → In (control_names o) name
 control_in None name e = absurd (none-some name e)
@@ -90,14 +84,14 @@ module _ (library : LibraryValue) (path : Path) (m : ModelValue) (at : model_at 
   tag_driver t i = source_driver t (tag_source library (λ j. j) (λ k. k) m.commands t i)
 
   tag_drives : (t : Tag) → In own_tags t → In (all_drives library m.commands) t.name
-  tag_drives t i = subst (λ ns. In ns t.name) (tag_names library (λ j. j) (λ k. k) m.commands) (In-names own_tags t i)
+  tag_drives t i = subst (λ ns. In ns t.name) (tag_names library (λ j. j) (λ k. k) m.commands) (In-map (λ (y : Tag). y.name) own_tags t i)
 
   -- the driven names are those with a driver
   pub name_driver : (name : List ℕ) → In (driven_names library m) name → (driver : Driver) × IsDriver library path name driver
   name_driver name i = elim (In-append (inputs_of m) (all_drives library m.commands) name i) [
     | inl j ↦ (by_input, input (record { model = m; at = at }) (in_input m name j) refl)
-    | inr j ↦ (let r = names_in own_tags name (subst (λ ns. In ns name) (sym (tag_names library (λ x. x) (λ k. k) m.commands)) j) in
-        ((r.tag).driver, subst (λ n. IsDriver library path n (r.tag).driver) r.is (tag_driver r.tag r.member)))
+    | inr j ↦ (let r = from_map (λ (y : Tag). y.name) own_tags name (subst (λ ns. In ns name) (sym (tag_names library (λ x. x) (λ k. k) m.commands)) j) in
+        ((r.0).driver, subst (λ n. IsDriver library path n (r.0).driver) (sym r.2) (tag_driver r.0 r.1)))
   ]
 
   pub driver_name : (name : List ℕ) (driver : Driver) → IsDriver library path name driver → In (driven_names library m) name

@@ -21,9 +21,6 @@ entries_are : (names : List (List ℕ)) (parent : ℕ) (entries : List Instance)
 entries_are names parent entries [] = sym (append-nil entries)
 entries_are names parent entries (c ∷ cs) = entries_are names parent (with_entry names parent entries c.body) cs ∙ body_entries names parent (length entries) entries c.body (subckts_of cs) refl
 
-pub entries_start : (names : List (List ℕ)) (parent : ℕ) (cs : List Command) → entries_from names parent [] cs ≡ entries_at names parent 0 (subckts_of cs)
-entries_start names parent cs = entries_are names parent [] cs
-
 -- the paths of one more row
 paths_from-push : (paths : List Path) (instances : List Instance) (row : Instance) → paths_from paths (instances ++ row ∷ []) ≡ paths_from paths instances ++ path_of (paths_from paths instances) row ∷ []
 paths_from-push paths [] row = refl
@@ -227,12 +224,9 @@ module _ (library : LibraryValue) where
       let few : length (paths_of instances) ≤ most_weight = subst (λ x. length x ≤ most_weight) full l.few in
       record { main = l.main; first = l.first; order = subst (λ x. InstanceOrder library [] l.main x) full l.order; each = l.each; few = omega (arith, paths_of-length instances) }
 
-  -- the instances that wait as a stack, whose top is the last one
-  popped : (stack left : List Instance) (row : Instance) → stack ≡ left ++ row ∷ [] → reverse stack ≡ row ∷ reverse left
-  popped stack left row e = ap reverse e ∙ reverse-append left (row ∷ [])
-
   pub next_popped : (instances stack left : List Instance) (row : Instance) → stack ≡ left ++ row ∷ [] → Listed library instances (reverse stack) → IsNext instances row
-  next_popped instances stack left row e l = next_known instances row (reverse left) (subst (λ x. Listed library instances x) (popped stack left row e) l)
+  next_popped instances stack left row e l = next_known instances row (reverse left) (subst (λ x. Listed library instances x)
+      (ap reverse e ∙ reverse-append left (row ∷ [])) l)
 
   pub listed_pushed : (names : List (List ℕ)) → names ≡ model_names library.models → (instances stack left news : List Instance) (row : Instance) → stack ≡ left ++ row ∷ []
       → ((m : ModelValue) → slice_get library.models row.model ≡ Some m → news ≡ left ++ reverse (entries_from names (length instances) [] m.commands))
@@ -243,8 +237,8 @@ module _ (library : LibraryValue) where
       let entries : List Instance = entries_from names (length instances) [] m.commands in
       let now : reverse news ≡ entries ++ reverse left = ap reverse (h m k.number) ∙ reverse-append left (reverse entries) ∙ ap (λ x. x ++ reverse left) (reverse-reverse entries) in
       let step : Listed library (instances ++ row ∷ []) (entries_at names (length instances) 0 (subckts_of m.commands) ++ reverse left) =
-      listed_step names same instances row (reverse left) (subst (λ x. Listed library instances x) (popped stack left row e) l) m k.number in
-      subst (λ x. Listed library (instances ++ row ∷ []) x) (ap (λ x. x ++ reverse left) (sym (entries_start names (length instances) m.commands)) ∙ sym now) step
+      listed_step names same instances row (reverse left) (subst (λ x. Listed library instances x) (ap reverse e ∙ reverse-append left (row ∷ [])) l) m k.number in
+      subst (λ x. Listed library (instances ++ row ∷ []) x) (ap (λ x. x ++ reverse left) (sym (entries_are names (length instances) [] m.commands)) ∙ sym now) step
 
   pub listed_empty : (instances stack : List Instance) → length stack ≡ 0 → Listed library instances (reverse stack) → AreInstances library instances
   listed_empty instances [] e l = listed_all instances l

@@ -1,6 +1,5 @@
 -- The instances hold together what the main model weighs: so the covers and latches of all instances are few, and so are the commands of each.
-use Rattle.blif_flat.proofs.Common.{◌≡◌, Bool, not, filter, if◌then◌else◌, ℕ, zero, suc, ◌+◌, ◌≤◌, true, false, List, [], ◌∷◌, ◌++◌, length, Option, Some, None, refl, sym, ap, ◌∙◌, subst, inl, inr, arith, slice_get, cases_Bool, both_ways, length-append, none-some, same_Some, SubcktValue, LibraryValue, CoverValue, AreFrom, from_start, from_first, from_rest, placed_at, inside, command_of, not_empty, same_first, same_rest, length-filter_le}
-use Rattle.blif_flat.specs.{Body, Command, ModelValue, Path, subckts_of, with_subckt, model_named, model_at, has_name, inputs_of, CoverAt, Place, own_places, own_of, InFlatOrder, InFlatOrderUnder, FlatOrder, Cover as CoverBody, Latch as LatchBody, Subckt as SubcktBody, GateKind, kind_test, most_weight, body_weight, commands_weight, own_weight, Weighs, weighs, WeighAll, flat, InstanceOrder, InstancesUnder, places_at, IsLight}
+use Rattle.blif_flat.proofs.Common.{◌≡◌, Bool, not, filter, if◌then◌else◌, ℕ, zero, suc, ◌+◌, ◌≤◌, true, false, List, [], ◌∷◌, ◌++◌, length, Option, Some, None, refl, sym, ap, ◌∙◌, subst, inl, inr, arith, slice_get, cases_Bool, both_ways, length-append, none-some, same_Some, SubcktValue, LibraryValue, CoverValue, AreFrom, from_start, from_first, from_rest, placed_at, inside, command_of, not_empty, same_first, same_rest, length-filter_le, Body, Command, ModelValue, Path, subckts_of, with_subckt, model_named, model_at, has_name, inputs_of, CoverAt, Place, own_places, own_of, InFlatOrder, InFlatOrderUnder, FlatOrder, Cover as CoverBody, Latch as LatchBody, Subckt as SubcktBody, GateKind, kind_test, most_weight, body_weight, commands_weight, own_weight, Weighs, weighs, WeighAll, flat, InstanceOrder, InstancesUnder, places_at, IsLight}
 use Rattle.netlist.specs.Places.{none, more}
 use Rattle.netlist.specs.Weight.{none as weigh_none, more as weigh_more}
 use Rattle.blif_flat.specs.declared.circuit.instances.GateKind.TheVariants.{Cover, Latch, Either}
@@ -44,8 +43,7 @@ body_counted (SubcktBody s) ss = omega arith
 
 commands_counted : (cs : List Command) → length cs ≤ commands_weight cs + length (subckts_of cs)
 commands_counted [] = omega arith
-commands_counted (c ∷ cs) =
-    omega (arith, commands_counted cs, body_counted c.body (subckts_of cs))
+commands_counted (c ∷ cs) = omega (arith, commands_counted cs, body_counted c.body (subckts_of cs))
 
 module _ (library : LibraryValue) where
   held_by-append : (xs ys : List Path) → held_by library (xs ++ ys) ≡ held_by library xs + held_by library ys
@@ -76,8 +74,7 @@ module _ (library : LibraryValue) where
 
   subckts_few : {subckts : List SubcktValue} {w : ℕ} → WeighAll library subckts w → length subckts ≤ w
   subckts_few (weigh_none a b) = let e = ap length a in omega arith
-  subckts_few {subckts} {w} (weigh_more s rest child first others a named one all is) =
-      omega (arith, ap length a, weighs_some one, subckts_few all)
+  subckts_few {subckts} {w} (weigh_more s rest child first others a named one all is) = omega (arith, ap length a, weighs_some one, subckts_few all)
 
   commands_few : {m : ModelValue} {w : ℕ} → Weighs library m w → length m.commands ≤ w
   commands_few {m} {w} (weighs inner all is) =
@@ -104,8 +101,7 @@ module _ (library : LibraryValue) where
 
   child_within : {m : ModelValue} {w : ℕ} → Weighs library m w → (k : ℕ) (s : SubcktValue) (child : ModelValue) → slice_get (subckts_of m.commands) k ≡ Some s → model_named library.models s.model ≡ Some child → IsNoHeavier child w
   child_within (weighs inner all is) k s child e named =
-      let r = subckt_within all k s child e named in
-      record { weight = r.weight; weighs = r.weighs; within = omega arith }
+      let r = subckt_within all k s child e named in record { weight = r.weight; weighs = r.weighs; within = omega arith }
 
   pub instance_within : (main : ModelValue) (w : ℕ) → model_at library [] ≡ Some main → Weighs library main w → (path : Path) (m : ModelValue) → model_at library path ≡ Some m → IsNoHeavier m w
   instance_within main w first h [] m e = record { weight = w; weighs = subst (λ x. Weighs library x w) (same_Some main m (sym first ∙ e)) h; within = omega arith }
@@ -118,8 +114,7 @@ module _ (library : LibraryValue) where
   -- so the commands of an instance's model are few
   pub light_commands : IsLight library → (path : Path) (m : ModelValue) → model_at library path ≡ Some m → length m.commands ≤ most_weight
   light_commands light path m e =
-      let r = instance_within light.main light.weight light.first light.weighs path m e in
-      omega (arith, commands_few r.weighs)
+      let r = instance_within light.main light.weight light.first light.weighs path m e in omega (arith, commands_few r.weighs)
 
   -- and what all instances hold is little
   pub light_held : IsLight library → (main : ModelValue) (paths : List Path) → model_at library [] ≡ Some main → InstanceOrder library [] main paths → held_by library paths ≤ most_weight

@@ -27,8 +27,7 @@ module _ (library : LibraryValue) where
     under_places kind {path} {k} {subckts} {paths} (more s rest child these others e named order under z) m at h =
         more s rest child (places_at library kind these) (places_at library kind others) e named
         (order_places kind order (placed_at library path m k s child at (from_first m k subckts s rest h e) named))
-        (under_places kind under m at (from_rest m k subckts s rest h e))
-        (ap (places_at library kind) z ∙ places_at-append kind these others)
+        (under_places kind under m at (from_rest m k subckts s rest h e)) (ap (places_at library kind) z ∙ places_at-append kind these others)
 
 -- what a body of a kind is
 pub is_cover-some : (b : Body) → is_cover b ≡ true → (c : CoverValue) × (b ≡ Cover c)

@@ -1,6 +1,5 @@
 -- Places, and what stands at them: a place has one cover or latch, and a connection leads to the model that it places.
-use Rattle.blif_flat.proofs.Common.{◌≡◌, ℕ, ◌∷◌, Some, None, refl, sym, ap, ◌∙◌, slice_get, option_and_then, same_Some, List, ◌++◌, subst, [], append_assoc, decimal, LatchValue, Path, body_at, model_at, CoverAt, LatchAt, Place, Net, input_net, latch_net, cover_net, cover_in, path_text, IsWritten, of_input, of_latch, of_cover, Instance, AreWritten, path_of, paths_of, AreInstances, AreUnder, output_or, output_in, output_at, CoverValue, LibraryValue, cover_at-is, one_latch}
-use Rattle.std.proofs.Common.{append-nil}
+use Rattle.blif_flat.proofs.Common.{◌≡◌, ℕ, ◌∷◌, Some, None, refl, sym, ap, ◌∙◌, slice_get, option_and_then, same_Some, List, ◌++◌, subst, [], append_assoc, decimal, LatchValue, Path, body_at, model_at, CoverAt, LatchAt, Place, Net, input_net, latch_net, cover_net, cover_in, path_text, IsWritten, of_input, of_latch, of_cover, Instance, AreWritten, path_of, paths_of, AreInstances, AreUnder, output_or, output_in, output_at, CoverValue, LibraryValue, cover_at-is, one_latch, append-nil}
 use Rattle.blif_flat.specs.LoopFault.{none, more}
 
 -- How nets are written: the paths of rows, and that each net has one text.
@@ -59,11 +58,8 @@ module _ (instances : List Instance) (under : AreUnder instances) (at : ℕ) (ro
   parent_path : (p : ℕ) (path : Path) → row.parent ≡ Some p → slice_get (paths_of instances) p ≡ Some path → path_of (paths_of instances) row ≡ row.ordinal ∷ path
   parent_path p path e f = rw (e, f) refl
 
-  no_parent : row.parent ≡ None → path_of (paths_of instances) row ≡ []
-  no_parent e = rw e refl
-
   pub so_far_end : (i : ℕ) (done : Path) → row.parent ≡ None → IsSoFar instances i at done → slice_get (paths_of instances) i ≡ Some done
-  so_far_end i done e h = h [] (under.at at row here ∙ ap Some (no_parent e)) ∙ ap Some (append-nil done)
+  so_far_end i done e h = h [] (under.at at row here ∙ ap Some (rw e refl)) ∙ ap Some (append-nil done)
 
 -- a cover's net is written as its output at its instance
 module _ (library : LibraryValue) (instances : List Instance) (r : AreInstances library instances) (i : ℕ) (row : Instance) (here : slice_get instances i ≡ Some row) where

@@ -1,9 +1,8 @@
 -- Steps of a search for faults of drivers, and the search as far as it has come.
-use Rattle.blif_flat.proofs.Common.{◌≡◌, ℕ, suc, ◌+◌, ◌<◌, List, [], ◌∷◌, ◌++◌, length, get_or, drop, Option, Some, None, refl, sym, ap, ◌∙◌, subst, inl, inr, arith, append_assoc, drop-cons, slice_get, cases_Bool, drop_at, OrMemory-map, ◌⊎◌, IsTrue, none-some, same_Some, In, cond-true, cond-false, In-append, In-get, Pair, ModelValue, has_name, is_input, is_output, FlatErr, refusal_of, IsTold, or_later, output_actuals, input_actuals, twice_in, undriven_in, models_fault, fault_of, with_numbered, models_at, Command, Body, Cover, Latch, Subckt, Path, model_at, inputs_of, subckts_of, model_named, by_input, IsDriver, input, IsDriven, Driver, by_latch, by_cover, by_subckt, InstanceAt, latch, cover, output, IsRead, cover_input, latch_input, latch_control, input_actual, model_output, ConnectionAt, IsWellFormed, walked, WalksMain, unknown_formal, open_input, AreOnce, formals, LibraryValue, SubcktValue, inside, in_input, input_in}
-use Rattle.std.proofs.Common.{append-nil}
+use Rattle.blif_flat.proofs.Common.{◌≡◌, ℕ, suc, ◌+◌, ◌<◌, List, [], ◌∷◌, ◌++◌, length, get_or, drop, Option, Some, None, refl, sym, ap, ◌∙◌, subst, inl, inr, arith, choose, map, filter, append_assoc, drop-cons, slice_get, cases_Bool, drop_at, OrMemory-map, ◌⊎◌, IsTrue, none-some, same_Some, In, cond-true, cond-false, In-append, In-get, In-map, Pair, ModelValue, has_name, is_input, is_output, FlatErr, refusal_of, IsTold, or_later, output_actuals, input_actuals, twice_in, undriven_in, models_fault, fault_of, with_numbered, models_at, Command, Body, Cover, Latch, Subckt, Path, model_at, inputs_of, subckts_of, model_named, by_input, IsDriver, input, IsDriven, Driver, by_latch, by_cover, by_subckt, InstanceAt, latch, cover, output, IsRead, cover_input, latch_input, latch_control, input_actual, model_output, ConnectionAt, IsWellFormed, walked, WalksMain, unknown_formal, open_input, AreOnce, formals, LibraryValue, SubcktValue, inside, in_input, input_in, append-nil}
 use Rattle.netlist.specs.WellFormed.{IsWellFormedBody}
 use Rattle.blif_flat.proofs.Hierarchy.InstanceLemmas.{own_tags, tag_driver, driver_name, command_reads, output_driven, subckt_in, subckt_more, subckt_command, clean_once, clean_driven}
-use Rattle.blif_flat.proofs.Models.LineLemmas.{formal_is, input_connected}
+use Rattle.blif_flat.proofs.Models.LineLemmas.{IsPlaced, formal_is, input_connected}
 use Rattle.blif_flat.proofs.Models.TagLemmas.{Tag, tag_names, Source, from_cover, from_latch, from_subckt, tag_source, tag, pair_tags, subckt_tags, body_tags, behind, tags, of_pair, AreNew, HaveNamesApart, apart_new, IsClean, no_models_fault, models_clean}
 use Rattle.blif_flat.proofs.Models.WalkedLemmas.{walked_at, line_of, named_in, Fine, main_fine, fine_ends, fine_holds, fine_placed, fine_at}
 
@@ -11,13 +10,6 @@ use Rattle.blif_flat.proofs.Models.WalkedLemmas.{walked_at, line_of, named_in, F
 or_first : (fault later : Option FlatErr) (r : FlatErr) → fault ≡ Some r → or_later fault later ≡ Some r
 or_first (Some e) later r h = h
 or_first None later r h = ap (λ f. or_later f later) h
-
-pub fault_first : (e : FlatErr) (fault later : Option FlatErr) → IsTold e fault → IsTold e (or_later fault later)
-fault_first e fault later h = OrMemory-map refusal_of (λ r. fault ≡ Some r) (λ r. or_later fault later ≡ Some r) e (or_first fault later) h
-
--- and a later one where the first is none
-pub later_only : (fault later : Option FlatErr) → fault ≡ None → or_later fault later ≡ later
-later_only fault later h = ap (λ f. or_later f later) h
 
 -- the names of a line in two parts
 pub twice-append : (model : List ℕ) (line : ℕ) (driven a b : List (List ℕ)) → twice_in model line driven (a ++ b) ≡ or_later (twice_in model line driven a) (twice_in model line (driven ++ a) b)
@@ -43,32 +35,30 @@ input_actuals-cons child pair pairs = elim (cases_Bool (is_input child pair.form
 -- the first connection of the rest, and those behind it
 pub read_split : (child : ModelValue) (model : List ℕ) (line : ℕ) (driven : List (List ℕ)) (pairs : List Pair) (i : ℕ) (pair : Pair) → i < length pairs → pair ≡ get_or pairs i pair
     → undriven_in model line driven (input_actuals child (drop i pairs)) ≡ or_later (undriven_in model line driven (input_actuals child (pair ∷ []))) (undriven_in model line driven (input_actuals child (drop (i + 1) pairs)))
-read_split child model line driven pairs i pair h e =
-    ap (λ ps. undriven_in model line driven (input_actuals child ps)) (drop_at pairs i pair h e)
+read_split child model line driven pairs i pair h e = ap (λ ps. undriven_in model line driven (input_actuals child ps)) (drop_at pairs i pair h e)
     ∙ ap (undriven_in model line driven) (input_actuals-cons child pair (drop (i + 1) pairs))
     ∙ undriven-append model line driven (input_actuals child (pair ∷ [])) (input_actuals child (drop (i + 1) pairs))
 
 pub drive_split : (child : ModelValue) (model : List ℕ) (line : ℕ) (driven : List (List ℕ)) (pairs : List Pair) (i : ℕ) (pair : Pair) → i < length pairs → pair ≡ get_or pairs i pair
     → twice_in model line driven (output_actuals child (drop i pairs))
     ≡ or_later (twice_in model line driven (output_actuals child (pair ∷ []))) (twice_in model line (driven ++ output_actuals child (pair ∷ [])) (output_actuals child (drop (i + 1) pairs)))
-drive_split child model line driven pairs i pair h e =
-    ap (λ ps. twice_in model line driven (output_actuals child ps)) (drop_at pairs i pair h e)
+drive_split child model line driven pairs i pair h e = ap (λ ps. twice_in model line driven (output_actuals child ps)) (drop_at pairs i pair h e)
     ∙ ap (twice_in model line driven) (output_actuals-cons child pair (drop (i + 1) pairs))
     ∙ twice-append model line driven (output_actuals child (pair ∷ [])) (output_actuals child (drop (i + 1) pairs))
 
 pub names_split : (child : ModelValue) (driven : List (List ℕ)) (pairs : List Pair) (i : ℕ) (pair : Pair) → i < length pairs → pair ≡ get_or pairs i pair
     → driven ++ output_actuals child (drop i pairs) ≡ (driven ++ output_actuals child (pair ∷ [])) ++ output_actuals child (drop (i + 1) pairs)
-names_split child driven pairs i pair h e =
-    ap (λ ps. driven ++ output_actuals child ps) (drop_at pairs i pair h e)
+names_split child driven pairs i pair h e = ap (λ ps. driven ++ output_actuals child ps) (drop_at pairs i pair h e)
     ∙ ap (λ ns. driven ++ ns) (output_actuals-cons child pair (drop (i + 1) pairs))
     ∙ sym (append_assoc driven (output_actuals child (pair ∷ [])) (output_actuals child (drop (i + 1) pairs)))
 
 -- a refusal of a first part is that of the whole, and without one the whole is the later part
 pub told : (e : FlatErr) (whole first later all : Option FlatErr) → whole ≡ or_later first later → whole ≡ all → IsTold e first → IsTold e all
-told e whole first later all split same h = subst (IsTold e) (sym split ∙ same) (fault_first e first later h)
+told e whole first later all split same h = subst (IsTold e) (sym split ∙ same)
+    (OrMemory-map refusal_of (λ r. first ≡ Some r) (λ r. or_later first later ≡ Some r) e (or_first first later) h)
 
 pub gone_on : (whole first later all : Option FlatErr) → whole ≡ or_later first later → whole ≡ all → first ≡ None → later ≡ all
-gone_on whole first later all split same h = sym (later_only first later h) ∙ sym split ∙ same
+gone_on whole first later all split same h = sym (ap (λ f. or_later f later) h) ∙ sym split ∙ same
 
 models_with : (library : LibraryValue) (o : Option ModelValue) (ms : List ModelValue) → models_fault library (with_numbered o ms) ≡ or_later (fault_of library o) (models_fault library ms)
 models_with library None ms = refl
@@ -83,19 +73,15 @@ models_split library numbers i h =
     ∙ models_with library (slice_get library.models (get_or numbers i 0)) (models_at library.models (drop (i + 1) numbers))
 
 -- None of F1 to F6 stands where the walk refuses nothing and the walked models have no refusal of drivers; and the drivers of their commands are told apart.
-pub formal_in : (pairs : List Pair) (pair : Pair) → In pairs pair → In (formals pairs) pair.formal
-formal_in [] pair i = i
-formal_in (p ∷ pairs) pair (inl e) = inl (ap (λ (y : Pair). y.formal) e)
-formal_in (p ∷ pairs) pair (inr i) = inr (formal_in pairs pair i)
 
 -- formals that stand once each tell connections apart
 pairs_apart : (pairs : List Pair) (pair other : Pair) → AreOnce (formals pairs) → In pairs pair → In pairs other → pair.formal ≡ other.formal → pair ≡ other
 pairs_apart [] pair other once i j e = absurd i
 pairs_apart (p ∷ pairs) pair other once (inl a) (inl b) e = a ∙ sym b
 pairs_apart (p ∷ pairs) pair other once (inl a) (inr j) e =
-    absurd (once.0 (subst (In (formals pairs)) (sym e ∙ ap (λ (y : Pair). y.formal) a) (formal_in pairs other j)))
+    absurd (once.0 (subst (In (formals pairs)) (sym e ∙ ap (λ (y : Pair). y.formal) a) (In-map (λ (y : Pair). y.formal) pairs other j)))
 pairs_apart (p ∷ pairs) pair other once (inr i) (inl b) e =
-    absurd (once.0 (subst (In (formals pairs)) (e ∙ ap (λ (y : Pair). y.formal) b) (formal_in pairs pair i)))
+    absurd (once.0 (subst (In (formals pairs)) (e ∙ ap (λ (y : Pair). y.formal) b) (In-map (λ (y : Pair). y.formal) pairs pair i)))
 pairs_apart (p ∷ pairs) pair other once (inr i) (inr j) e = pairs_apart pairs pair other once.1 i j e
 
 -- the instance of a driver, and that of a read
@@ -120,8 +106,7 @@ module _ (library : LibraryValue) (formed : IsWellFormed library) where
   -- no subcircuit of an instance has a formal twice
   pub formals_once : (path : Path) (m : ModelValue) (s : SubcktValue) → model_at library path ≡ Some m → In (subckts_of m.commands) s → AreOnce (formals s.pairs)
   formals_once path m s at i =
-      let c = subckt_command m.commands s i in
-      subst IsWellFormedBody c.is ((formed.each m (model_in path m at)).commands c.command c.member)
+      let c = subckt_command m.commands s i in subst IsWellFormedBody c.is ((formed.each m (model_in path m at)).commands c.command c.member)
 
   subckt_apart : (path : Path) (k : ℕ) (pair other : Pair) → ConnectionAt library path k pair → ConnectionAt library path k other → pair.formal ≡ other.formal → pair ≡ other
   subckt_apart path k pair other a b e =
@@ -132,18 +117,11 @@ module _ (library : LibraryValue) (formed : IsWellFormed library) where
       (subst (λ x. In x.pairs other) s b.member) e
 
   -- what the walk found of a subcircuit
-  record IsPlacing (s : SubcktValue) : Type 0 where
-    child : ModelValue
-    named : model_named library.models s.model ≡ Some child
-    formals : unknown_formal child s.pairs ≡ None
-    inputs : open_input s.pairs (inputs_of child) ≡ None
-
-  placing : {m : ModelValue} → Fine library (IsClean library) m → (k : ℕ) (s : SubcktValue) → slice_get (subckts_of m.commands) k ≡ Some s → IsPlacing s
+  placing : {m : ModelValue} → Fine library (IsClean library) m → (k : ℕ) (s : SubcktValue) → slice_get (subckts_of m.commands) k ≡ Some s → IsPlaced library (record { line = 0; subckt = s })
   placing {m} f k s e =
       let r = line_of m.commands s (In-get (subckts_of m.commands) k s e) in
       let p = fine_placed library (IsClean library) f r.line r.member in
-      let all : IsPlacing (r.line).subckt = record { child = p.child; named = p.named; formals = p.formals; inputs = p.inputs } in
-      subst IsPlacing r.is all
+      subst (λ t. IsPlaced library (record { line = 0; subckt = t })) r.is (record { child = p.child; named = p.named; formals = p.formals; inputs = p.inputs })
 
   module _ (main : ModelValue) (at : model_at library [] ≡ Some main) (good : Fine library (IsClean library) main) where
     here : (path : Path) (m : ModelValue) → model_at library path ≡ Some m → Fine library (IsClean library) m
@@ -173,8 +151,7 @@ module _ (library : LibraryValue) (formed : IsWellFormed library) where
 
     driven : (path : Path) (name : List ℕ) → IsRead library path name → (driver : Driver) × IsDriver library path name driver
     driven path name r =
-        let i = instance_read r in
-        clean_driven library path i.model i.at (fine_holds library (IsClean library) (here path i.model i.at)) name r
+        let i = instance_read r in clean_driven library path i.model i.at (fine_holds library (IsClean library) (here path i.model i.at)) name r
 
     fine_driven : IsDriven library
     fine_driven = record {
@@ -207,16 +184,15 @@ IsInjective f = (i j : ℕ) → f i ≡ f j → i ≡ j
 module _ (library : LibraryValue) where
   pairs_distinct : (k : ℕ) (child : ModelValue) (pairs : List Pair) → AreOnce (formals pairs) → AreDistinct (pair_tags k child pairs)
   pairs_distinct k child [] once = tt
-  pairs_distinct k child (p ∷ pairs) once = elim (cases_Bool (is_output child p.formal)) [
-    | inl y ↦ subst AreDistinct (sym (cond-true (is_output child p.formal) (tag (by_subckt k p.formal) p.actual ∷ pair_tags k child pairs) (pair_tags k child pairs) y)) (
-      λ u i e. (let r = of_pair library k child pairs u i in
-          let d : ◌≡◌ {A = Driver} (by_subckt k p.formal) (by_subckt k (r.pair).formal) = e ∙ ap (λ (x : Tag). x.driver) r.is in
-          let f : p.formal ≡ (r.pair).formal = cc in
-          once.0 (subst (In (formals pairs)) (sym f) (formal_in pairs r.pair r.member))),
-      pairs_distinct k child pairs once.1,
-    )
-    | inr f ↦ subst AreDistinct (sym (cond-false (is_output child p.formal) (tag (by_subckt k p.formal) p.actual ∷ pair_tags k child pairs) (pair_tags k child pairs) f)) (pairs_distinct k child pairs once.1)
-  ]
+  pairs_distinct k child (p ∷ pairs) once =
+      choose (λ ps. AreDistinct (map (λ (q : Pair). tag (by_subckt k q.formal) q.actual) ps)) (is_output child p.formal)
+      (p ∷ filter (λ (q : Pair). is_output child q.formal) pairs) (filter (λ (q : Pair). is_output child q.formal) pairs) (λ y. (
+        λ u i e. (let r = of_pair library k child pairs u i in
+            let d : ◌≡◌ {A = Driver} (by_subckt k p.formal) (by_subckt k (r.pair).formal) = e ∙ ap (λ (x : Tag). x.driver) r.is in
+            let f : p.formal ≡ (r.pair).formal = cc in
+            once.0 (subst (In (formals pairs)) (sym f) (In-map (λ (x : Pair). x.formal) pairs r.pair r.member))),
+        pairs_distinct k child pairs once.1,
+      )) (λ f. pairs_distinct k child pairs once.1)
 
   subckt_distinct : (k : ℕ) (o : Option ModelValue) (pairs : List Pair) → AreOnce (formals pairs) → AreDistinct (subckt_tags k o pairs)
   subckt_distinct k None pairs once = tt
@@ -247,8 +223,7 @@ module _ (library : LibraryValue) where
     apart_pairs : IsInjective ordinal → (o : Option ModelValue) (pairs : List Pair) (t u : Tag) → In (subckt_tags (ordinal 0) o pairs) t → Source library (λ i. place (suc i)) (λ k. ordinal (suc k)) cs u → t.driver ≡ u.driver → ⊥
     apart_pairs single None pairs t u i s e = i
     apart_pairs single (Some child) pairs t u i s e =
-        let r = of_pair library (ordinal 0) child pairs t i in
-        apart_subckt single (r.pair).formal t u (ap (λ (x : Tag). x.driver) r.is) s e
+        let r = of_pair library (ordinal 0) child pairs t i in apart_subckt single (r.pair).formal t u (ap (λ (x : Tag). x.driver) r.is) s e
 
     apart_body : IsInjective ordinal → (b : Body) (t u : Tag) → In (body_tags library (place 0) (ordinal 0) b) t → Source library (λ i. place (suc i)) (behind b ordinal) cs u → t.driver ≡ u.driver → ⊥
     apart_body single (Cover c) t u i s e = elim i [ inl q ↦ apart_cover ordinal t u (ap (λ (x : Tag). x.driver) q) s e | inr o ↦ o ]

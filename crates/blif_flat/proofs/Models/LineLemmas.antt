@@ -1,5 +1,5 @@
 -- What the refusals of a `.subckt` line say: F1 to F4 of it don't stand, or one does.
-use Rattle.blif_flat.proofs.Common.{◌≡◌, ℕ, true, false, ◌||◌, List, [], ◌∷◌, Option, Some, None, refl, sym, ap, ◌∙◌, subst, inl, inr, ◌⊎◌, bytes_eq, IsTrue, not, both_ways, cases_Bool, or_cases, or_left, or_right, and_from, not_from_false, false≢true, bytes_decides, In, none_else, none_both, Bool, cond, ◌++◌, filter, option_map, none-some, OrMemory-map, Pair, ModelValue, model_named, has_name, is_input, is_output, inputs_of, SubcktLine, unknown_formal, is_connected, open_input, input_fault, formal_fault, placed_fault, line_fault, formals, Ports, FlatErr, UnknownFormal, Unconnected, Memory, IsTold, with_names, ports_value, or_later, refusal_of, foreign_formal, open_among, ports_fault, LibraryValue, SubcktValue, has_with_names}
+use Rattle.blif_flat.proofs.Common.{from_map, In-map, has_in, in_has, ◌≡◌, ℕ, true, false, ◌||◌, List, [], ◌∷◌, Option, Some, None, refl, sym, ap, ◌∙◌, subst, inl, inr, ◌⊎◌, bytes_eq, IsTrue, not, both_ways, cases_Bool, or_cases, or_left, or_right, and_from, not_from_false, false≢true, bytes_decides, In, none_else, none_both, Bool, cond, ◌++◌, filter, option_map, none-some, OrMemory-map, Pair, ModelValue, model_named, has_name, is_input, is_output, inputs_of, SubcktLine, unknown_formal, is_connected, open_input, input_fault, formal_fault, placed_fault, line_fault, formals, Ports, FlatErr, UnknownFormal, Unconnected, Memory, IsTold, with_names, ports_value, or_later, refusal_of, foreign_formal, open_among, ports_fault, LibraryValue, SubcktValue, has_with_names}
 use Rattle.blif_flat.proofs.Models.NameSetLemmas.{has_inputs}
 
 -- each formal of a connection is an input or an output
@@ -22,17 +22,18 @@ pub record Connected (pairs : List Pair) (name : List ℕ) : Type 0 where
   pub member : In pairs pair
   pub formal : name ≡ pair.formal
 
+connected_is : (pairs : List Pair) (name : List ℕ) → has_name (formals pairs) name ≡ is_connected pairs name
+connected_is [] name = refl
+connected_is (pair ∷ pairs) name = ap (λ b. bytes_eq name pair.formal || b) (connected_is pairs name)
+
 connected_in : (pairs : List Pair) (name : List ℕ) → is_connected pairs name ≡ true → Connected pairs name
-connected_in [] name t = absurd (false≢true t)
-connected_in (p ∷ pairs) name t = elim (or_cases (bytes_eq name p.formal) (is_connected pairs name) t) [
-  | inl e ↦ record { pair = p; member = inl refl; formal = (bytes_decides name p.formal).0 e }
-  | inr h ↦ (let r = connected_in pairs name h in record { pair = r.pair; member = inr r.member; formal = r.formal })
-]
+connected_in pairs name t =
+    let r = from_map (λ (p : Pair). p.formal) pairs name (has_in (formals pairs) name (connected_is pairs name ∙ t)) in
+    record { pair = r.0; member = r.1; formal = r.2 }
 
 in_connected : (pairs : List Pair) (name : List ℕ) (pair : Pair) → In pairs pair → name ≡ pair.formal → is_connected pairs name ≡ true
-in_connected [] name pair i e = absurd i
-in_connected (p ∷ pairs) name pair (inl q) e = or_left (bytes_eq name p.formal) (is_connected pairs name) ((bytes_decides name p.formal).1 (e ∙ ap (λ (y : Pair). y.formal) q))
-in_connected (p ∷ pairs) name pair (inr i) e = or_right (bytes_eq name p.formal) (is_connected pairs name) (in_connected pairs name pair i e)
+in_connected pairs name pair i e =
+    sym (connected_is pairs name) ∙ in_has (formals pairs) name (subst (In (formals pairs)) (sym e) (In-map (λ (p : Pair). p.formal) pairs pair i))
 
 pub input_connected : (pairs : List Pair) (names : List (List ℕ)) → open_input pairs names ≡ None → (name : List ℕ) → In names name → Connected pairs name
 input_connected pairs [] e name i = absurd i
@@ -91,17 +92,10 @@ foreign_is child (pair ∷ pairs) =
     ap (λ b. cond (b || has_name child.outputs pair.formal) (foreign_formal (ports_value child) pairs) (Some pair.formal)) (has_inputs child pair.formal)
     ∙ ap (λ o. cond (is_input child pair.formal || has_name child.outputs pair.formal) o (Some pair.formal)) (foreign_is child pairs)
 
-connected_is : (pairs : List Pair) (name : List ℕ) → has_name (formals pairs) name ≡ is_connected pairs name
-connected_is [] name = refl
-connected_is (pair ∷ pairs) name = ap (λ b. bytes_eq name pair.formal || b) (connected_is pairs name)
-
-among_is : (pairs : List Pair) (name : List ℕ) → has_name (with_names [] (formals pairs)) name ≡ is_connected pairs name
-among_is pairs name = has_with_names [] (formals pairs) name ∙ connected_is pairs name
-
 open_is : (pairs : List Pair) (names : List (List ℕ)) → open_among (with_names [] (formals pairs)) names ≡ open_input pairs names
 open_is pairs [] = refl
 open_is pairs (name ∷ names) =
-    ap (λ b. cond b (open_among (with_names [] (formals pairs)) names) (Some name)) (among_is pairs name)
+    ap (λ b. cond b (open_among (with_names [] (formals pairs)) names) (Some name)) (has_with_names [] (formals pairs) name ∙ connected_is pairs name)
     ∙ ap (λ o. cond (is_connected pairs name) o (Some name)) (open_is pairs names)
 
 -- the first of two lists in which something is found
@@ -164,8 +158,7 @@ foreign_read m s child ports name pairs r = ap (λ p. foreign_formal p pairs) r.
 
 pub formals_err : (m : ModelValue) (line : ℕ) (s : SubcktValue) (child : ModelValue) (ports : Ports) (name : List ℕ) (pairs : List Pair) (e : FlatErr) → IsRead m s child ports name pairs
     → IsTold e (option_map (λ n. UnknownFormal name line n) (foreign_formal ports pairs)) → IsTold e (ports_fault m line s child)
-formals_err m line s child ports name pairs e r h =
-    formal_faults m line s child e (unknown_formal child s.pairs)
+formals_err m line s child ports name pairs e r h = formal_faults m line s child e (unknown_formal child s.pairs)
     (subst (λ o. IsTold e (option_map (λ n. UnknownFormal m.name line n) o)) (foreign_read m s child ports name pairs r)
     (subst (λ k. IsTold e (option_map (λ n. UnknownFormal k line n) (foreign_formal ports pairs))) r.name_is h))
 
@@ -202,6 +195,5 @@ clocks_err m line s child ports name pairs pairs' index names clocks e r absent 
 pub line_ok : (m : ModelValue) (line : ℕ) (s : SubcktValue) (child : ModelValue) (ports : Ports) (name : List ℕ) (pairs pairs' : List Pair) (index names clocks : List (List ℕ)) → IsRead m s child ports name pairs
     → foreign_formal ports pairs ≡ None → pairs' ≡ s.pairs → index ≡ with_names [] (formals pairs') → names ≡ child.inputs → open_among index names ≡ None → clocks ≡ child.clocks → open_among index clocks ≡ None
     → ports_fault m line s child ≡ None
-line_ok m line s child ports name pairs pairs' index names clocks r absent p i n none k none' =
-    formals_ok m line s child ports name pairs r absent
+line_ok m line s child ports name pairs pairs' index names clocks r absent p i n none k none' = formals_ok m line s child ports name pairs r absent
     ∙ ap (input_fault m line) (open_second child s.pairs (sym (open_read s pairs' index names child.inputs p i n) ∙ none) ∙ sym (open_read s pairs' index clocks child.clocks p i k) ∙ none')

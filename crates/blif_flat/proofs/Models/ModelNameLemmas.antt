@@ -32,7 +32,3 @@ distinct_few m =
     let a : length (distinct_names m) ≤ length {A = List ℕ} [] + length (all_names m) = with_names-length [] (all_names m) in
     let b : length (all_names m) ≡ length m.inputs + length (m.outputs ++ (m.clocks ++ commands_names m.commands)) = length-append m.inputs (m.outputs ++ (m.clocks ++ commands_names m.commands)) in
     omega (arith, length-append m.outputs (m.clocks ++ commands_names m.commands), length-append m.clocks (commands_names m.commands), commands_names-length m.commands)
-
--- and all its names are among them
-pub distinct_has : (m : ModelValue) (name : List ℕ) → In (all_names m) name → has_name (distinct_names m) name ≡ true
-distinct_has m name i = has_with_names [] (all_names m) name ∙ in_has (all_names m) name i

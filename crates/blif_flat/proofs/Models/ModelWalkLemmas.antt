@@ -1,19 +1,18 @@
 -- The walk of the models by their numbers is that of the definition, and its order puts each model behind those that it places.
-use Rattle.blif_flat.proofs.Common.{◌≡◌, ℕ, ◌<◌, true, false, List, Vec, Global, [], ◌∷◌, ◌++◌, map, reverse, length, Option, Some, None, refl, sym, ap, ◌∙◌, subst, subst₂, inl, inr, slice_get, option_map, unwrap_or, both_ways, length-map, none-some, same_Some, slice_get_within, slice_get-map, In, In-map, at_within, in_reversed, OrMemory-map, LibraryValue, ways_of, ways_from, successors, AreNodes, ending_of, Visited, stop, reached_only}
+use Rattle.blif_flat.proofs.Common.{◌≡◌, ℕ, ◌<◌, true, false, List, Vec, Global, [], ◌∷◌, ◌++◌, map, reverse, length, Option, Some, None, refl, sym, ap, ◌∙◌, subst, subst₂, inl, inr, slice_get, option_map, unwrap_or, both_ways, length-map, none-some, same_Some, slice_get_within, slice_get-map, In, In-map, at_within, in_reversed, OrMemory-map, LibraryValue, ways_of, ways_from, successors, AreNodes, ending_of, Visited, stop, reached_only, reverse-append, Node, Stop, Pass}
 use Rattle.blif_flat.specs.{leads, WalkValue, OrMemory, place_of, Body, Cover, Latch, Subckt, Command, ModelValue, has_name, model_named, AreOnce, FlatErr, or_later, SubcktLine, with_line, subckt_lines, line_fault, is_walked, Walked, refused, walked, Walks, refuse, again, inside, onward, WalksMain, refusal_of, IsTold, model_names, IsModelOf, Finds, models_at, IsBehind, AreChildrenFirst, edge_by, line_edge, body_edge, commands_edges, edge_rows, edges_at, with_model_name, names_at, lines_fault, model_lines_fault, path_fault}
 use Rattle.depth_first.specs.DepthFirst.{Way, stops, Ending, repeats, halts, nodes_of, Outcome, ends_at, goes_through, Enters, ended, stopped_at, back, again as enters_again, inside as enters_inside, onward as enters_onward}
 use Rattle.depth_first.specs.Order.{LeadsInto, IsSettled}
 use Rattle.depth_first.specs.Reach.{here}
 use Rattle.depth_first.specs.declared.edge.Edge.{Edge}
-use Rattle.depth_first.specs.declared.edge.Edge.TheVariants.{Node, Stop, Pass}
 use Rattle.depth_first.specs.declared.edge.End.{End}
 use Rattle.depth_first.specs.declared.edge.End.TheVariants.{Loop, Stop as stopped}
 use Rattle.blif_flat.proofs.Hierarchy.InstanceLemmas.{subckt_command}
 use Rattle.blif_flat.proofs.Models.LineLemmas.{IsPlaced, free_line, no_line_fault}
-use Rattle.blif_flat.proofs.Models.ModelPathLemmas.{reverse_more, models_at-push, on_path, off_path, was_walked, not_walked}
+use Rattle.blif_flat.proofs.Models.ModelPathLemmas.{models_at-push, on_path, off_path, was_walked, not_walked}
 use Rattle.blif_flat.proofs.Models.NameSetLemmas.{finds}
 use Rattle.blif_flat.proofs.Models.WalkedLemmas.{named_is}
-use Rattle.blif_flat.proofs.Models.WeightLemmas.{children_first_push, children_first_none}
+use Rattle.blif_flat.proofs.Models.WeightLemmas.{children_first_push}
 
 -- an edge of a line is no edge that is passed over
 no_pass : (o : Option FlatErr) (k : Option ℕ) → edge_by o k ≡ Pass → ⊥
@@ -170,7 +169,8 @@ module _ (models : List ModelValue) (names : AreOnce (model_names models)) where
   inner : (path before : List ℕ) (n : ℕ) (child : ModelValue) (r : Walked) → slice_get models n ≡ Some child → Walks library (names_at models (n ∷ path)) child (models_at models (reverse (n ∷ before))) (subckt_lines child.commands) r
       → Walks library (child.name ∷ names_at models path) child (models_at models (reverse before) ++ child ∷ []) (subckt_lines child.commands) r
   inner path before n child r at w = subst₂ (λ (c : List (List ℕ)) (b : List ModelValue). Walks library c child b (subckt_lines child.commands) r)
-      (ap (λ o. with_model_name o (names_at models path)) at) (ap (models_at models) (reverse_more before n) ∙ models_at-push models (reverse before) n child at) w
+      (ap (λ o. with_model_name o (names_at models path)) at) (ap (models_at models)
+      (reverse-append (n ∷ []) before) ∙ models_at-push models (reverse before) n child at) w
 
   linked : {path before : List ℕ} {ws : List (Way ℕ (Unit {0}))} {result : Outcome ℕ (Unit {0})} → Enters ways path before ws result → (m : ModelValue) (cs : List Command) → ws ≡ lines_ways m cs
       → IsFirstFault path m (subckt_lines cs) → Linked (names_at models path) m (models_at models (reverse before)) (subckt_lines cs) result
@@ -295,8 +295,8 @@ module _ (models : List ModelValue) (names : AreOnce (model_names models)) where
       }
 
   pub children_first : (ns : List ℕ) → IsSettled ways ns → ((n : ℕ) → In ns n → n < length models) → AreChildrenFirst library (reverse ns)
-  children_first [] settled within = children_first_none library
-  children_first (n ∷ ns) settled within = subst (AreChildrenFirst library) (sym (reverse_more ns n))
+  children_first [] settled within = record { each = λ i n at. absurd (none-some n at) }
+  children_first (n ∷ ns) settled within = subst (AreChildrenFirst library) (sym (reverse-append (n ∷ []) ns))
       (children_first_push library (reverse ns) n (children_first ns (settled.1).1 (λ k i. within k (inr i))) (behind ns n (within n (inl refl)) settled.0))
 
   -- the graph in code

@@ -46,12 +46,12 @@ finds ms name =
           subst (Finds ms name) (sym (cond-false (ltb p (length (model_names ms))) (Some p) None f)) (named_at ms name ∙ slice_get_past ms p (omega arith)))
     ]
 
-pub same_model_names : (names : List (List ℕ)) (models : List ModelValue) → names ≡ with_names [] (model_names models) → AreOnce (model_names models) → names ≡ model_names models
-same_model_names names models e once = e ∙ new_names (model_names models) once
-
 pub few_model_names : (names : List (List ℕ)) (models : List ModelValue) (n : ℕ) → names ≡ with_names [] (model_names models) → AreOnce (model_names models) → length models < n → length names < n
 few_model_names names models n e once few =
-    let b : length (model_names models) ≡ length models = length-map models (λ (m : ModelValue). m.name) in omega (arith, ap length (same_model_names names models e once))
+    let b : length (model_names models) ≡ length models = length-map models (λ (m : ModelValue). m.name) in omega (
+      arith,
+      ap length (e ∙ new_names (model_names models) once),
+    )
 
 pub ports_of_parts : (m : ModelValue) → IsWellFormedModel m → (inputs both outputs given clocks given' : List (List ℕ))
     → inputs ≡ with_names [] given → both ≡ with_names inputs clocks → outputs ≡ with_names [] given' → given ≡ m.inputs → clocks ≡ m.clocks → given' ≡ m.outputs

@@ -1,6 +1,5 @@
 -- The drivers of a model's commands with the names that they drive, in line order.
-use Rattle.blif_flat.proofs.Common.{◌≡◌, ℕ, zero, suc, true, if◌then◌else◌, List, [], ◌∷◌, ◌++◌, Option, Some, None, refl, sym, ap, ap₂, ◌∙◌, subst, inl, inr, slice_get, option_map, cases_Bool, cond-true, cond-false, none-some, same_Some, In, In-left, In-right, In-append, false, append_assoc, both_ways, false_from_ne_true, none_else, none_both, Body, Cover, Latch, Subckt, Command, LatchValue, Pair, ModelValue, with_subckt, subckts_of, model_named, is_output, Driver, by_latch, by_cover, by_subckt, output_actuals, driven_pairs, drives, all_drives, has_name, inputs_of, FlatErr, DoublyDriven, Undriven, or_later, reads, driven_names, twice_in, twice_fault, undriven_in, undriven_fault, model_fault, models_fault, CoverValue, SubcktValue, LibraryValue, has_in, in_has}
-use Rattle.std.proofs.Common.{append-nil}
+use Rattle.blif_flat.proofs.Common.{◌≡◌, ℕ, zero, suc, true, if◌then◌else◌, List, [], ◌∷◌, ◌++◌, map, map-append, filter, in_filter, In-filter, Option, Some, None, refl, sym, ap, ap₂, ◌∙◌, subst, inl, inr, slice_get, option_map, cases_Bool, cond-true, cond-false, none-some, same_Some, In, In-left, In-right, In-append, In-map, from_map, false, append_assoc, both_ways, false_from_ne_true, none_else, none_both, Body, Cover, Latch, Subckt, Command, LatchValue, Pair, ModelValue, with_subckt, subckts_of, model_named, is_output, Driver, by_latch, by_cover, by_subckt, output_actuals, driven_pairs, drives, all_drives, has_name, inputs_of, FlatErr, DoublyDriven, Undriven, or_later, reads, driven_names, twice_in, twice_fault, undriven_in, undriven_fault, model_fault, models_fault, CoverValue, SubcktValue, LibraryValue, has_in, in_has, append-nil}
 
 pub record Tag : Type 0 where
   pub driver : Driver
@@ -10,8 +9,7 @@ abbrev pub tag : Driver → List ℕ → Tag
 tag driver name = record { driver = driver; name = name }
 
 abbrev pub pair_tags : ℕ → ModelValue → List Pair → List Tag
-pair_tags k child [] = []
-pair_tags k child (pair ∷ pairs) = if is_output child pair.formal then tag (by_subckt k pair.formal) pair.actual ∷ pair_tags k child pairs else pair_tags k child pairs
+pair_tags k child pairs = map (λ (p : Pair). tag (by_subckt k p.formal) p.actual) (filter (λ (p : Pair). is_output child p.formal) pairs)
 
 abbrev pub subckt_tags : ℕ → Option ModelValue → List Pair → List Tag
 subckt_tags k None pairs = []
@@ -35,12 +33,7 @@ tags library place ordinal (c ∷ cs) = body_tags library (place 0) (ordinal 0) 
 
 -- their names are the driven names
 abbrev pub names : List Tag → List (List ℕ)
-names [] = []
-names (t ∷ ts) = t.name ∷ names ts
-
-names_joined : (xs ys : List Tag) → names (xs ++ ys) ≡ names xs ++ names ys
-names_joined [] ys = refl
-names_joined (x ∷ xs) ys = ap (λ ns. x.name ∷ ns) (names_joined xs ys)
+names ts = map (λ (t : Tag). t.name) ts
 
 pair_names : (k : ℕ) (child : ModelValue) (pairs : List Pair) → names (pair_tags k child pairs) ≡ output_actuals child pairs
 pair_names k child [] = refl
@@ -60,23 +53,8 @@ body_names library i k (Subckt s) = subckt_names k (model_named library.models s
 
 pub tag_names : (library : LibraryValue) (place ordinal : ℕ → ℕ) (cs : List Command) → names (tags library place ordinal cs) ≡ all_drives library cs
 tag_names library place ordinal [] = refl
-tag_names library place ordinal (c ∷ cs) = names_joined (body_tags library (place 0) (ordinal 0) c.body) (tags library (λ i. place (suc i)) (behind c.body ordinal) cs)
+tag_names library place ordinal (c ∷ cs) = map-append (λ (t : Tag). t.name) (body_tags library (place 0) (ordinal 0) c.body) (tags library (λ i. place (suc i)) (behind c.body ordinal) cs)
     ∙ ap₂ (λ (xs ys : List (List ℕ)). xs ++ ys) (body_names library (place 0) (ordinal 0) c.body) (tag_names library (λ i. place (suc i)) (behind c.body ordinal) cs)
-
-pub In-names : (ts : List Tag) (t : Tag) → In ts t → In (names ts) t.name
-In-names [] t i = i
-In-names (x ∷ ts) t (inl e) = inl (ap (λ (y : Tag). y.name) e)
-In-names (x ∷ ts) t (inr i) = inr (In-names ts t i)
-
-pub record Named (ts : List Tag) (name : List ℕ) : Type 0 where
-  pub tag : Tag
-  pub member : In ts tag
-  pub is : tag.name ≡ name
-
-pub names_in : (ts : List Tag) (name : List ℕ) → In (names ts) name → Named ts name
-names_in [] name i = absurd i
-names_in (x ∷ ts) name (inl e) = record { tag = x; member = inl refl; is = sym e }
-names_in (x ∷ ts) name (inr i) = let r = names_in ts name i in record { tag = r.tag; member = inr r.member; is = r.is }
 
 -- what a tag comes from
 pub data Source (library : LibraryValue) (place ordinal : ℕ → ℕ) (cs : List Command) (t : Tag) : Type 0 where
@@ -86,17 +64,8 @@ pub data Source (library : LibraryValue) (place ordinal : ℕ → ℕ) (cs : Lis
       → is_output child pair.formal ≡ true → t ≡ tag (by_subckt (ordinal k) pair.formal) pair.actual → Source library place ordinal cs t
 
 pair_in : (k : ℕ) (child : ModelValue) (pairs : List Pair) (pair : Pair) → In pairs pair → is_output child pair.formal ≡ true → In (pair_tags k child pairs) (tag (by_subckt k pair.formal) pair.actual)
-pair_in k child [] pair i out = absurd i
-pair_in k child (p ∷ pairs) pair (inl e) out =
-    let t : is_output child p.formal ≡ true = subst (λ (y : Pair). is_output child y.formal ≡ true) e out in
-    subst (λ ts. In ts (tag (by_subckt k pair.formal) pair.actual)) (sym (cond-true (is_output child p.formal) (tag (by_subckt k p.formal) p.actual ∷ pair_tags k child pairs) (pair_tags k child pairs) t))
-    (inl (ap (λ (y : Pair). tag (by_subckt k y.formal) y.actual) e))
-pair_in k child (p ∷ pairs) pair (inr i) out = elim (cases_Bool (is_output child p.formal)) [
-  | inl t ↦ subst (λ ts. In ts (tag (by_subckt k pair.formal) pair.actual)) (sym (cond-true (is_output child p.formal) (tag (by_subckt k p.formal) p.actual ∷ pair_tags k child pairs) (pair_tags k child pairs) t))
-      (inr (pair_in k child pairs pair i out))
-  | inr f ↦ subst (λ ts. In ts (tag (by_subckt k pair.formal) pair.actual)) (sym (cond-false (is_output child p.formal) (tag (by_subckt k p.formal) p.actual ∷ pair_tags k child pairs) (pair_tags k child pairs) f))
-      (pair_in k child pairs pair i out)
-]
+pair_in k child pairs pair i out =
+    In-map (λ (p : Pair). tag (by_subckt k p.formal) p.actual) (filter (λ (p : Pair). is_output child p.formal) pairs) pair (in_filter (λ (p : Pair). is_output child p.formal) pairs pair i out)
 
 -- a subcircuit is the command's own, or one behind it
 pub subckt_case : (b : Body) (subckts : List SubcktValue) (ordinal : ℕ → ℕ) (k : ℕ) (s : SubcktValue) (P : Type 0) → slice_get (with_subckt b subckts) k ≡ Some s
@@ -147,18 +116,11 @@ module _ (library : LibraryValue) where
     pub out : is_output child pair.formal ≡ true
     pub is : t ≡ tag (by_subckt k pair.formal) pair.actual
 
-  more_pairs : (k : ℕ) (child : ModelValue) (p : Pair) (pairs : List Pair) (t : Tag) → OfPair k child pairs t → OfPair k child (p ∷ pairs) t
-  more_pairs k child p pairs t r = record { pair = r.pair; member = inr r.member; out = r.out; is = r.is }
-
   pub of_pair : (k : ℕ) (child : ModelValue) (pairs : List Pair) (t : Tag) → In (pair_tags k child pairs) t → OfPair k child pairs t
-  of_pair k child [] t i = absurd i
-  of_pair k child (p ∷ pairs) t i = elim (cases_Bool (is_output child p.formal)) [
-    | inl y ↦ (elim (subst (λ ts. In ts t) (cond-true (is_output child p.formal) (tag (by_subckt k p.formal) p.actual ∷ pair_tags k child pairs) (pair_tags k child pairs) y) i) [
-      | inl e ↦ record { pair = p; member = inl refl; out = y; is = e }
-      | inr j ↦ more_pairs k child p pairs t (of_pair k child pairs t j)
-    ])
-    | inr f ↦ more_pairs k child p pairs t (of_pair k child pairs t (subst (λ ts. In ts t) (cond-false (is_output child p.formal) (tag (by_subckt k p.formal) p.actual ∷ pair_tags k child pairs) (pair_tags k child pairs) f) i))
-  ]
+  of_pair k child pairs t i =
+      let r = from_map (λ (p : Pair). tag (by_subckt k p.formal) p.actual) (filter (λ (p : Pair). is_output child p.formal) pairs) t i in
+      let m = In-filter (λ (p : Pair). is_output child p.formal) pairs r.0 r.1 in
+      record { pair = r.0; member = m.0; out = m.1; is = r.2 }
 
   subckt_source : (place ordinal : ℕ → ℕ) (d : Command) (cs : List Command) (t : Tag) (s : SubcktValue) (o : Option ModelValue) → d.body ≡ Subckt s → model_named library.models s.model ≡ o
       → In (subckt_tags (ordinal 0) o s.pairs) t → Source library place ordinal (d ∷ cs) t
@@ -243,9 +205,9 @@ pub new_once : (driven : List (List ℕ)) (ts : List Tag) (t u : Tag) → AreNew
 new_once driven [] t u a i j e = absurd i
 new_once driven (x ∷ ts) t u a (inl p) (inl q) e = p ∙ sym q
 new_once driven (x ∷ ts) t u a (inl p) (inr j) e =
-    absurd (new_apart (driven ++ x.name ∷ []) (names ts) u.name a.1 (In-names ts u j) (In-right driven (x.name ∷ []) u.name (inl (sym e ∙ ap (λ (y : Tag). y.name) p))))
+    absurd (new_apart (driven ++ x.name ∷ []) (names ts) u.name a.1 (In-map (λ (y : Tag). y.name) ts u j) (In-right driven (x.name ∷ []) u.name (inl (sym e ∙ ap (λ (y : Tag). y.name) p))))
 new_once driven (x ∷ ts) t u a (inr i) (inl q) e =
-    absurd (new_apart (driven ++ x.name ∷ []) (names ts) t.name a.1 (In-names ts t i) (In-right driven (x.name ∷ []) t.name (inl (e ∙ ap (λ (y : Tag). y.name) q))))
+    absurd (new_apart (driven ++ x.name ∷ []) (names ts) t.name a.1 (In-map (λ (y : Tag). y.name) ts t i) (In-right driven (x.name ∷ []) t.name (inl (e ∙ ap (λ (y : Tag). y.name) q))))
 new_once driven (x ∷ ts) t u a (inr i) (inr j) e = new_once (driven ++ x.name ∷ []) ts t u a.1 i j e
 
 -- names that stand once each, and that aren't driven, are new
@@ -257,11 +219,10 @@ pub apart_new : (driven : List (List ℕ)) (ts : List Tag) → ((t : Tag) → In
 apart_new driven [] h a = tt
 apart_new driven (t ∷ ts) h a = (
   false_from_ne_true (has_name driven t.name) (λ y. h t (inl refl) (has_in driven t.name y)),
-  apart_new (driven ++ t.name ∷ []) ts
-      (λ u i d. elim (In-append driven (t.name ∷ []) u.name d) [
-        | inl j ↦ h u (inr i) j
-        | inr j ↦ (elim j [ inl e ↦ a.0 u i (sym e) | inr o ↦ o ])
-      ]) a.1,
+  apart_new (driven ++ t.name ∷ []) ts (λ u i d. elim (In-append driven (t.name ∷ []) u.name d) [
+    | inl j ↦ h u (inr i) j
+    | inr j ↦ (elim j [ inl e ↦ a.0 u i (sym e) | inr o ↦ o ])
+  ]) a.1,
 )
 
 -- each name that is read is driven

@@ -1,13 +1,7 @@
 -- The walk of the models has one result; one that refuses nothing has been through models without F1 to F4, and the hierarchy ends.
-use Rattle.blif_flat.proofs.Common.{◌≡◌, ℕ, List, [], ◌∷◌, ◌++◌, Some, sym, ◌∙◌, subst, subst₂, Bool, true, false, cond, Option, refl, ap, inl, inr, ◌⊎◌, bytes_eq, slice_get, same_Some, none-some, option_and_then_some, both_ways, or_left, or_right, or_cases, false≢true, bytes_decides, In, In-left, In-right, In-append, In-get, ◌||◌, None, not, and_parts, false_from_ne_true, place_in, LibraryValue, SubcktValue, stop, placed-is, in_input}
+use Rattle.blif_flat.proofs.Common.{◌≡◌, ℕ, List, [], ◌∷◌, ◌++◌, Some, sym, ◌∙◌, subst, subst₂, Bool, true, false, cond, Option, refl, ap, inl, inr, ◌⊎◌, bytes_eq, slice_get, same_Some, none-some, option_and_then_some, both_ways, or_left, or_right, or_cases, false≢true, bytes_decides, In, In-left, In-right, In-append, In-get, ◌||◌, None, not, and_parts, false_from_ne_true, place_in, LibraryValue, SubcktValue, stop, placed-is, in_input, same_first, same_rest}
 use Rattle.blif_flat.specs.{ModelValue, Body, Cover, Latch, Subckt, Command, model_named, Path, with_subckt, subckts_of, placed, model_at, has_name, Ends, ends, SubcktLine, subckt_lines, Walked, refused, walked, Walks, refuse, again, inside, onward, WalksMain, with_line, is_walked, Pair, is_input, inputs_of, ConnectionAt, IsDriven, FlatErr, line_fault}
 use Rattle.blif_flat.proofs.Models.LineLemmas.{IsPlaced, free_line, Connected, no_unknown_formal, no_open_input, no_line_fault}
-
-first_line : (lines : List SubcktLine) (l k : SubcktLine) (rest more : List SubcktLine) → lines ≡ l ∷ rest → lines ≡ k ∷ more → l ≡ k
-first_line lines l k rest more e f = cc
-
-other_lines : (lines : List SubcktLine) (l k : SubcktLine) (rest more : List SubcktLine) → lines ≡ l ∷ rest → lines ≡ k ∷ more → more ≡ rest
-other_lines lines l k rest more e f = cc
 
 module _ (library : LibraryValue) where
   -- the walk of a placed model
@@ -24,35 +18,35 @@ module _ (library : LibraryValue) where
   walk_once (stop e p) (inside k more other fault f g y z v o) = cc
   walk_once (stop e p) (onward k more other after f g y z v u) = cc
   walk_once (refuse l rest fault e h p) (stop f o) = cc
-  walk_once (refuse l rest fault e h p) (refuse k more second f g o) = let s = first_line _ l k rest more e f in cc
-  walk_once (refuse l rest fault e h p) (again k more f g y v) = let s = first_line _ l k rest more e f in cc
-  walk_once (refuse l rest fault e h p) (inside k more other second f g y z v o) = let s = first_line _ l k rest more e f in cc
-  walk_once (refuse l rest fault e h p) (onward k more other after f g y z v u) = let s = first_line _ l k rest more e f in cc
+  walk_once (refuse l rest fault e h p) (refuse k more second f g o) = let s = same_first l k rest more e f in cc
+  walk_once (refuse l rest fault e h p) (again k more f g y v) = let s = same_first l k rest more e f in cc
+  walk_once (refuse l rest fault e h p) (inside k more other second f g y z v o) = let s = same_first l k rest more e f in cc
+  walk_once (refuse l rest fault e h p) (onward k more other after f g y z v u) = let s = same_first l k rest more e f in cc
   walk_once (again l rest e h x w) (stop f o) = cc
-  walk_once (again l rest e h x w) (refuse k more second f g o) = let s = first_line _ l k rest more e f in cc
-  walk_once {chain} {m} {before} {lines} {r} {q} (again l rest e h x w) (again k more f g y v) = walk_once w (subst (λ ls. Walks library chain m before ls q) (other_lines lines l k rest more e f) v)
-  walk_once (again l rest e h x w) (inside k more other second f g y z v o) = let s = first_line _ l k rest more e f in cc
-  walk_once (again l rest e h x w) (onward k more other after f g y z v u) = let s = first_line _ l k rest more e f in cc
+  walk_once (again l rest e h x w) (refuse k more second f g o) = let s = same_first l k rest more e f in cc
+  walk_once {chain} {m} {before} {lines} {r} {q} (again l rest e h x w) (again k more f g y v) = walk_once w (subst (λ ls. Walks library chain m before ls q) (same_rest k l more rest f e) v)
+  walk_once (again l rest e h x w) (inside k more other second f g y z v o) = let s = same_first l k rest more e f in cc
+  walk_once (again l rest e h x w) (onward k more other after f g y z v u) = let s = same_first l k rest more e f in cc
   walk_once (inside l rest child fault e h x t w p) (stop f o) = cc
-  walk_once (inside l rest child fault e h x t w p) (refuse k more second f g o) = let s = first_line _ l k rest more e f in cc
-  walk_once (inside l rest child fault e h x t w p) (again k more f g y v) = let s = first_line _ l k rest more e f in cc
+  walk_once (inside l rest child fault e h x t w p) (refuse k more second f g o) = let s = same_first l k rest more e f in cc
+  walk_once (inside l rest child fault e h x t w p) (again k more f g y v) = let s = same_first l k rest more e f in cc
   walk_once {chain} {m} {before} (inside l rest child fault e h x t w p) (inside k more other second f g y z v o) =
-      let c = same_child l k child other (first_line _ l k rest more e f) t z in
+      let c = same_child l k child other (same_first l k rest more e f) t z in
       p ∙ walk_once w (subst (Below chain before (refused second)) c v) ∙ sym o
   walk_once {chain} {m} {before} (inside l rest child fault e h x t w p) (onward k more other after f g y z v u) =
-      let c = same_child l k child other (first_line _ l k rest more e f) t z in
+      let c = same_child l k child other (same_first l k rest more e f) t z in
       let n = walk_once w (subst (Below chain before (walked after)) c v) in cc
   walk_once (onward l rest child mid e h x t w d) (stop f o) = cc
-  walk_once (onward l rest child mid e h x t w d) (refuse k more second f g o) = let s = first_line _ l k rest more e f in cc
-  walk_once (onward l rest child mid e h x t w d) (again k more f g y v) = let s = first_line _ l k rest more e f in cc
+  walk_once (onward l rest child mid e h x t w d) (refuse k more second f g o) = let s = same_first l k rest more e f in cc
+  walk_once (onward l rest child mid e h x t w d) (again k more f g y v) = let s = same_first l k rest more e f in cc
   walk_once {chain} {m} {before} (onward l rest child mid e h x t w d) (inside k more other second f g y z v o) =
-      let c = same_child l k child other (first_line _ l k rest more e f) t z in
+      let c = same_child l k child other (same_first l k rest more e f) t z in
       let n = walk_once w (subst (Below chain before (refused second)) c v) in cc
   walk_once {chain} {m} {before} {lines} {r} {q} (onward l rest child mid e h x t w d) (onward k more other after f g y z v u) =
-      let c = same_child l k child other (first_line _ l k rest more e f) t z in
+      let c = same_child l k child other (same_first l k rest more e f) t z in
       let n : ◌≡◌ {A = Walked} (walked mid) (walked after) = walk_once w (subst (Below chain before (walked after)) c v) in
       let a : after ≡ mid = cc in
-      walk_once d (subst₂ (λ (ms : List ModelValue) (ls : List SubcktLine). Walks library chain m ms ls q) a (other_lines lines l k rest more e f) u)
+      walk_once d (subst₂ (λ (ms : List ModelValue) (ls : List SubcktLine). Walks library chain m ms ls q) a (same_rest k l more rest f e) u)
 
   pub walk_main_once : (main : ModelValue) (r q : Walked) → WalksMain library main r → WalksMain library main q → r ≡ q
   walk_main_once main r q w v = walk_once w.walks v.walks
@@ -169,8 +163,7 @@ module _ (library : LibraryValue) (P : ModelValue → Type 0) where
   walk_fine : {chain : List (List ℕ)} {m : ModelValue} {before : List ModelValue} {lines : List SubcktLine} {result : Walked} → Walks library chain m before lines result
       → (ms : List ModelValue) → result ≡ walked ms → ((x : ModelValue) → In ms x → P x) → Sane chain before → After chain lines ms
   walk_fine {chain} {m} {before} (stop e p) ms q all sane =
-      let same : before ≡ ms = cc in
-      record { sane = subst (Sane chain) same sane; good = λ l i. absurd (subst (λ ls. In ls l) e i) }
+      let same : before ≡ ms = cc in record { sane = subst (Sane chain) same sane; good = λ l i. absurd (subst (λ ls. In ls l) e i) }
   walk_fine (refuse l rest fault e h p) ms q all sane = absurd (cc)
   walk_fine (inside l rest child fault e h t n w p) ms q all sane = absurd (cc)
   walk_fine {chain} {m} {before} {lines} (again l rest e h t w) ms q all sane =
@@ -262,10 +255,7 @@ module _ (library : LibraryValue) where
       above = a.above;
       is = a.is;
       named = a.named;
-      reaches = inr (elim a.reaches [
-        | inl q ↦ one k (subst (λ x. placed library k x ≡ Some child) (sym q) e)
-        | inr r ↦ further k child r e
-      ]);
+      reaches = inr (elim a.reaches [ inl q ↦ one k (subst (λ x. placed library k x ≡ Some child) (sym q) e) | inr r ↦ further k child r e ]);
     })
   ]
 
@@ -330,13 +320,6 @@ module _ (library : LibraryValue) where
       off = false_from_ne_true (has_name chain l.subckt.model) (no_cycle path chain m l e h c);
     })
 
-    -- the child that the walk goes into
-    walks_into : (path : Path) (m child : ModelValue) (l : SubcktLine) (c : IsChild path m l) → model_named library.models l.subckt.model ≡ Some child → c.child ≡ child
-    walks_into path m child l c n = same_Some c.child child (sym c.named ∙ n)
-
-    own_name : (name : List ℕ) (child : ModelValue) → model_named library.models name ≡ Some child → model_named library.models child.name ≡ Some child
-    own_name name child n = ap (model_named library.models) (sym (named_is library.models name child n)) ∙ n
-
     rest_in : (m : ModelValue) (lines : List SubcktLine) (l : SubcktLine) (rest : List SubcktLine) → lines ≡ l ∷ rest → ((k : SubcktLine) → In lines k → In (subckt_lines m.commands) k) → (k : SubcktLine) → In rest k → In (subckt_lines m.commands) k
     rest_in m lines l rest e h k i = h k (subst (λ ls. In ls k) (sym e) (inr i))
 
@@ -351,8 +334,9 @@ module _ (library : LibraryValue) where
     no_refusal {chain} {m} {before} {lines} (again l rest e g t w) fault q path at h all = no_refusal w fault q path at h (rest_in m lines l rest e all)
     no_refusal {chain} {m} {before} {lines} (inside l rest child f e g t n w p) fault q path at h all =
         let c = child_of path m l at (head_in m lines l rest e all) in
-        let same : c.child ≡ child = walks_into path m child l c n in
-        no_refusal w f refl (c.ordinal ∷ path) (c.at ∙ ap Some same) (above_child chain m child c.ordinal h (c.placed_as ∙ ap Some same) (own_name l.subckt.model child n)) (λ k i. i)
+        let same : c.child ≡ child = same_Some c.child child (sym c.named ∙ n) in
+        no_refusal w f refl (c.ordinal ∷ path) (c.at ∙ ap Some same) (above_child chain m child c.ordinal h (c.placed_as ∙ ap Some same)
+        (ap (model_named library.models) (sym (named_is library.models l.subckt.model child n)) ∙ n)) (λ k i. i)
     no_refusal {chain} {m} {before} {lines} (onward l rest child after e g t n w v) fault q path at h all = no_refusal v fault q path at h (rest_in m lines l rest e all)
 
     pub driven_walks : (main : ModelValue) (fault : FlatErr) → model_at library [] ≡ Some main → WalksMain library main (refused fault) → ⊥
@@ -370,7 +354,7 @@ module _ (library : LibraryValue) where
     walked_at (inside l rest child f e g t n w p) ms q path at all h x i = absurd (cc)
     walked_at {chain} {m} {before} {lines} (onward l rest child after e g t n w v) ms q path at all h x i =
         let c = child_of path m l at (head_in m lines l rest e all) in
-        let here : model_at library (c.ordinal ∷ path) ≡ Some child = c.at ∙ ap Some (walks_into path m child l c n) in
+        let here : model_at library (c.ordinal ∷ path) ≡ Some child = c.at ∙ ap Some (same_Some c.child child (sym c.named ∙ n)) in
         walked_at v ms q path at (rest_in m lines l rest e all) (walked_at w after refl (c.ordinal ∷ path) here (λ k j. j) (λ y j. elim (In-append before (child ∷ []) y j) [
           | inl z ↦ h y z
           | inr z ↦ (elim z [ inl s ↦ (c.ordinal ∷ path, here ∙ ap Some (sym s)) | inr o ↦ absurd o ])

@@ -1,6 +1,5 @@
 -- A model has one weight, which exists where those of the placed models do, and sums of capped weights are as good as sums of weights.
-use Rattle.blif_flat.proofs.Common.{◌≡◌, ℕ, List, Some, sym, ap, ◌∙◌, arith, zero, suc, ◌+◌, ◌<◌, ◌≤◌, Bool, true, false, cond, ltb, eqb, [], ◌∷◌, ◌++◌, length, get_or, take, set, None, refl, subst, inl, inr, ◌⊎◌, bytes_eq, Result, Ok, Err, MatchResult, same_Some, none-some, get_or_from_slice_get, slice_get-get_or, slice_get_within, get_or-set_same, get_or-set_other, cases_Bool, both_ways, eq-eqb, eqb-true, In, get_pushed, slice_get, find_at, SubcktValue, ModelValue, Body, Cover, Latch, Subckt, Command, subckts_of, model_named, with_subckt, own_weight, Weighs, weighs, WeighAll, most_weight, place_of, OrMemory, FlatErr, TooLarge, refusal_of, model_names, HasWeight, capped, kept_at, body_kept, commands_kept, model_kept, IsAmong, IsBehind, AreChildrenFirst, IsKeptWeight, LibraryValue, position, position_or_len, find, not_empty, same_first, same_rest}
-use Rattle.std.proofs.Common.{length-set}
+use Rattle.blif_flat.proofs.Common.{same_or, In-push, take_get, take-append-le, ◌≡◌, ℕ, List, Some, sym, ap, ◌∙◌, arith, zero, suc, ◌+◌, ◌<◌, ◌≤◌, Bool, true, false, cond, ltb, eqb, [], ◌∷◌, ◌++◌, length, get_or, take, set, None, refl, subst, inl, inr, ◌⊎◌, bytes_eq, Result, Ok, Err, MatchResult, same_Some, none-some, get_or_from_slice_get, slice_get-get_or, slice_get_within, get_or-set_same, get_or-set_other, cases_Bool, both_ways, eq-eqb, eqb-true, In, get_pushed, slice_get, find_at, SubcktValue, ModelValue, Body, Cover, Latch, Subckt, Command, subckts_of, model_named, with_subckt, own_weight, Weighs, weighs, WeighAll, most_weight, place_of, OrMemory, FlatErr, TooLarge, refusal_of, model_names, HasWeight, capped, kept_at, body_kept, commands_kept, model_kept, IsAmong, IsBehind, AreChildrenFirst, IsKeptWeight, LibraryValue, position, position_or_len, find, not_empty, same_first, same_rest, length-set}
 use Rattle.std.proofs.Math.Seq.{take-append_seam}
 use Rattle.tl_text.proofs.NameLemmas.{position-map}
 use Rattle.netlist.specs.Weight.{none, more}
@@ -93,31 +92,20 @@ kept_stays library weights number value n other k =
     slice_get-get_or (set weights number value) n 0 (omega (arith, length-set weights number value)) ∙ ap Some (e ∙ get_or_from_slice_get weights n (capped k.weight) 0 k.kept) in
     record { model = k.model; at = k.at; weight = k.weight; weighs = k.weighs; kept = at; once = k.once }
 
-slice_get-set_same : (xs : List ℕ) (i x : ℕ) → i < length xs → slice_get (set xs i x) i ≡ Some x
-slice_get-set_same xs i x h =
-    slice_get-get_or (set xs i x) i 0 (omega (arith, length-set xs i x)) ∙ ap Some (get_or-set_same xs i x 0 h)
-
-in_take : (xs : List ℕ) (i x : ℕ) → In (take (suc i) xs) x → In (take i xs) x ⊎ (slice_get xs i ≡ Some x)
-in_take [] i x h = absurd h
-in_take (y ∷ ys) zero x (inl e) = inr (ap Some (sym e))
-in_take (y ∷ ys) zero x (inr h) = absurd h
-in_take (y ∷ ys) (suc i) x (inl e) = inl (inl e)
-in_take (y ∷ ys) (suc i) x (inr h) = elim (in_take ys i x h) [ inl a ↦ inl (inr a) | inr b ↦ inr b ]
-
 -- the next model in the order
 pub kept_step : (library : LibraryValue) (order weights news : List ℕ) (i number : ℕ) → AreChildrenFirst library order → slice_get order i ≡ Some number → number < length weights
     → ((m : ModelValue) → slice_get library.models number ≡ Some m → news ≡ set weights number (model_kept (model_names library.models) weights m))
-    → ((n : ℕ) → In (take i order) n → IsKeptWeight library weights n) → (n : ℕ) → In (take (suc i) order) n → IsKeptWeight library news n
+    → ((n : ℕ) → In (take i order) n → IsKeptWeight library weights n) → (n : ℕ) → In (take (i + 1) order) n → IsKeptWeight library news n
 kept_step library order weights news i number first at inside is h n among =
     let b : IsBehind library (take i order) number = first.each i number at in
     let value : ℕ = model_kept (model_names library.models) weights b.model in
     let e : news ≡ set weights number value = is b.model b.at in
     let fresh : IsKeptWeight library (set weights number value) number =
-    fresh_kept library (take i order) weights (set weights number value) number b h (slice_get-set_same weights number value inside) in
-    subst (λ l. IsKeptWeight library l n) (sym e)
-    (elim (cases_Bool (eqb n number)) [
-      | inl t ↦ subst (λ x. IsKeptWeight library (set weights number value) x) (sym (eqb-true n number t)) fresh
-      | inr f ↦ kept_stays library weights number value n (λ s. both_ways (eqb n number) f (eq-eqb n number s)) (elim (in_take order i n among) [ inl a ↦ h n a | inr a ↦ absurd (both_ways (eqb n number) f (eq-eqb n number (same_Some n number (sym a ∙ at)))) ])
+    fresh_kept library (take i order) weights (set weights number value) number b h (slice_get-get_or (set weights number value) number 0 (omega (arith, length-set weights number value)) ∙ ap Some (get_or-set_same weights number value 0 inside)) in
+    subst (λ l. IsKeptWeight library l n) (sym e) (elim (same_or n number) [
+      | inl q ↦ subst (λ x. IsKeptWeight library (set weights number value) x) (sym q) fresh
+      | inr o ↦ kept_stays library weights number value n o
+          (elim (In-push (take i order) number n (subst (λ l. In l n) (take_get order i number at) among)) [ inl a ↦ h n a | inr a ↦ absurd (o a) ])
     ])
 
 -- a number of the order is that of a model
@@ -136,50 +124,31 @@ kept_next library names order weights news i same first h len is kept =
     let number : ℕ = get_or order i 0 in
     let at : slice_get order i ≡ Some number = slice_get-get_or order i 0 h in
     let inside : number < length library.models = order_inside library order i first h in
-    let b : IsBehind library (take i order) number = first.each i number at in
-    let e : suc i ≡ i + 1 = omega arith in (
-      subst (λ j. (n : ℕ) → In (take j order) n → IsKeptWeight library news n) e
-          (kept_step library order weights news i number first at (omega arith) (subst (λ ns. (m : ModelValue) → slice_get library.models number ≡ Some m → news ≡ set weights number (model_kept ns weights m)) same is) kept),
+    let b : IsBehind library (take i order) number = first.each i number at in (
+      kept_step library order weights news i number first at (omega arith) (subst (λ ns. (m : ModelValue) → slice_get library.models number ≡ Some m → news ≡ set weights number (model_kept ns weights m)) same is) kept,
       ap length (is b.model b.at) ∙ length-set weights number (model_kept names weights b.model) ∙ len,
     )
 
--- what is kept tells whether a model is heavier than 2^22
-same_model : (library : LibraryValue) (weights : List ℕ) (number : ℕ) (m : ModelValue) (k : IsKeptWeight library weights number) → slice_get library.models number ≡ Some m → Weighs library m k.weight
-same_model library weights number m k at = subst (λ n. Weighs library n k.weight) (same_Some k.model m (sym k.at ∙ at)) k.weighs
-
-pub kept_light : (library : LibraryValue) (weights : List ℕ) (number kept : ℕ) (m : ModelValue) → IsKeptWeight library weights number → slice_get library.models number ≡ Some m → slice_get weights number ≡ Some kept
-    → kept ≤ most_weight → HasWeight library m (λ w. w ≤ most_weight)
-kept_light library weights number kept m k at here h =
-    record { weight = k.weight; weighs = same_model library weights number m k at; is = omega (arith, same_Some kept (capped k.weight) (sym here ∙ k.kept)) }
-
-pub kept_heavy : (library : LibraryValue) (weights : List ℕ) (number kept : ℕ) (m : ModelValue) → IsKeptWeight library weights number → slice_get library.models number ≡ Some m → slice_get weights number ≡ Some kept
-    → most_weight < kept → HasWeight library m (λ w. most_weight < w)
-kept_heavy library weights number kept m k at here h =
-    record { weight = k.weight; weighs = same_model library weights number m k at; is = omega (arith, same_Some kept (capped k.weight) (sym here ∙ k.kept)) }
-
 -- one more model behind those that it places
-take_front : (xs ys : List ℕ) (i : ℕ) → i ≤ length xs → take i (xs ++ ys) ≡ take i xs
-take_front xs ys zero h = refl
-take_front [] ys (suc i) h = absurd (omega arith)
-take_front (x ∷ xs) ys (suc i) h = ap (λ l. x ∷ l) (take_front xs ys i (omega arith))
-
 pub children_first_push : (library : LibraryValue) (order : List ℕ) (number : ℕ) → AreChildrenFirst library order → IsBehind library order number → AreChildrenFirst library (order ++ number ∷ [])
 children_first_push library order number first behind = record {
   each = λ i n at. elim (get_pushed order number i n at) [
     | inl h ↦ (let inside : i < length order = slice_get_within order i n h in
-        subst (λ l. IsBehind library l n) (sym (take_front order (number ∷ []) i (omega arith))) (first.each i n h))
+        subst (λ l. IsBehind library l n) (sym (take-append-le i order (number ∷ []) (omega arith))) (first.each i n h))
     | inr h ↦ (let e : take i (order ++ number ∷ []) ≡ order = ap (λ j. take j (order ++ number ∷ [])) h.0 ∙ take-append_seam order (number ∷ []) in
         subst (λ l. IsBehind library l n) (sym e) (subst (IsBehind library order) h.1 behind))
   ];
 }
 
-pub children_first_none : (library : LibraryValue) → AreChildrenFirst library []
-children_first_none library = record { each = λ i n at. absurd (none-some n at) }
+-- what is told of the main model: is it heavier than 2^22?
+kept_weighs : (library : LibraryValue) (weights : List ℕ) (m : ModelValue) (k : IsKeptWeight library weights 0) → slice_get library.models 0 ≡ Some m → Weighs library m k.weight
+kept_weighs library weights m k at = subst (λ n. Weighs library n k.weight) (same_Some k.model m (sym k.at ∙ at)) k.weighs
 
--- what is told of the main model
 pub weight_told : (library : LibraryValue) (weights : List ℕ) (kept : ℕ) (main : ModelValue) (result : Result (Unit {0}) FlatErr) → IsKeptWeight library weights 0 → slice_get library.models 0 ≡ Some main → slice_get weights 0 ≡ Some kept
     → MatchResult result (λ _. kept ≤ most_weight) (λ e. (e ≡ TooLarge) × (most_weight < kept))
     → MatchResult result (λ _. HasWeight library main (λ w. w ≤ most_weight)) (λ e. OrMemory refusal_of (λ r. (r ≡ TooLarge) × HasWeight library main (λ w. most_weight < w)) e)
-weight_told library weights kept main (Ok u) k at here h = kept_light library weights 0 kept main k at here h
+weight_told library weights kept main (Ok u) k at here h =
+    record { weight = k.weight; weighs = kept_weighs library weights main k at; is = omega (arith, same_Some kept (capped k.weight) (sym here ∙ k.kept)) }
 weight_told library weights kept main (Err e) k at here h =
-    subst (λ x. OrMemory refusal_of (λ r. (r ≡ TooLarge) × HasWeight library main (λ w. most_weight < w)) x) (sym h.0) (refl, kept_heavy library weights 0 kept main k at here h.1)
+    subst (λ x. OrMemory refusal_of (λ r. (r ≡ TooLarge) × HasWeight library main (λ w. most_weight < w)) x) (sym h.0)
+    (refl, record { weight = k.weight; weighs = kept_weighs library weights main k at; is = omega (arith, same_Some kept (capped k.weight) (sym here ∙ k.kept), h.1) })

@@ -15,8 +15,7 @@ module _ (library : LibraryValue) (net : Path → List ℕ → Option Net) (nets
   among_there path (own ∷ names) name q (inr i) e = in_rest (net path own) (covers_among (net path) names) q (among_there path names name q i e)
 
   cover_reads : (p q : Place) → ReadsCover library p q → In (reads_of library net p) q
-  cover_reads p q r =
-      subst (λ o. In (reads_in (net p.path) o) q) (sym (cover_at-is library p.path p.command r.cover r.is))
+  cover_reads p q r = subst (λ o. In (reads_in (net p.path) o) q) (sym (cover_at-is library p.path p.command r.cover r.is))
       (among_there p.path (r.cover).inputs r.name q r.input (nets.finds p.path r.name (cover_net q.path q.command) r.drives))
 
   pub depends_reaches : {p q : Place} → Depends library p q → Reaches (reads_of library net) p q
@@ -39,8 +38,7 @@ module _ (library : LibraryValue) where
 -- A library at which no fault is found is sound.
 pub sound_of : (library : LibraryValue) → IsWellFormed library → (main : ModelValue) → model_at library [] ≡ Some main → IsDriven library
     → (latches : List Place) → FlatOrder library is_latch [] main latches → Clocks library None latches None
-    → (gates : List Place) → FlatOrder library is_gate [] main gates → ClockData library main gates None
-    → LoopWalk library None → IsSound library
+    → (gates : List Place) → FlatOrder library is_gate [] main gates → ClockData library main gates None → LoopWalk library None → IsSound library
 sound_of library formed main at driven latches latches_are clocks gates gates_are clear walk = record {
   formed = formed;
   main = main;

@@ -66,6 +66,13 @@ pub record AreFlatLatches (library : LibraryValue) (at : Places) (flat : List Fl
   pub count : length flat ≡ length at.latches
   pub each : (k : ℕ) (p : Place) (l : FlatLatch) → slice_get at.latches k ≡ Some p → slice_get flat k ≡ Some l → IsFlatLatch library at p l
 
+-- and with the outputs of the main model all of its logic
+pub record IsLogic (library : LibraryValue) (main : ModelValue) (at : Places) (covers : List FlatCoverValue) (latches : List FlatLatch) (outputs : List OutPort) : Type 0 where
+  pub covers_are : AreFlatCovers library at covers
+  pub latches_are : AreFlatLatches library at latches
+  pub names : map (λ (o : OutPort). o.name) outputs ≡ main.outputs
+  pub nets : AreNetsOf library at [] main.outputs (map (λ (o : OutPort). o.net) outputs)
+
 -- The fields of a flat circuit, as they are computed from its gates, its nets and the ports of its main model.
 
 -- the net of a name of an instance, by the numbers of the regular inputs; input 0 where nothing drives the name

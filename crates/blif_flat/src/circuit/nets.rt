@@ -1,6 +1,7 @@
 //! The table of the nets of all instances' names. A net is the number of its driver.
-ghost use Rattle.std.specs.Prelude.{◌≡◌, ◌<◌, length, Some, ◌≤◌, [], map, replicate, None, IfOk};
-ghost use Rattle.blif_flat.specs.{slot_number, table_of, with_slot, with_found, copied, pair_out, pairs_out, pair_in, pairs_in, IsNets, ModelValue, is_input, is_output, ports_value, with_names as with_all_names, body_names, commands_names, AreInstances, IsLight, paths_of, AreEmptyNets, distinct_names, name_count, starts_from, slot_count, most_weight};
+ghost use Rattle.std.specs.Prelude.{◌≡◌, ℕ, List, ◌<◌, length, Some, ◌≤◌, [], map, replicate, None, IfOk, slice_get};
+ghost use Rattle.std.specs.Option.{option_and_then};
+ghost use Rattle.blif_flat.specs.{place_of, slot_number, table_of, with_slot, with_found, copied, pair_out, pairs_out, pair_in, pairs_in, IsNets, ModelValue, is_input, is_output, ports_value, with_names as with_all_names, body_names, commands_names, AreInstances, IsLight, paths_of, AreEmptyNets, distinct_names, name_count, starts_from, slot_count, most_weight};
 
 use crate::circuit::instances::Instance;
 use crate::model::ports::Ports;
@@ -35,6 +36,16 @@ impl Model for Nets {
     ghost view = { λ n. record { names = n.names.items; starts = n.starts.items; slots = n.slots.items } };
 }
 
+// The place of a name among those of the model of a number.
+fn place_in(names: &[NameIndex], model: u32, name: &[u8]) -> Option<usize>
+    ensures { result ≡ option_and_then (λ (own : List (List ℕ)). place_of own name.now) (slice_get names.now model) }
+{
+    match names.get(model as usize) {
+        None => None,
+        Some(own) => own.place(name),
+    }
+}
+
 // The slot of a name of an instance.
 fn slot_of(nets: &Nets, i: u32, name: &[u8]) -> Option<usize>
     requires { IsNets nets.now }
@@ -42,12 +53,9 @@ fn slot_of(nets: &Nets, i: u32, name: &[u8]) -> Option<usize>
 {
     match nets.starts.get(i as usize) {
         None => None,
-        Some(start) => match nets.names.get(start.model as usize) {
+        Some(start) => match place_in(&nets.names, start.model, name) {
             None => None,
-            Some(names) => match names.place(name) {
-                None => None,
-                Some(place) => Some(start.first + place),
-            },
+            Some(place) => Some(start.first + place),
         },
     }
 }

@@ -1,10 +1,11 @@
 //! Names that are driven twice, and names that are read but not driven.
-ghost use Rattle.std.specs.Prelude.{◌≡◌, ℕ, List, [], ◌∷◌, ◌++◌, map, None, slice_get, MatchOption, MatchResult};
-ghost use Rattle.blif_flat.specs.{ModelValue, Memory, model_named, has_name, ports_value, model_names, output_actuals, input_actuals, driven_pairs, read_pairs, control_names, drives, reads, all_drives, twice_in, twice_fault, undriven_in, undriven_fault, model_fault, models_fault, Tells, Adds, ArePortsOf, AreOf, fault_of, models_at};
+ghost use Rattle.std.specs.Prelude.{◌≡◌, ℕ, List, [], ◌∷◌, ◌++◌, map, None, slice_get, MatchOption};
+ghost use Rattle.blif_flat.specs.{ModelValue, model_named, has_name, ports_value, model_names, output_actuals, input_actuals, driven_pairs, read_pairs, control_names, drives, reads, all_drives, twice_in, twice_fault, undriven_in, undriven_fault, model_fault, models_fault, Tells, Adds, ArePortsOf, AreOf, fault_of, models_at};
 ghost use Rattle.netlist.specs.LibraryValue.{LibraryValue};
 
 use crate::flat_err::FlatErr;
 use crate::model::driven::Driven;
+use crate::model::line_check::both_copied;
 use crate::model::ports::{ModelIndex, Ports};
 use netlist::{BlifModel, Body, Latch, Library, Pair, Subckt};
 use std::alloc::Global;
@@ -20,12 +21,6 @@ struct Site<'a> {
     line: u32,
 }
 
-fn copy_of(alloc: Global, name: &Name) -> Result<Name, FlatErr>
-    ensures { MatchResult result (λ copy. copy ≡ name.now) (λ e. e ≡ Memory) }
-{
-    Ok(Name::make(alloc, name.bytes())?)
-}
-
 // Adds a name that a line drives, unless it is driven already.
 fn drive(site: &Site, driven: &mut Driven, name: &Name) -> Result<(), FlatErr>
     ensures { Adds result (twice_in site.now.model.now site.now.line driven.old (name.now ∷ [])) driven.old driven.new (name.now ∷ []) }
@@ -33,8 +28,7 @@ fn drive(site: &Site, driven: &mut Driven, name: &Name) -> Result<(), FlatErr>
     if driven.add(site.alloc, name.bytes())? {
         return Ok(());
     }
-    let model = copy_of(site.alloc, site.model)?;
-    let name = copy_of(site.alloc, name)?;
+    let (model, name) = both_copied(site.alloc, site.model, name)?;
     Err(FlatErr::DoublyDriven(model, site.line, name))
 }
 
@@ -45,8 +39,7 @@ fn check_driven(site: &Site, driven: &Driven, name: &Name) -> Result<(), FlatErr
     if driven.has(name.bytes()) {
         return Ok(());
     }
-    let model = copy_of(site.alloc, site.model)?;
-    let name = copy_of(site.alloc, name)?;
+    let (model, name) = both_copied(site.alloc, site.model, name)?;
     Err(FlatErr::Undriven(model, site.line, name))
 }
 

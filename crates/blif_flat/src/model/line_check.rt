@@ -2,7 +2,7 @@
 ghost use Rattle.std.specs.Prelude.{◌≡◌, ◌∷◌, ◌++◌, [], IfOk, OnOk, IfErr, None, ◌<◌, length, map, slice_get, Some};
 ghost use Rattle.std.specs.Option.{option_map};
 ghost use Rattle.depth_first.specs.Walk.{from_node};
-ghost use Rattle.blif_flat.specs.{UnknownModel as unknown_model_of, UnknownFormal as unknown_formal_of, Unconnected as unconnected_of, IsTold, ports_value, foreign_formal, open_among, ports_fault, AreOnce, ModelValue, RecursiveModel as recursive_model_of, model_names, with_name_of, names_at, IsPlacing, line_fault};
+ghost use Rattle.blif_flat.specs.{UnknownFormal as unknown_formal_of, Unconnected as unconnected_of, IsTold, ports_value, foreign_formal, open_among, ports_fault, AreOnce, ModelValue, RecursiveModel as recursive_model_of, model_names, with_name_of, names_at, IsPlacing, line_fault};
 
 use crate::flat_err::FlatErr;
 use crate::model::ports::{Models, Ports, formal_index};
@@ -19,39 +19,16 @@ pub(crate) fn copied(alloc: Global, name: &Name) -> Result<Name, AllocError>
     Name::make(alloc, name.bytes())
 }
 
-/// F1 of a line of a model.
-pub(crate) fn unknown_model(
+/// Copies of the name of a model and of one that a line of it tells.
+pub(crate) fn both_copied(
     alloc: Global,
     model: &Name,
-    line: u32,
     name: &Name,
-) -> Result<FlatErr, AllocError>
-    ensures { IfOk result (λ e. e ≡ unknown_model_of model.now line name.now) }
+) -> Result<(Name, Name), AllocError>
+    ensures { IfOk result (λ copies. (copies.0 ≡ model.now) × (copies.1 ≡ name.now)) }
 {
     let model = copied(alloc, model)?;
-    let name = copied(alloc, name)?;
-    Ok(FlatErr::UnknownModel(model, line, name))
-}
-
-fn unknown_formal(
-    alloc: Global,
-    model: &Name,
-    line: u32,
-    name: &Name,
-) -> Result<FlatErr, AllocError>
-    ensures { IfOk result (λ e. e ≡ unknown_formal_of model.now line name.now) }
-{
-    let model = copied(alloc, model)?;
-    let name = copied(alloc, name)?;
-    Ok(FlatErr::UnknownFormal(model, line, name))
-}
-
-fn unconnected(alloc: Global, model: &Name, line: u32, name: &Name) -> Result<FlatErr, AllocError>
-    ensures { IfOk result (λ e. e ≡ unconnected_of model.now line name.now) }
-{
-    let model = copied(alloc, model)?;
-    let name = copied(alloc, name)?;
-    Ok(FlatErr::Unconnected(model, line, name))
+    Ok((model, copied(alloc, name)?))
 }
 
 // F3 of a line.
@@ -68,7 +45,8 @@ fn check_formals(
     for pair in pairs {
         let formal = pair.formal.bytes();
         if !(ports.is_input(formal) || ports.has_output(formal)) {
-            return Err(unknown_formal(alloc, model, line, &pair.formal)?);
+            let (model, name) = both_copied(alloc, model, &pair.formal)?;
+            return Err(FlatErr::UnknownFormal(model, line, name));
         }
     }
     Ok(())
@@ -87,7 +65,8 @@ fn check_inputs(
 {
     for name in names {
         if !index.has(name.bytes()) {
-            return Err(unconnected(alloc, model, line, name)?);
+            let (model, name) = both_copied(alloc, model, name)?;
+            return Err(FlatErr::Unconnected(model, line, name));
         }
     }
     Ok(())
@@ -194,7 +173,10 @@ pub(crate) fn check_line(
     ensures err { IfErr result (λ e. IsTold e (line_fault (record { models = models.now.list.now }) (names_at models.now.list.now walk.now.path) model.now (record { line = line; subckt = subckt.now }))) }
 {
     match models.index.find(subckt.model.bytes()) {
-        None => Err(unknown_model(alloc, &model.name, line, &subckt.model)?),
+        None => {
+            let (model, name) = both_copied(alloc, &model.name, &subckt.model)?;
+            Err(FlatErr::UnknownModel(model, line, name))
+        }
         Some(n) => {
             if walk.is_on_path(n) {
                 return Err(recursive_model(alloc, models.list, walk, n, &subckt.model)?);

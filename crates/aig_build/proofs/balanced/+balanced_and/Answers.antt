@@ -1,5 +1,5 @@
 use Rattle.aig_build.proofs.Common.{◌≡◌, ◌≤◌, ◌∙◌, ap, arith, drop, length, List, refl, rules, take, All-drop, Lit, Aig, first_and, and_of, Answer, with_pairs, back_half, front_half, balanced_and}
-use Rattle.aig_build.proofs.BalancedLemmas.{and_of-halves, AreBelow, AreBelow-more, balanced-grows, balanced_and-back_length, balanced_and-front_length, full_weaker, Halves, Halves-split, IsBelow, IsLit-more, max-halves, with_pairs-halves}
+use Rattle.aig_build.proofs.BalancedLemmas.{AreBelow, AreBelow-more, balanced-grows, balanced_and-back_length, balanced_and-front_length, full_weaker, halved, IsBelow, IsLit-more}
 use Rattle.aig_build.proofs.balanced.+balanced_and.Goals as goal
 
 pub returns-in_err-x-in_default-clause-full : goal.returns-in_err-x-in_default-clause-full
@@ -42,32 +42,29 @@ returns-in_err-lit-in_default-clause-full t c =
     let g : Aig = c.args.graph.now in
     let g2 : Aig = c.balanced_and-in_default.new.graph in
     let lits : List Lit = c.args.lits.now in
-    let h : Halves g lits c.balanced_and.new.graph g2 c.in_ok-x-in_default.x.0 c.in_ok-y-in_default.y.0 =
-    Halves-split g lits c.split_at.result.0.now c.split_at.result.1.now c.balanced_and.new.graph g2 c.in_ok-x-in_default.x.0 c.in_ok-y-in_default.y.0 c.in_default.len_at_least
+    let h = halved g lits c.split_at.result.0.now c.split_at.result.1.now c.balanced_and.new.graph g2 c.in_ok-x-in_default.x.0 c.in_ok-y-in_default.y.0 c.in_default.len_at_least
     (c.split_at.ensures.front ∙ ap (λ n. take n lits) c.div_ceil.ensures) (c.split_at.ensures.back ∙ ap (λ n. drop n lits) c.div_ceil.ensures)
     c.in_ok-x-in_default.ensures.lit c.in_ok-x-in_default.ensures.pairs c.in_ok-y-in_default.ensures.lit c.in_ok-y-in_default.ensures.pairs in
-    let e : and_of g2 c.in_ok-x-in_default.x.0 c.in_ok-y-in_default.y.0 ≡ balanced_and (first_and g) g.pairs lits = and_of-halves _ _ _ _ _ _ h in
+    let e : and_of g2 c.in_ok-x-in_default.x.0 c.in_ok-y-in_default.y.0 ≡ balanced_and (first_and g) g.pairs lits = h.0 in
     let l : length (and_of g2 c.in_ok-x-in_default.x.0 c.in_ok-y-in_default.y.0).pairs ≤ length (balanced_and (first_and g) g.pairs lits).pairs = rw e (omega arith) in
-    full_weaker g2.max g.max _ _ (max-halves _ _ _ _ _ _ h) l (search rules)
+    full_weaker g2.max g.max _ _ h.2 l (search rules)
 
 pub returns-in_ok-lit-in_default-clause-lit : goal.returns-in_ok-lit-in_default-clause-lit
 returns-in_ok-lit-in_default-clause-lit t c =
     let g : Aig = c.args.graph.now in
     let g2 : Aig = c.balanced_and-in_default.new.graph in
     let lits : List Lit = c.args.lits.now in
-    let h : Halves g lits c.balanced_and.new.graph g2 c.in_ok-x-in_default.x.0 c.in_ok-y-in_default.y.0 =
-    Halves-split g lits c.split_at.result.0.now c.split_at.result.1.now c.balanced_and.new.graph g2 c.in_ok-x-in_default.x.0 c.in_ok-y-in_default.y.0 c.in_default.len_at_least
+    let h = halved g lits c.split_at.result.0.now c.split_at.result.1.now c.balanced_and.new.graph g2 c.in_ok-x-in_default.x.0 c.in_ok-y-in_default.y.0 c.in_default.len_at_least
     (c.split_at.ensures.front ∙ ap (λ n. take n lits) c.div_ceil.ensures) (c.split_at.ensures.back ∙ ap (λ n. drop n lits) c.div_ceil.ensures)
     c.in_ok-x-in_default.ensures.lit c.in_ok-x-in_default.ensures.pairs c.in_ok-y-in_default.ensures.lit c.in_ok-y-in_default.ensures.pairs in
-    c.in_ok-lit-in_default.ensures.lit ∙ ap (λ (a : Answer). a.lit) (and_of-halves _ _ _ _ _ _ h)
+    c.in_ok-lit-in_default.ensures.lit ∙ ap (λ (a : Answer). a.lit) h.0
 
 pub returns-in_ok-lit-in_default-clause-pairs : goal.returns-in_ok-lit-in_default-clause-pairs
 returns-in_ok-lit-in_default-clause-pairs t c =
     let g : Aig = c.args.graph.now in
     let g2 : Aig = c.balanced_and-in_default.new.graph in
     let lits : List Lit = c.args.lits.now in
-    let h : Halves g lits c.balanced_and.new.graph g2 c.in_ok-x-in_default.x.0 c.in_ok-y-in_default.y.0 =
-    Halves-split g lits c.split_at.result.0.now c.split_at.result.1.now c.balanced_and.new.graph g2 c.in_ok-x-in_default.x.0 c.in_ok-y-in_default.y.0 c.in_default.len_at_least
+    let h = halved g lits c.split_at.result.0.now c.split_at.result.1.now c.balanced_and.new.graph g2 c.in_ok-x-in_default.x.0 c.in_ok-y-in_default.y.0 c.in_default.len_at_least
     (c.split_at.ensures.front ∙ ap (λ n. take n lits) c.div_ceil.ensures) (c.split_at.ensures.back ∙ ap (λ n. drop n lits) c.div_ceil.ensures)
     c.in_ok-x-in_default.ensures.lit c.in_ok-x-in_default.ensures.pairs c.in_ok-y-in_default.ensures.lit c.in_ok-y-in_default.ensures.pairs in
-    c.in_ok-lit-in_default.ensures.ok ∙ with_pairs-halves _ _ _ _ _ _ _ h ∙ ap (λ (a : Answer). with_pairs g a.pairs) (and_of-halves _ _ _ _ _ _ h)
+    c.in_ok-lit-in_default.ensures.ok ∙ h.1 _ ∙ ap (λ (a : Answer). with_pairs g a.pairs) h.0

@@ -1,9 +1,7 @@
-use Rattle.aig_build.proofs.Common.{◌≡◌, ◌≤◌, List, Some, length, refl, rules, sym, ap, ◌∙◌, subst, arith, slice_get, length-map, In, Net, FlatCoverValue, FlatValue, Lit, Aig, IsLit, first_and, Answer, with_pairs, cover_of, NetLitsValue, net_lit, net_lits, with_cover, gate_of, HoldsNets}
-use Rattle.std.specs.List.{All}
+use Rattle.aig_build.proofs.Common.{◌≡◌, ◌≤◌, List, Some, length, refl, rules, sym, ap, ◌∙◌, subst, arith, slice_get, length-map, In, Net, FlatCoverValue, FlatValue, Lit, Aig, IsLit, first_and, Answer, with_pairs, cover_of, NetLitsValue, net_lit, net_lits, with_cover, gate_of, HoldsNets, All}
 use Rattle.aig_build.proofs.BalancedLemmas.{full_weaker}
 use Rattle.aig_build.proofs.CoverLemmas.{cover_made-grows}
-use Rattle.aig_build.proofs.NetValueLemmas.{behind_width}
-use Rattle.aig_build.proofs.HoldLemmas.{held, held_lits, holds_next, cover_read, gate_at}
+use Rattle.aig_build.proofs.NetValueLemmas.{behind_width, held, held_lits, holds_next, cover_read, gate_at}
 use Rattle.aig_build.proofs.building.make_at.Goals as goal
 
 pub fill-requires : goal.fill-requires
@@ -47,10 +45,9 @@ returns-in_err-lit-clause-full c =
     let nets : NetLitsValue = c.args.nets.now in
     let g : Aig = c.args.graph.now in
     let fc : FlatCoverValue = c.index-flat_cover.result.now in
-    let at : slice_get flat.covers c.args.k ≡ Some fc = cover_read flat c.flat.inside.covers.items c.args.k fc (ap (λ (f : FlatValue). f.covers) c.flat.view_is) c.index-flat_cover.ensures c.requires.there in
     let lits : c.deref-2.result.now ≡ net_lits nets fc.inputs =
     c.deref-2.ensures.value ∙ c.in_ok-fill.ensures ∙ ap (net_lits nets) (c.deref.ensures.value ∙ ap (λ (x : FlatCoverValue). x.inputs) c.flat_cover.view_is) in
-    let made : gate_of c.args.library.now flat g nets c.args.k ≡ cover_of g c.cover.result.now c.deref-2.result.now = gate_at c.args.library.now flat g nets c.args.k fc c.cover.result.now c.deref-2.result.now at c.cover.ensures lits in
+    let made = gate_at c.args.library.now flat g nets c.args.k c.flat.inside.covers.items fc c.cover.result.now _ (ap (λ (f : FlatValue). f.covers) c.flat.view_is) c.index-flat_cover.ensures c.requires.there c.cover.ensures lits in
     let l : length (cover_of g c.cover.result.now c.deref-2.result.now).pairs ≤ length (gate_of c.args.library.now flat g nets c.args.k).pairs = rw made (omega arith) in
     full_weaker g.max g.max _ _ refl l (search rules)
 
@@ -60,10 +57,9 @@ returns-clause-pairs c =
     let nets : NetLitsValue = c.args.nets.now in
     let g : Aig = c.args.graph.now in
     let fc : FlatCoverValue = c.index-flat_cover.result.now in
-    let at : slice_get flat.covers c.args.k ≡ Some fc = cover_read flat c.flat.inside.covers.items c.args.k fc (ap (λ (f : FlatValue). f.covers) c.flat.view_is) c.index-flat_cover.ensures c.requires.there in
     let lits : c.deref-2.result.now ≡ net_lits nets fc.inputs =
     c.deref-2.ensures.value ∙ c.in_ok-fill.ensures ∙ ap (net_lits nets) (c.deref.ensures.value ∙ ap (λ (x : FlatCoverValue). x.inputs) c.flat_cover.view_is) in
-    let made : gate_of c.args.library.now flat g nets c.args.k ≡ cover_of g c.cover.result.now c.deref-2.result.now = gate_at c.args.library.now flat g nets c.args.k fc c.cover.result.now c.deref-2.result.now at c.cover.ensures lits in
+    let made = gate_at c.args.library.now flat g nets c.args.k c.flat.inside.covers.items fc c.cover.result.now _ (ap (λ (f : FlatValue). f.covers) c.flat.view_is) c.index-flat_cover.ensures c.requires.there c.cover.ensures lits in
     c.in_ok-lit.ensures.pairs ∙ ap (λ (a : Answer). with_pairs g a.pairs) (sym made)
 
 pub returns-clause-nets : goal.returns-clause-nets
@@ -72,10 +68,9 @@ returns-clause-nets c =
     let nets : NetLitsValue = c.args.nets.now in
     let g : Aig = c.args.graph.now in
     let fc : FlatCoverValue = c.index-flat_cover.result.now in
-    let at : slice_get flat.covers c.args.k ≡ Some fc = cover_read flat c.flat.inside.covers.items c.args.k fc (ap (λ (f : FlatValue). f.covers) c.flat.view_is) c.index-flat_cover.ensures c.requires.there in
     let lits : c.deref-2.result.now ≡ net_lits nets fc.inputs =
     c.deref-2.ensures.value ∙ c.in_ok-fill.ensures ∙ ap (net_lits nets) (c.deref.ensures.value ∙ ap (λ (x : FlatCoverValue). x.inputs) c.flat_cover.view_is) in
-    let made : gate_of c.args.library.now flat g nets c.args.k ≡ cover_of g c.cover.result.now c.deref-2.result.now = gate_at c.args.library.now flat g nets c.args.k fc c.cover.result.now c.deref-2.result.now at c.cover.ensures lits in
+    let made = gate_at c.args.library.now flat g nets c.args.k c.flat.inside.covers.items fc c.cover.result.now _ (ap (λ (f : FlatValue). f.covers) c.flat.view_is) c.index-flat_cover.ensures c.requires.there c.cover.ensures lits in
     c.set_cover.ensures ∙ ap (λ n. with_cover nets c.args.k (record { 0 = n })) (c.in_ok-lit.ensures.lit ∙ ap (λ (a : Answer). a.lit) (sym made))
 
 pub returns-clause-holds : goal.returns-clause-holds

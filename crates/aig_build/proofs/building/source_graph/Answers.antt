@@ -1,5 +1,4 @@
-use Rattle.aig_build.proofs.Common.{◌≡◌, ◌+◌, ◌-◌, ◌≤◌, ℕ, List, [], ◌++◌, IfOk, length, replicate, vec_len, ap, ◌∙◌, subst, arith, FlatValue, Param, ParamsValue, param_names, regular_names, Kind, Regular, Parameter, MOST_NODES, input_names, source_kinds, NetLitsValue}
-use Rattle.std.proofs.lemmas.List.{length-map, length-append, length-replicate}
+use Rattle.aig_build.proofs.Common.{◌≡◌, ◌+◌, ◌-◌, ◌≤◌, ℕ, List, [], ◌++◌, IfOk, length, replicate, vec_len, ap, ◌∙◌, subst, arith, FlatValue, Param, ParamsValue, param_names, regular_names, Kind, Regular, Parameter, MOST_NODES, input_names, source_kinds, NetLitsValue, length-map, length-append, length-replicate}
 use Rattle.aig_build.proofs.SourceLemmas.{start_latches, few_regular}
 use Rattle.aig_build.proofs.building.source_graph.Goals as goal
 
@@ -34,14 +33,9 @@ make-requires c =
     let ps : List Kind = replicate c.len-params.result Parameter in
     let ls : List Kind = replicate c.len.result Regular in
     let n : vec_len c.in_ok-kinds.kinds ≡ length (rs ++ (ps ++ ls)) = c.in_ok-kinds.kinds.ok.0 ∙ ap length c.in_ok-kinds.ensures in
-    let n1 : length (rs ++ (ps ++ ls)) ≡ length rs + length (ps ++ ls) = length-append rs (ps ++ ls) in
-    let n2 : length (ps ++ ls) ≡ length ps + length ls = length-append ps ls in
-    let m1 : length rs ≡ c.first_latch.result - 1 - c.len-params.result = length-replicate r Regular in
-    let m2 : length ps ≡ c.len-params.result = length-replicate c.len-params.result Parameter in
-    let m3 : length ls ≡ c.len.result = length-replicate c.len.result Regular in
     let few : length params ≤ 65535 = c.requires.params.named.few in
     let most : length (regular_names flat params) ≤ length flat.inputs = few_regular flat params c.requires.once c.requires.params in
-    omega (arith, c.requires.few, c.requires.few_latches)
+    omega (arith, c.requires.few, c.requires.few_latches, length-append {A = Kind}, length-replicate {A = Kind})
 
 pub returns : goal.returns
 returns c =

@@ -1,6 +1,6 @@
 use Rattle.aiger_io.proofs.Common.{◌≡◌, ℕ, List, true, map, drop, codes, Bor, Some, sym, ◌∙◌, ap, subst, bytes_decides, bytes_eq, Vec, option_map, not-false, drop_get, capped_numbers, header_by}
 use Rattle.std.specs.Global.{Global}
-use Rattle.aiger_io.proofs.ReadLemmas.{words_capped, answer_is}
+use Rattle.aiger_io.proofs.LineLemmas.{words_capped, answer_is}
 use Rattle.aiger_io.proofs.header.header_of_words.Goals as goal
 
 pub returns-in-None : goal.returns-in-None

@@ -1,4 +1,4 @@
-use Rattle.std.proofs.Common.{arith}
+use Rattle.aiger_io.proofs.Common.{arith}
 use Rattle.aiger_io.proofs.GraphRunLemmas.{graphs_circuit}
 use Rattle.aiger_io.proofs.law.graph_law.Goals as goal
 

@@ -1,4 +1,4 @@
-use Rattle.std.proofs.Common.{◌-◌, length, arith}
+use Rattle.aiger_io.proofs.Common.{◌-◌, length, arith}
 use Rattle.aiger_io.proofs.RowLemmas.{rows_cut}
 use Rattle.aiger_io.proofs.rows.rows_behind.Goals as goal
 

@@ -1,4 +1,4 @@
-use Rattle.std.proofs.Common.{◌≡◌, ℕ, ◌<◌, eqb, false, get_or}
+use Rattle.aiger_io.proofs.Common.{◌≡◌, ℕ, ◌<◌, eqb, false, get_or}
 use Rattle.aiger_io.proofs.symbol.blank_place.Given as goal
 
 abbrev pub invariant-loop-i : goal.invariant-loop-i

@@ -1,4 +1,4 @@
-use Rattle.tl_piece.proofs.AddedLemmas.{added_twice}
+use Rattle.aiger_io.proofs.Common.{added_twice}
 use Rattle.aiger_io.proofs.written_line.add_number.Goals as goal
 
 pub returns : goal.returns

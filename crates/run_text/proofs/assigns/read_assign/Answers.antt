@@ -1,5 +1,5 @@
 use Rattle.run_text.proofs.Common.{◌≡◌, ℕ, true, false, List, Some, is_some, sym, ap, ◌∙◌, option_map, has_name, place_some, place_none, place_of, assigned, NotParameter, RepeatedInSet}
-use Rattle.run_text.proofs.SettingLemmas.{no_parameter, repeated, passed}
+use Rattle.run_text.proofs.ScriptReadLemmas.{no_parameter, repeated, passed}
 use Rattle.run_text.proofs.assigns.read_assign.Goals as goal
 
 pub returns-in_default : goal.returns-in_default

@@ -1,5 +1,5 @@
 use Rattle.run_text.proofs.Common.{rules, take_rest}
-use Rattle.run_text.proofs.SettingLemmas.{split_none, split_there}
+use Rattle.run_text.proofs.ScriptReadLemmas.{split_none, split_there}
 use Rattle.run_text.proofs.setting.split_last.Goals as goal
 
 pub returns-in-None : goal.returns-in-None

@@ -12,6 +12,5 @@ returns-clause-gates c =
     subst (λ (gates : List Gate). AreGatesAt (paths_of c.args.instances.now) gates (places_at c.args.library.now (kind_test c.args.kind) (paths_of c.args.instances.now))) (sym listed) (all_gates c.args.library.now c.args.instances.now c.requires.instances (kind_test c.args.kind))
 
 pub returns-clause-few : goal.returns-clause-few
-returns-clause-few c =
-    few_gates c.args.library.now c.args.instances.now c.requires.instances c.requires.light c.args.kind c.loop-row.gates.items
+returns-clause-few c = few_gates c.args.library.now c.args.instances.now c.requires.instances c.requires.light c.args.kind c.loop-row.gates.items
     (all_listed c.args.library.now.models (kind_test c.args.kind) c.args.instances.now c.loop-row.row c.loop-row.gates.items c.loop-row.invariant (omega arith))

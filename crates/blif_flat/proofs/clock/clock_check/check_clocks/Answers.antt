@@ -4,8 +4,7 @@ use Rattle.blif_flat.proofs.Faults.FaultOnceLemmas.{controls_refused, data_refus
 use Rattle.blif_flat.proofs.clock.clock_check.check_clocks.Goals as goal
 
 pub returns-in_err-control-clause-err : goal.returns-in_err-control-clause-err
-returns-in_err-control-clause-err c =
-    passed_on c.from_residual.result c.in_err-control.field-0.0 _ _ c.from_residual.ensures.1
+returns-in_err-control-clause-err c = passed_on c.from_residual.result c.in_err-control.field-0.0 _ _ c.from_residual.ensures.1
     (controls_refused c.args.library.now c.args.circuit.now.instances.items c.requires.circuit.instances c.requires.connected c.in_err-control.field-0.0
     (subst (λ instances. OrMemory refusal_of (λ r. Clocks c.args.library.now None (places_at c.args.library.now is_latch (paths_of instances)) (Some r)) c.in_err-control.field-0.0) c.deref.ensures.value c.in_err-control.ensures.err))
 

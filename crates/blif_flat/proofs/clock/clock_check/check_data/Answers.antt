@@ -13,11 +13,9 @@ returns-in_err-check_gate-clause-err c =
     let p = data_place c.args.library.now c.requires.driven c.args.wiring.now.instances.now c.requires.instances c.args.wiring.now.nets.now c.requires.nets c.args.wiring.now.inputs.now c.requires.inputs c.args.marks.now c.requires.marks
     c.args.gates.now c.requires.gates c.loop-gate.gate-index g at in
     passed_on c.from_residual.result c.in_err-check_gate.field-0.0 _ _ c.from_residual.ensures.1
-    (Unless-map (refusal_of c.in_err-check_gate.field-0.0) _ _
-    (λ e main first. c.loop-gate.invariant main (Some c.in_err-check_gate.field-0.0) first
+    (Unless-map (refusal_of c.in_err-check_gate.field-0.0) _ _ (λ e main first. c.loop-gate.invariant main (Some c.in_err-check_gate.field-0.0) first
     (gate_data_refused c.args.library.now c.requires.driven c.args.wiring.now.instances.now c.requires.instances c.args.wiring.now.nets.now c.requires.nets c.args.wiring.now.inputs.now c.requires.inputs c.args.marks.now c.requires.marks
-    c.args.gates.now c.requires.gates c.loop-gate.gate-index g at c.in_err-check_gate.field-0.0 e main))
-    (c.in_err-check_gate.ensures p.place p.is))
+    c.args.gates.now c.requires.gates c.loop-gate.gate-index g at c.in_err-check_gate.field-0.0 e main)) (c.in_err-check_gate.ensures p.place p.is))
 
 pub loop-gate-preserved : goal.loop-gate-preserved
 loop-gate-preserved c =

@@ -43,17 +43,14 @@ pub returns-in_err-keep_input-in-Some-Input-clause-err : goal.returns-in_err-kee
 returns-in_err-keep_input-in-Some-Input-clause-err c = passed_on c.from_residual.result c.in_err-keep_input-in-Some-Input.field-0.0 _ _ c.from_residual.ensures.1
     (Unless-map (refusal_of c.in_err-keep_input-in-Some-Input.field-0.0) _ _
     (λ s path at. met_another c.args.library.now c.args.wiring.now.instances.now c.requires.instances c.args.wiring.now.nets.now c.requires.nets c.args.row c.args.control.now c.args.wiring.now.inputs.now c.requires.inputs path at c.args.first c.in-Some-Input.j c.in_err-keep_input-in-Some-Input.field-0.0
-    (at_input (goal.at.returns-in_err-keep_input-in-Some-Input-clause-err c).In-Some-Input) s)
-    c.in_err-keep_input-in-Some-Input.ensures.err)
+    (at_input (goal.at.returns-in_err-keep_input-in-Some-Input-clause-err c).In-Some-Input) s) c.in_err-keep_input-in-Some-Input.ensures.err)
 
-pub returns-in_ok-write_latch-in-Some-Latch-clause-err :
-    goal.returns-in_ok-write_latch-in-Some-Latch-clause-err
+pub returns-in_ok-write_latch-in-Some-Latch-clause-err : goal.returns-in_ok-write_latch-in-Some-Latch-clause-err
 returns-in_ok-write_latch-in-Some-Latch-clause-err c = λ path at.
     met_latch c.args.library.now c.args.wiring.now.instances.now c.requires.instances c.args.wiring.now.nets.now c.requires.nets c.args.row c.args.control.now c.args.wiring.now.inputs.now c.requires.inputs path at c.args.first c.in-Some-Latch.k
     c.in_ok-write_latch-in-Some-Latch.field-0 (at_latch (goal.at.returns-in_ok-write_latch-in-Some-Latch-clause-err c).In-Some-Latch) c.in_ok-write_latch-in-Some-Latch.ensures
 
-pub returns-in_ok-written_cover-in-Some-Cover-clause-err :
-    goal.returns-in_ok-written_cover-in-Some-Cover-clause-err
+pub returns-in_ok-written_cover-in-Some-Cover-clause-err : goal.returns-in_ok-written_cover-in-Some-Cover-clause-err
 returns-in_ok-written_cover-in-Some-Cover-clause-err c = λ path at.
     met_cover c.args.library.now c.args.wiring.now.instances.now c.requires.instances c.args.wiring.now.nets.now c.requires.nets c.args.row c.args.control.now c.args.wiring.now.inputs.now c.requires.inputs path at c.args.first c.in-Some-Cover.k
     c.in_ok-written_cover-in-Some-Cover.field-0 (at_cover (goal.at.returns-in_ok-written_cover-in-Some-Cover-clause-err c).In-Some-Cover) c.in_ok-written_cover-in-Some-Cover.ensures

@@ -18,5 +18,4 @@ returns-in-None c = IfOk-weaker c.make.result _ _
 pub returns-in-Some : goal.returns-in-Some
 returns-in-Some c = IfOk-weaker c.write_net.result _ _
     (λ text h p e. latch_written c.args.library.now c.args.instances.now c.requires.instances c.args.latches.now c.requires.latches c.args.k c.gate_at-gate.result c.gate_at-gate.ensures p e text c.in-Some.latch.now
-    c.in-Some.ensures h)
-    c.write_net.ensures
+    c.in-Some.ensures h) c.write_net.ensures

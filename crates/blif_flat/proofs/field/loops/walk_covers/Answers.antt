@@ -1,9 +1,9 @@
-use Rattle.blif_flat.proofs.Common.{◌∙◌, ap, length, reverse, subst, WalkValue, Searched}
-use Rattle.blif_flat.proofs.Fields.NumberWalkLemmas.{range_below, new_ready, loop_of_roots, loop_of_others, order_of_roots}
+use Rattle.blif_flat.proofs.Common.{◌∙◌, ap, length, reverse, subst, WalkValue, Searched, sym, IsReady, refl}
+use Rattle.blif_flat.proofs.Fields.NumberWalkLemmas.{range_below, loop_of_roots, loop_of_others, order_of_roots}
 use Rattle.blif_flat.proofs.field.loops.walk_covers.Goals as goal
 
 pub find_loop-requires-clause-ready : goal.find_loop-requires-clause-ready
-find_loop-requires-clause-ready c = new_ready c.args.covers.now c.in_ok-walk.walk c.in_ok-walk.ensures
+find_loop-requires-clause-ready c = subst (IsReady c.args.covers.now) (sym c.in_ok-walk.ensures) (record { count = refl; settled = tt; path = refl })
 
 pub returns-in-Some : goal.returns-in-Some
 returns-in-Some c = loop_of_roots c.args.covers.now c.args.roots.now c.in-Some.nodes.items

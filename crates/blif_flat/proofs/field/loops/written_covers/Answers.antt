@@ -1,9 +1,10 @@
-use Rattle.blif_flat.proofs.Common.{get_or, slice_get-get_or, In-get, is_cover, places_at, paths_of}
-use Rattle.blif_flat.proofs.Fields.LoopOrderLemmas.{written_start, written_next}
+use Rattle.blif_flat.proofs.Common.{get_or, slice_get-get_or, In-get, is_cover, places_at, paths_of, sym, subst, AreWritten, refl, []}
+use Rattle.blif_flat.proofs.Fields.LoopOrderLemmas.{written_next}
 use Rattle.blif_flat.proofs.field.loops.written_covers.Goals as goal
+use Rattle.blif_flat.specs.LoopFault.{none}
 
 pub loop-number-init : goal.loop-number-init
-loop-number-init c = written_start c.args.library.now (places_at c.args.library.now is_cover (paths_of c.args.instances.now)) c.new-texts.result.items c.new-texts.ensures.items
+loop-number-init c = record { places = []; at = refl; written = subst (AreWritten c.args.library.now []) (sym c.new-texts.ensures.items) none }
 
 pub written_cover-requires-clause-here : goal.written_cover-requires-clause-here
 written_cover-requires-clause-here c = c.requires.here (get_or c.args.numbers.now c.loop-number.number-index 0)

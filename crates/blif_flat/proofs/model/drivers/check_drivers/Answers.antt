@@ -1,4 +1,4 @@
-use Rattle.tl_fault.proofs.PassedOn.{passed_on}
+use Rattle.blif_flat.proofs.Common.{passed_on}
 use Rattle.blif_flat.proofs.Models.DrivenLemmas.{models_split, told, gone_on}
 use Rattle.blif_flat.proofs.model.drivers.check_drivers.Goals as goal
 

@@ -3,8 +3,7 @@ use Rattle.blif_flat.proofs.Models.DrivenLemmas.{drive_split, names_split, told,
 use Rattle.blif_flat.proofs.model.drivers.drive_actuals.Goals as goal
 
 pub returns-in_err-drive_actual : goal.returns-in_err-drive_actual
-returns-in_err-drive_actual c = λ child p.
-    passed_on c.from_residual.result c.in_err-drive_actual.field-0.0 _ _ c.from_residual.ensures.1
+returns-in_err-drive_actual c = λ child p. passed_on c.from_residual.result c.in_err-drive_actual.field-0.0 _ _ c.from_residual.ensures.1
     (told c.in_err-drive_actual.field-0.0 _ _ _ _ (drive_split child c.args.site.now.model.now c.args.site.now.line c.loop-pair.driven c.args.pairs.now c.loop-pair.pair-index c.pair-item.result c.loop-pair-test.true c.pair-item.is)
     (c.loop-pair.invariant child p).0 (c.in_err-drive_actual.ensures child p))
 

@@ -1,4 +1,4 @@
-use Rattle.list_laws.proofs.Items.{member_at}
+use Rattle.blif_flat.proofs.Common.{member_at}
 use Rattle.blif_flat.proofs.model.ports.all_ports.Goals as goal
 
 pub make-requires : goal.make-requires

@@ -1,5 +1,5 @@
-use Rattle.blif_flat.proofs.Common.{◌≡◌, [], with_names, model_names}
-use Rattle.blif_flat.proofs.Models.NameSetLemmas.{same_model_names, few_model_names, all_names}
+use Rattle.blif_flat.proofs.Common.{◌≡◌, [], with_names, model_names, ◌∙◌, new_names}
+use Rattle.blif_flat.proofs.Models.NameSetLemmas.{few_model_names, all_names}
 use Rattle.blif_flat.proofs.model.ports.ModelIndex.make.Goals as goal
 
 pub invariant_of-result : goal.invariant_of-result
@@ -10,4 +10,4 @@ invariant_of-result c =
 pub returns : goal.returns
 returns c =
     let e : c.loop-model.names ≡ with_names [] (model_names c.args.models.now) = all_names c.loop-model.names (with_names [] (model_names c.args.models.now)) c.args.models.now c.loop-model.model-index c.loop-model.invariant c.loop-model-test.false in
-    same_model_names c.loop-model.names c.args.models.now e c.requires.once
+    e ∙ new_names (model_names c.args.models.now) c.requires.once
