@@ -140,31 +140,25 @@ covers_portless p number (c ∷ cs) =
 -- the names of the `.inputs` lines, and what other lines have
 abbrev own_ports : Ports → List (List (List ℕ)) → List (List ℕ)
 own_ports input_ports inputs = flat_map (λ (names : List (List ℕ)). names) inputs
-own_ports output_ports inputs = []
-own_ports clock_ports inputs = []
+own_ports p inputs = []
 
 inputs_named : (p : Ports) (number : ℕ) (inputs : List (List (List ℕ))) → names_in p (statements_of number (map (λ names. codes ".inputs" ∷ names) inputs)) ≡ own_ports p inputs
 inputs_named input_ports number [] = refl
-inputs_named output_ports number [] = refl
-inputs_named clock_ports number [] = refl
 inputs_named input_ports number (names ∷ inputs) = ap (λ (t : List (List ℕ)). names ++ t) (inputs_named input_ports (suc number) inputs)
-inputs_named output_ports number (names ∷ inputs) = inputs_named output_ports (suc number) inputs
-inputs_named clock_ports number (names ∷ inputs) = inputs_named clock_ports (suc number) inputs
+inputs_named p number [] = refl
+inputs_named p number (names ∷ inputs) = inputs_named p (suc number) inputs
 
 abbrev outputs_ports : Ports → List (List ℕ) → List (List ℕ)
-outputs_ports input_ports outputs = []
 outputs_ports output_ports outputs = outputs
-outputs_ports clock_ports outputs = []
+outputs_ports p outputs = []
 
 outputs_named : (p : Ports) (number : ℕ) (outputs : List (List ℕ)) (lines : List (List (List ℕ))) → ((k : ℕ) → names_in p (statements_of k lines) ≡ []) → names_in p (statements_of number ((codes ".outputs" ∷ outputs) ∷ lines)) ≡ outputs_ports p outputs
-outputs_named input_ports number outputs lines rest = rest (suc number)
 outputs_named output_ports number outputs lines rest = ap (λ (t : List (List ℕ)). outputs ++ t) (rest (suc number)) ∙ append-nil outputs
-outputs_named clock_ports number outputs lines rest = rest (suc number)
+outputs_named p number outputs lines rest = rest (suc number)
 
 ports_both : (p : Ports) (n : PlainNetlist) → own_ports p n.inputs ++ outputs_ports p n.outputs ≡ ports_of p (model_of n)
 ports_both input_ports n = append-nil (all_inputs n)
-ports_both output_ports n = refl
-ports_both clock_ports n = refl
+ports_both p n = refl
 
 ports_are : (n : PlainNetlist) (p : Ports) → ports_of p (model_of n) ≡ names_in p (statements_of 2 (body_lines n))
 ports_are n p =
@@ -199,8 +193,7 @@ output_clean false = word_clean (codes "0") (omega arith) refl
 cells_ordinary : (cells : List Cell) → list_any is_special (map cell_character cells) ≡ false
 cells_ordinary [] = refl
 cells_ordinary (Zero ∷ cells) = cells_ordinary cells
-cells_ordinary (One ∷ cells) = cells_ordinary cells
-cells_ordinary (Any ∷ cells) = cells_ordinary cells
+cells_ordinary (cell ∷ cells) = cells_ordinary cells
 
 headed : (word : List ℕ) (words : List (List ℕ)) → IsClean word → ((w : List ℕ) → In words w → IsClean w) → IsWritable (word ∷ words)
 headed word words c h w (inl e) = subst IsClean (sym e) c

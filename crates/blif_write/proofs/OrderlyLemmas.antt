@@ -1,11 +1,10 @@
 -- A written netlist is orderly: each name that it reads has one driver, and its LUTs are in order.
-use Rattle.blif_write.proofs.Common.{◌≡◌, ◌⊎◌, ℕ, suc, ◌+◌, ◌-◌, ◌*◌, ◌/◌, ◌%◌, ◌^◌, ◌<◌, ◌≤◌, Bool, true, false, cond, eqb, nat_le, IsTrue, List, [], ◌∷◌, ◌++◌, length, map, get_or, slice_get, bytes_eq, Some, refl, sym, ap, subst, ◌∙◌, inl, inr, arith, flat_map, map-append, leb-true, le-leb, and_parts, same_Some, bytes_eq-Decides, In, In-append, In-left, In-right, In-get, In-get_or, In-map, from_map, IsClean, AreOnce, LatchValue, CoverValue, IsWellFormedBody, OutPort, FlatValue, underscores, Param, Lit, Lut, HasLut, TemplateValue, is_regular, is_plain, false_from_ne_true, joined_apart, Cover, Latch, PlainNetlist, IsPlain, all_inputs, read_latch, Naming, naming_of, own_name, table_name, latch_name, bit_name, source_name, literal_name, leaf_names, wire_of, wires, written_latches, control_names, with_tables, HasPorts, AreTablesOf}
+use Rattle.blif_write.proofs.Common.{◌≡◌, ◌⊎◌, ℕ, suc, ◌+◌, ◌-◌, ◌*◌, ◌/◌, ◌%◌, ◌^◌, ◌<◌, ◌≤◌, Bool, true, false, cond, eqb, nat_le, IsTrue, List, [], ◌∷◌, ◌++◌, length, map, get_or, slice_get, bytes_eq, Some, refl, sym, ap, subst, ◌∙◌, inl, inr, arith, flat_map, map-append, leb-true, le-leb, and_parts, same_Some, bytes_eq-Decides, In, In-append, In-left, In-right, In-get, In-get_or, In-map, from_map, IsClean, AreOnce, LatchValue, CoverValue, IsWellFormedBody, OutPort, FlatValue, underscores, Param, Lit, Lut, HasLut, TemplateValue, is_regular, is_plain, false_from_ne_true, joined_apart, Cover, Latch, PlainNetlist, IsPlain, all_inputs, read_latch, Naming, naming_of, own_name, table_name, latch_name, bit_name, source_name, literal_name, leaf_names, wire_of, wires, written_latches, control_names, with_tables, HasPorts, AreTablesOf, map-map}
 use Rattle.blif_write.proofs.PlainCycleLemmas.{IsControlName}
 use Rattle.blif_write.proofs.PlainSoundLemmas.{body_output, command_outputs, IsOrderly}
 use Rattle.blif_write.proofs.OwnNameLemmas.{own_under, no_port_name, own_letter, own_number, plain_even, table_literal}
 use Rattle.blif_write.proofs.TableCycleLemmas.{regular_parts, name_input, latch_named, latch_written, latch_next}
-use Rattle.blif_write.proofs.PartLemmas.{AreCovers, in_lits, outputs_clean, later_wire, latch_outputs_are, cover_outputs_are, table_outputs_are, rank_in, rank_of, rank_there, in_control, control_once, regular_once, wire_formed, in_lines, control_named_in}
-use Rattle.blif_write.proofs.DrivenLemmas.{own_clean, latch_output, latches_once, table_names, tables_once, IsWire, wires_there, wires_once}
+use Rattle.blif_write.proofs.PartLemmas.{AreCovers, outputs_clean, later_wire, table_outputs_are, rank_in, rank_of, rank_there, in_control, control_once, regular_once, wire_formed, in_lines, control_named_in, own_clean, latch_output, latches_once, table_names, tables_once, IsWire, wires_there, wires_once}
 
 module _ (flat : FlatValue) (params : List Param) (t : TemplateValue) (bits : List (List (List ℕ))) (table : Lut → CoverValue) (ports : HasPorts flat) (are : AreTablesOf flat params t)
     (covers : AreCovers (naming_of flat params) t.luts bits table) where
@@ -32,8 +31,8 @@ module _ (flat : FlatValue) (params : List Param) (t : TemplateValue) (bits : Li
       let ls : List LatchValue = written_latches g flat.control 0 flat.latches t.next in
       let cs : List CoverValue = map table t.luts ++ wires g flat.outputs t.outputs in
       map-append body_output (map (λ (l : LatchValue). Latch (read_latch l)) ls) (map (λ (c : CoverValue). Cover c) cs)
-      ∙ ap (λ (k : List (List ℕ)). k ++ map body_output (map (λ (c : CoverValue). Cover c) cs)) (latch_outputs_are ls)
-      ∙ ap (λ (k : List (List ℕ)). latch_names ++ k) (cover_outputs_are cs ∙ map-append (λ (c : CoverValue). c.output) (map table t.luts) (wires g flat.outputs t.outputs)
+      ∙ ap (λ (k : List (List ℕ)). k ++ map body_output (map (λ (c : CoverValue). Cover c) cs)) (map-map body_output (λ (l : LatchValue). Latch (read_latch l)) ls)
+      ∙ ap (λ (k : List (List ℕ)). latch_names ++ k) (map-map body_output (λ (c : CoverValue). Cover c) cs ∙ map-append (λ (c : CoverValue). c.output) (map table t.luts) (wires g flat.outputs t.outputs)
       ∙ ap (λ (k : List (List ℕ)). k ++ wire_names) (table_outputs_are g table t.luts covers.output))
 
   -- of which kind the names are
@@ -200,10 +199,10 @@ module _ (flat : FlatValue) (params : List Param) (t : TemplateValue) (bits : Li
 
   -- roots
   output_root : (lit : Lit) → In t.outputs lit → LitIs lit.0
-  output_root lit i = lit_is lit.0 (are.playable.outputs lit.0 (in_lits t.outputs lit i))
+  output_root lit i = lit_is lit.0 (are.playable.outputs lit.0 (In-map (λ (l : Lit). l.0) t.outputs lit i))
 
   next_root : (lit : Lit) → In t.next lit → LitIs lit.0
-  next_root lit i = lit_is lit.0 (are.playable.next lit.0 (in_lits t.next lit i))
+  next_root lit i = lit_is lit.0 (are.playable.next lit.0 (In-map (λ (l : Lit). l.0) t.next lit i))
 
   -- a cover is a table's or a wire
   data CoverIs (c : CoverValue) : Type 0 where

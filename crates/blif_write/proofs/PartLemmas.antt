@@ -1,8 +1,96 @@
--- The parts of a written netlist: what its commands are named, and the ranks of the names.
-use Rattle.blif_write.proofs.Common.{◌≡◌, ◌⊎◌, ℕ, suc, ◌^◌, ◌<◌, Bool, true, false, not, cond, nat_le, List, [], ◌∷◌, length, map, bytes_eq, Option, Some, None, refl, sym, ap, subst, ◌∙◌, inl, inr, flat_map, none-some, same_Some, bytes_eq-Decides, In, In-left, In-right, from_map, AreOnce, LatchValue, RowValue, CoverValue, IsWellFormedBody, FlatValue, underscores, Param, regular_names, param_names, has_name, Lut, map-append, IsClean, Lit, lits_of, OutPort, filtered_apart, Cover, Latch, read_latch, Naming, table_name, literal_name, bit_name, wire_of, control_names, wire, wires, leaf_names}
+-- The parts of a written netlist: what its commands are named, of which kind the names are, that each occurs once, and their ranks.
+use Rattle.blif_write.proofs.Common.{◌≡◌, ◌⊎◌, ℕ, suc, ◌^◌, ◌<◌, Bool, true, false, not, cond, nat_le, List, [], ◌∷◌, length, map, bytes_eq, Option, Some, None, refl, sym, ap, subst, ◌∙◌, inl, inr, flat_map, none-some, same_Some, bytes_eq-Decides, In, In-left, In-right, from_map, AreOnce, LatchValue, RowValue, CoverValue, IsWellFormedBody, FlatValue, underscores, Param, regular_names, param_names, has_name, Lut, map-append, IsClean, Lit, lits_of, OutPort, filtered_apart, Cover, Latch, read_latch, Naming, table_name, literal_name, bit_name, wire_of, control_names, wire, wires, leaf_names, ◌+◌, ◌≤◌, ◌++◌, slice_get, arith, decimal, In-append, FlatLatch, AscendByLit, is_special, ordinary_clean, marked_ordinary, decimal_ordinary, own_name, latch_name, written_latches}
 use Rattle.blif_write.proofs.PlainSoundLemmas.{body_output}
 use Rattle.blif_write.proofs.OwnNameLemmas.{own_number}
-use Rattle.blif_write.proofs.DrivenLemmas.{table_names}
+
+-- own names are clean
+pub own_clean : (g : Naming) (letter number : ℕ) → is_special letter ≡ false → number < 2 ^ 64 → IsClean (own_name g letter number)
+own_clean g letter number h small = ordinary_clean (own_name g letter number) (omega arith) (marked_ordinary (suc g.under) letter (decimal number) h (decimal_ordinary number small))
+
+-- latches
+pub latch_output : (g : Naming) (control : Option (List ℕ)) (ordinal : ℕ) (ls : List FlatLatch) (nexts : List Lit) (name : List ℕ) → In (map (λ (l : LatchValue). l.output) (written_latches g control ordinal ls nexts)) name
+    → (j : ℕ) × (ordinal ≤ j) × (j < ordinal + length ls) × (name ≡ latch_name g j)
+latch_output g control ordinal (l ∷ ls) (next ∷ nexts) name (inl e) = (ordinal, omega arith, omega arith, e)
+latch_output g control ordinal (l ∷ ls) (next ∷ nexts) name (inr i) =
+    let r : (j : ℕ) × (suc ordinal ≤ j) × (j < suc ordinal + length ls) × (name ≡ latch_name g j) = latch_output g control (suc ordinal) ls nexts name i in
+    (r.0, omega (arith, r.1), omega (arith, r.2), r.3)
+latch_output g control ordinal ls nexts name i = elim i [ ]
+
+pub latches_once : (g : Naming) (control : Option (List ℕ)) (ordinal : ℕ) (ls : List FlatLatch) (nexts : List Lit) → ordinal + length ls < 2 ^ 64 → AreOnce (map (λ (l : LatchValue). l.output) (written_latches g control ordinal ls nexts))
+latches_once g control ordinal (l ∷ ls) (next ∷ nexts) small = (
+  λ i. let r : (j : ℕ) × (suc ordinal ≤ j) × (j < suc ordinal + length ls) × (latch_name g ordinal ≡ latch_name g j) = latch_output g control (suc ordinal) ls nexts (latch_name g ordinal) i in
+      let same : ordinal ≡ r.0 = own_number g 108 ordinal r.0 (omega (arith, small)) (omega (arith, small, r.2)) r.3 in
+      omega (arith, same, r.1),
+  latches_once g control (suc ordinal) ls nexts (omega (arith, small)),
+)
+latches_once g control ordinal ls nexts small = tt
+
+-- tables
+abbrev pub table_names : Naming → List Lut → List (List ℕ)
+table_names g luts = map (λ (u : Lut). table_name g u.lit.0) luts
+
+pub tables_once : (g : Naming) (luts : List Lut) → ((u : Lut) → In luts u → u.lit.0 < 2 ^ 64) → AscendByLit luts → AreOnce (table_names g luts)
+tables_once g [] small h = tt
+tables_once g (t ∷ ts) small h = (
+  λ i. let r : (u : Lut) × In ts u × (table_name g t.lit.0 ≡ table_name g u.lit.0) = from_map (λ (u : Lut). table_name g u.lit.0) ts (table_name g t.lit.0) i in
+      let same : t.lit.0 ≡ r.0.lit.0 = own_number g 110 t.lit.0 r.0.lit.0 (small t (inl refl)) (small r.0 (inr r.1)) r.2 in
+      let more : t.lit.0 < r.0.lit.0 = h.0 r.0 r.1 in
+      omega (arith, same, more),
+  tables_once g ts (λ u i. small u (inr i)) h.1,
+)
+
+-- wires
+pub record IsWire (g : Naming) (os : List OutPort) (lits : List Lit) (c : CoverValue) : Type 0 where
+  pub output : OutPort
+  pub root : Lit
+  pub output_in : In os output
+  pub root_in : In lits root
+  pub is : c ≡ wire_of (literal_name g root.0) output.name
+  pub no_input : In g.regular output.name → ⊥
+
+abbrev AreFed : Naming → List OutPort → List Lit → Type 0
+AreFed g os lits = (i : ℕ) (o : OutPort) (lit : Lit) → slice_get os i ≡ Some o → slice_get lits i ≡ Some lit → In g.regular o.name → literal_name g lit.0 ≡ o.name
+
+wire_there : (g : Naming) (o : OutPort) (lit : Lit) (same : Bool) → bytes_eq o.name (literal_name g lit.0) ≡ same → (c : CoverValue) → In (cond same [] (wire_of (literal_name g lit.0) o.name ∷ [])) c
+    → (c ≡ wire_of (literal_name g lit.0) o.name) × (bytes_eq o.name (literal_name g lit.0) ≡ false)
+wire_there g o lit true e c i = elim i [ ]
+wire_there g o lit false e c (inl same) = (same, e)
+wire_there g o lit false e c (inr i) = elim i [ ]
+
+pub wires_there : (g : Naming) (os : List OutPort) (lits : List Lit) (c : CoverValue) → AreFed g os lits → In (wires g os lits) c → IsWire g os lits c
+wires_there g (o ∷ os) (lit ∷ lits) c fed i = elim (In-append (wire (literal_name g lit.0) o.name) (wires g os lits) c i) [
+  | inl j ↦ let r : (c ≡ wire_of (literal_name g lit.0) o.name) × (bytes_eq o.name (literal_name g lit.0) ≡ false) = wire_there g o lit (bytes_eq o.name (literal_name g lit.0)) refl c j in
+      record {
+        output = o;
+        root = lit;
+        output_in = inl refl;
+        root_in = inl refl;
+        is = r.0;
+        no_input = λ k. let t : bytes_eq o.name (literal_name g lit.0) ≡ true = (bytes_eq-Decides o.name (literal_name g lit.0)).1 (sym (fed 0 o lit refl refl k)) in let f : bytes_eq o.name (literal_name g lit.0) ≡ false = r.1 in let wrong : ⊥ = cc in wrong;
+      }
+  | inr j ↦ let w : IsWire g os lits c = wires_there g os lits c (λ k p q e f. fed (suc k) p q e f) j in
+      record { output = w.output; root = w.root; output_in = inr w.output_in; root_in = inr w.root_in; is = w.is; no_input = w.no_input }
+]
+wires_there g os lits c fed i = elim i [ ]
+
+names_by : (g : Naming) (o : OutPort) (os : List OutPort) (lit : Lit) (lits : List Lit) (name : List ℕ) (same : Bool) → (In (map (λ (c : CoverValue). c.output) (wires g os lits)) name → In (map (λ (p : OutPort). p.name) os) name)
+    → In (map (λ (c : CoverValue). c.output) (cond same [] (wire_of (literal_name g lit.0) o.name ∷ []) ++ wires g os lits)) name → In (map (λ (p : OutPort). p.name) (o ∷ os)) name
+names_by g o os lit lits name true later i = inr (later i)
+names_by g o os lit lits name false later (inl e) = inl e
+names_by g o os lit lits name false later (inr i) = inr (later i)
+
+wire_names_in : (g : Naming) (os : List OutPort) (lits : List Lit) (name : List ℕ) → In (map (λ (c : CoverValue). c.output) (wires g os lits)) name → In (map (λ (o : OutPort). o.name) os) name
+wire_names_in g (o ∷ os) (lit ∷ lits) name i = names_by g o os lit lits name (bytes_eq o.name (literal_name g lit.0)) (wire_names_in g os lits name) i
+wire_names_in g os lits name i = elim i [ ]
+
+once_by : (g : Naming) (o : OutPort) (os : List OutPort) (lit : Lit) (lits : List Lit) (same : Bool) → (In (map (λ (p : OutPort). p.name) os) o.name → ⊥) → AreOnce (map (λ (c : CoverValue). c.output) (wires g os lits))
+    → AreOnce (map (λ (c : CoverValue). c.output) (cond same [] (wire_of (literal_name g lit.0) o.name ∷ []) ++ wires g os lits))
+once_by g o os lit lits true apart h = h
+once_by g o os lit lits false apart h = (λ i. apart (wire_names_in g os lits o.name i), h)
+
+pub wires_once : (g : Naming) (os : List OutPort) (lits : List Lit) → AreOnce (map (λ (o : OutPort). o.name) os) → AreOnce (map (λ (c : CoverValue). c.output) (wires g os lits))
+wires_once g (o ∷ os) (lit ∷ lits) h = once_by g o os lit lits (bytes_eq o.name (literal_name g lit.0)) h.0 (wires_once g os lits h.1)
+wires_once g os lits h = tt
 
 -- What is said of the covers of tables: each is by its on-set, under its own name, and reads its leaves and bits; and the names of the bits stand once.
 pub record AreCovers (g : Naming) (luts : List Lut) (bits : List (List (List ℕ))) (table : Lut → CoverValue) : Type 0 where
@@ -14,14 +102,6 @@ pub record AreCovers (g : Naming) (luts : List Lut) (bits : List (List (List ℕ
   pub bits_once : AreOnce (flat_map (λ (l : List (List ℕ)). l) bits)
 
 -- the outputs of the commands
-pub latch_outputs_are : (ls : List LatchValue) → map body_output (map (λ (l : LatchValue). Latch (read_latch l)) ls) ≡ map (λ (l : LatchValue). l.output) ls
-latch_outputs_are [] = refl
-latch_outputs_are (l ∷ ls) = ap (λ (t : List (List ℕ)). l.output ∷ t) (latch_outputs_are ls)
-
-pub cover_outputs_are : (cs : List CoverValue) → map body_output (map (λ (c : CoverValue). Cover c) cs) ≡ map (λ (c : CoverValue). c.output) cs
-cover_outputs_are [] = refl
-cover_outputs_are (c ∷ cs) = ap (λ (t : List (List ℕ)). c.output ∷ t) (cover_outputs_are cs)
-
 pub table_outputs_are : (g : Naming) (table : Lut → CoverValue) (luts : List Lut) → ((u : Lut) → (table u).output ≡ table_name g u.lit.0) → map (λ (c : CoverValue). c.output) (map table luts) ≡ table_names g luts
 table_outputs_are g table [] h = refl
 table_outputs_are g table (u ∷ us) h = ap (λ (t : List ℕ). t ∷ map (λ (c : CoverValue). c.output) (map table us)) (h u) ∙ ap (λ (t : List (List ℕ)). table_name g u.lit.0 ∷ t) (table_outputs_are g table us h)
@@ -64,19 +144,14 @@ pub wire_formed : (root name : List ℕ) → IsWellFormedBody (Cover (wire_of ro
 wire_formed root name row (inl e) = ap (λ (r : RowValue). length r.cells) e
 wire_formed root name row (inr i) = elim i [ ]
 
-pub in_lines : (lines : List (List (List ℕ))) (names : List (List ℕ)) (name : List ℕ) → In lines names → In names name → In (flat_map (λ (l : List (List ℕ)). l) lines) name
+pub in_lines : {A : Type 0} (lines : List (List A)) (names : List A) (name : A) → In lines names → In names name → In (flat_map (λ (l : List A). l) lines) name
 in_lines [] names name i j = elim i [ ]
-in_lines (line ∷ lines) names name (inl e) j = In-left line (flat_map (λ (l : List (List ℕ)). l) lines) name (subst (λ (k : List (List ℕ)). In k name) e j)
-in_lines (line ∷ lines) names name (inr i) j = In-right line (flat_map (λ (l : List (List ℕ)). l) lines) name (in_lines lines names name i j)
+in_lines (line ∷ lines) names name (inl e) j = In-left line (flat_map (λ l. l) lines) name (subst (λ k. In k name) e j)
+in_lines (line ∷ lines) names name (inr i) j = In-right line (flat_map (λ l. l) lines) name (in_lines lines names name i j)
 
 pub control_named_in : (control : Option (List ℕ)) (name : List ℕ) → control ≡ Some name → In (control_names control) name
 control_named_in None name e = absurd (none-some name e)
 control_named_in (Some own) name e = inl (sym (same_Some own name e))
-
-pub in_lits : (lits : List Lit) (lit : Lit) → In lits lit → In (lits_of lits) lit.0
-in_lits [] lit i = elim i [ ]
-in_lits (k ∷ lits) lit (inl e) = inl (ap (λ (m : Lit). m.0) e)
-in_lits (k ∷ lits) lit (inr i) = inr (in_lits lits lit i)
 
 pub outputs_clean : (os : List OutPort) → ((o : OutPort) → In os o → IsClean o.name) → (name : List ℕ) → In (map (λ (o : OutPort). o.name) os) name → IsClean name
 outputs_clean os h name i =

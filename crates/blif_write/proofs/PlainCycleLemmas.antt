@@ -1,9 +1,113 @@
--- A clock cycle of a netlist without hierarchy, over the names of its one instance.
-use Rattle.blif_write.proofs.Common.{◌≡◌, ℕ, zero, suc, ◌+◌, ◌<◌, Bool, true, false, cond, ◌||◌, IsTrue, List, [], ◌∷◌, ◌++◌, length, map, slice_get, slice_index_or, Option, Some, refl, sym, ap, subst, ◌∙◌, arith, append-nil, option_and_then, eq-eqb, ne_eqb, slice_get_within, In, In-get, in_has, Command, LatchValue, CoverValue, cover_value, SubcktValue, ModelValue, LibraryValue, Path, body_at, subckts_of, has_name, is_input, CoverAt, LatchAt, IsMainInput, input_net, Drives, main_input, latch_output, cover_output, from_inside, from_outside, IsClock, listed, controls, Place, latch_at, latch_in, is_latch, own_places, FlatOrder, FlatUnder, flat, HasOneCycle, none, more, PlainNetlist, all_inputs, read_control, read_latch, latch_commands, cover_commands, model_of, library_of}
+-- A netlist without hierarchy as a library: its one instance, with its latches and covers, and a clock cycle over the names of this instance.
+use Rattle.blif_write.proofs.Common.{◌≡◌, ℕ, zero, suc, ◌+◌, ◌<◌, Bool, true, false, cond, ◌||◌, IsTrue, List, [], ◌∷◌, ◌++◌, length, map, slice_get, slice_index_or, Option, Some, refl, sym, ap, subst, ◌∙◌, arith, append-nil, option_and_then, eq-eqb, ne_eqb, slice_get_within, In, In-get, in_has, Command, LatchValue, CoverValue, cover_value, SubcktValue, ModelValue, LibraryValue, Path, body_at, subckts_of, has_name, is_input, CoverAt, LatchAt, IsMainInput, input_net, Drives, main_input, latch_output, cover_output, from_inside, from_outside, IsClock, listed, controls, Place, latch_at, latch_in, is_latch, own_places, FlatOrder, FlatUnder, flat, HasOneCycle, none, more, PlainNetlist, all_inputs, read_control, read_latch, latch_commands, cover_commands, model_of, library_of, ◌⊎◌, None, inl, inr, option_map, none-some, same_Some, slice_get-map, In-map, place_in, get_left, get_right, Body, model_named, placed, model_at, ConnectionAt, Cover, Latch, cases_Bool, TellsClocks, Subckt}
 use Rattle.netlist.specs.Cycle.{Fits}
 use Rattle.netlist.specs.Runs.{AreLatches, init_state, inits_of, state_of, next_state, next_states, IsCycle, HasACycle, HasARun}
 use Rattle.netlist.proofs.RunLemmas.{cycle_there, run_there}
-use Rattle.blif_write.proofs.PlainLemmas.{no_subckts, only_top, latch_there, cover_at_top, latch_at_top, no_connection}
+use Rattle.netlist.specs.declared.subckt.Pair.{Pair}
+
+-- no instance is placed
+covers_alone : (line : ℕ) (cs : List CoverValue) → subckts_of (cover_commands line cs) ≡ []
+covers_alone line [] = refl
+covers_alone line (c ∷ cs) = covers_alone (suc line + length c.rows) cs
+
+latches_alone : (line : ℕ) (ls : List LatchValue) (commands : List Command) → subckts_of commands ≡ [] → subckts_of (latch_commands line ls ++ commands) ≡ []
+latches_alone line [] commands h = h
+latches_alone line (l ∷ ls) commands h = latches_alone (suc line) ls commands h
+
+pub no_subckts : (n : PlainNetlist) → subckts_of (model_of n).commands ≡ []
+no_subckts n = latches_alone (3 + length n.inputs) n.latches (cover_commands (3 + length n.inputs + length n.latches) n.covers) (covers_alone (3 + length n.inputs + length n.latches) n.covers)
+
+pub none_placed : (n : PlainNetlist) (k : ℕ) → placed (library_of n) k (model_of n) ≡ None
+none_placed n k = ap (λ (t : List SubcktValue). option_and_then (λ (s : SubcktValue). model_named (library_of n).models s.model) (slice_get t k)) (no_subckts n)
+
+none_below : (n : PlainNetlist) (k : ℕ) (outer : Option ModelValue) → ((m : ModelValue) → outer ≡ Some m → m ≡ model_of n) → option_and_then (placed (library_of n) k) outer ≡ None
+none_below n k None h = refl
+none_below n k (Some m) h = ap (placed (library_of n) k) (h m refl) ∙ none_placed n k
+
+pub only_top : (n : PlainNetlist) (path : Path) (m : ModelValue) → model_at (library_of n) path ≡ Some m → (path ≡ []) × (m ≡ model_of n)
+only_top n [] m e = (refl, sym (same_Some (model_of n) m e))
+only_top n (k ∷ outer) m e = absurd (none-some m (sym (none_below n k (model_at (library_of n) outer) (λ o h. (only_top n outer o h).1)) ∙ e))
+
+-- its commands
+abbrev pub bodies_of : PlainNetlist → List Body
+bodies_of n = map (λ (l : LatchValue). Latch (read_latch l)) n.latches ++ map (λ (c : CoverValue). Cover c) n.covers
+
+cover_bodies : (line : ℕ) (cs : List CoverValue) → map (λ (c : Command). c.body) (cover_commands line cs) ≡ map (λ (c : CoverValue). Cover c) cs
+cover_bodies line [] = refl
+cover_bodies line (c ∷ cs) = ap (λ (t : List Body). Cover c ∷ t) (cover_bodies (suc line + length c.rows) cs)
+
+latch_bodies : (line : ℕ) (ls : List LatchValue) (commands : List Command) → map (λ (c : Command). c.body) (latch_commands line ls ++ commands) ≡ map (λ (l : LatchValue). Latch (read_latch l)) ls ++ map (λ (c : Command). c.body) commands
+latch_bodies line [] commands = refl
+latch_bodies line (l ∷ ls) commands = ap (λ (t : List Body). Latch (read_latch l) ∷ t) (latch_bodies (suc line) ls commands)
+
+pub body_is : (n : PlainNetlist) (i : ℕ) → body_at (model_of n) i ≡ slice_get (bodies_of n) i
+body_is n i =
+    sym (slice_get-map (λ (c : Command). c.body) (model_of n).commands i)
+    ∙ ap (λ (t : List Body). slice_get t i) (latch_bodies (3 + length n.inputs) n.latches (cover_commands (3 + length n.inputs + length n.latches) n.covers)
+    ∙ ap (λ (t : List Body). map (λ (l : LatchValue). Latch (read_latch l)) n.latches ++ t) (cover_bodies (3 + length n.inputs + length n.latches) n.covers))
+
+-- each is a latch or a cover, by its place
+abbrev pub IsBody : List LatchValue → List CoverValue → ℕ → Body → Type 0
+IsBody ls cs i (Cover c) = (j : ℕ) × (i ≡ length ls + j) × (slice_get cs j ≡ Some c)
+IsBody ls cs i (Latch l) = (k : LatchValue) × (slice_get ls i ≡ Some k) × (l ≡ read_latch k)
+IsBody ls cs i (Subckt s) = ⊥
+
+cover_later : (c : CoverValue) (cs : List CoverValue) (i : ℕ) (body : Body) → IsBody [] cs i body → IsBody [] (c ∷ cs) (suc i) body
+cover_later c cs i (Cover d) is = (suc is.0, omega (arith, is.1), is.2)
+cover_later c cs i body is = is
+
+latch_later : (l : LatchValue) (ls : List LatchValue) (cs : List CoverValue) (i : ℕ) (body : Body) → IsBody ls cs i body → IsBody (l ∷ ls) cs (suc i) body
+latch_later l ls cs i (Cover d) is = (is.0, omega (arith, is.1), is.2)
+latch_later l ls cs i body is = is
+
+pub body_got : (ls : List LatchValue) (cs : List CoverValue) (i : ℕ) (body : Body) → slice_get (map (λ (l : LatchValue). Latch (read_latch l)) ls ++ map (λ (c : CoverValue). Cover c) cs) i ≡ Some body → IsBody ls cs i body
+body_got [] [] i body e = absurd (none-some body e)
+body_got [] (c ∷ cs) zero body e = subst (IsBody [] (c ∷ cs) 0) (same_Some (Cover c) body e) (0, refl, refl)
+body_got [] (c ∷ cs) (suc i) body e = cover_later c cs i body (body_got [] cs i body e)
+body_got (l ∷ ls) cs zero body e = subst (IsBody (l ∷ ls) cs 0) (same_Some (Latch (read_latch l)) body e) (l, refl, refl)
+body_got (l ∷ ls) cs (suc i) body e = latch_later l ls cs i body (body_got ls cs i body e)
+
+-- a command of an instance is one of the top's
+body_there : (n : PlainNetlist) (path : Path) (i : ℕ) (m : ModelValue) (body : Body) → model_at (library_of n) path ≡ Some m → body_at m i ≡ Some body → (path ≡ []) × (slice_get (bodies_of n) i ≡ Some body)
+body_there n path i m body at is =
+    let top : (path ≡ []) × (m ≡ model_of n) = only_top n path m at in
+    (top.0, sym (body_is n i) ∙ ap (λ (o : ModelValue). body_at o i) (sym top.1) ∙ is)
+
+pub cover_body : (n : PlainNetlist) (path : Path) (i : ℕ) (c : CoverValue) → CoverAt (library_of n) path i c → (path ≡ []) × (slice_get (bodies_of n) i ≡ Some (Cover c))
+cover_body n path i c at = body_there n path i at.model (Cover c) at.at at.is
+
+pub latch_body : (n : PlainNetlist) (path : Path) (i : ℕ) (l : LatchValue) → LatchAt (library_of n) path i l → (path ≡ []) × (slice_get (bodies_of n) i ≡ Some (Latch l))
+latch_body n path i l at = body_there n path i at.model (Latch l) at.at at.is
+
+-- a cover of an instance is one of the netlist's
+pub cover_there : (n : PlainNetlist) (path : Path) (i : ℕ) (c : CoverValue) → CoverAt (library_of n) path i c → (path ≡ []) × In n.covers c
+cover_there n path i c at =
+    let b : (path ≡ []) × (slice_get (bodies_of n) i ≡ Some (Cover c)) = cover_body n path i c at in
+    let r : (j : ℕ) × (i ≡ length n.latches + j) × (slice_get n.covers j ≡ Some c) = body_got n.latches n.covers i (Cover c) b.1 in
+    (b.0, In-get n.covers r.0 c r.2)
+
+pub latch_there : (n : PlainNetlist) (path : Path) (i : ℕ) (l : LatchValue) → LatchAt (library_of n) path i l → (path ≡ []) × ((k : LatchValue) × (slice_get n.latches i ≡ Some k) × (l ≡ read_latch k))
+latch_there n path i l at =
+    let b : (path ≡ []) × (slice_get (bodies_of n) i ≡ Some (Latch l)) = latch_body n path i l at in
+    (b.0, body_got n.latches n.covers i (Latch l) b.1)
+
+-- and the other way round
+pub cover_at_top : (n : PlainNetlist) (c : CoverValue) → In n.covers c → (i : ℕ) × CoverAt (library_of n) [] i c
+cover_at_top n c i =
+    let at : (k : ℕ) × (slice_get (map (λ (d : CoverValue). Cover d) n.covers) k ≡ Some (Cover c)) = place_in (map (λ (d : CoverValue). Cover d) n.covers) (Cover c) (In-map (λ (d : CoverValue). Cover d) n.covers c i) in
+    let latches : List Body = map (λ (l : LatchValue). Latch (read_latch l)) n.latches in
+    (length latches + at.0, record { model = model_of n; at = refl; is = body_is n (length latches + at.0) ∙ get_right latches (map (λ (d : CoverValue). Cover d) n.covers) at.0 (Cover c) at.1 })
+
+pub latch_at_top : (n : PlainNetlist) (i : ℕ) (l : LatchValue) → slice_get n.latches i ≡ Some l → LatchAt (library_of n) [] i (read_latch l)
+latch_at_top n i l e =
+    let there : slice_get (map (λ (k : LatchValue). Latch (read_latch k)) n.latches) i ≡ Some (Latch (read_latch l)) =
+    slice_get-map (λ (k : LatchValue). Latch (read_latch k)) n.latches i ∙ ap (option_map (λ (k : LatchValue). Latch (read_latch k))) e in
+    record { model = model_of n; at = refl; is = body_is n i ∙ get_left (map (λ (k : LatchValue). Latch (read_latch k)) n.latches) (map (λ (d : CoverValue). Cover d) n.covers) i (Latch (read_latch l)) there }
+
+pub no_connection : (n : PlainNetlist) (path : Path) (k : ℕ) (pair : Pair) → ConnectionAt (library_of n) path k pair → ⊥
+no_connection n path k pair at =
+    let top : (path ≡ []) × (at.model ≡ model_of n) = only_top n path at.model at.at in
+    none-some at.subckt (sym (ap (λ (t : List SubcktValue). slice_get t k) (ap (λ (m : ModelValue). subckts_of m.commands) top.1 ∙ no_subckts n)) ∙ at.is)
 
 -- a name is the control of a latch
 pub record IsControlName (n : PlainNetlist) (name : List ℕ) : Type 0 where
@@ -94,6 +198,9 @@ pub clock_there : (n : PlainNetlist) (name : List ℕ) → IsClock (library_of n
 clock_there n name (listed m at has) = let top : m ≡ model_of n = (only_top n [] m at).1 in absurd (let t : false ≡ true = subst (λ (k : ModelValue). IsTrue (has_name k.clocks name)) top has in let wrong : ⊥ = cc in wrong)
 clock_there n name (controls path i l control at is d) =
     subst (IsControlName n) (driven_by_input n path control name d) (control_there n path i l control at is).1
+
+pub not_clock : (n : PlainNetlist) (test : List ℕ → Bool) → TellsClocks (library_of n) test → (name : List ℕ) → (IsControlName n name → ⊥) → test name ≡ false
+not_clock n test tells name free = elim (cases_Bool (test name)) [ inl e ↦ absurd (free (clock_there n name (tells.yes name e))) | inr e ↦ e ]
 
 pub length_places : (i count : ℕ) → length (places_from i count) ≡ count
 length_places i zero = refl

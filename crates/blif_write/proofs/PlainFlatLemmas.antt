@@ -1,12 +1,43 @@
--- A netlist without hierarchy has a flat circuit.
-use Rattle.blif_write.proofs.Common.{◌≡◌, ◌⊎◌, ℕ, zero, suc, ◌+◌, ◌<◌, Bool, true, false, not, List, [], ◌∷◌, ◌++◌, length, map, filter, reverse, slice_get, bytes_eq, Option, Some, None, is_some, refl, sym, ap, subst, ◌∙◌, inl, inr, arith, append-nil, option_map, option_map_or, length-map, reverse-reverse, none-some, same_Some, slice_get-map, slice_get_within, bytes_eq-Decides, PostsAll, In, In-get, In-append, in_filter, place_in, get_right, Body, Subckt, Command, FlatLatch, OutPort, LatchValue, CoverValue, FlatValue, Places, IsNumbered, an_input, a_latch, a_cover, IsNetOf, AreNetsOf, no_nets, more_nets, TellsClocks, IsControl, some_latch, no_latch, with_control_net, cover_numbers, inputs_at, most_underscores, IsFlatCover, IsFlatLatch, IsFlat, CoverAt, LatchAt, Net, input_net, latch_net, cover_net, Drives, main_input, latch_output, cover_output, IsClock, controls, Place, FlatOrder, flat, is_cover, own_places, Cover, Latch, none, PlainNetlist, all_inputs, read_control, read_latch, latch_commands, cover_commands, model_of, library_of}
+-- A netlist without hierarchy has a flat circuit. Its covers, of which each reads covers of lower ranks alone, have a postorder.
+use Rattle.blif_write.proofs.Common.{◌≡◌, ◌⊎◌, ℕ, zero, suc, ◌+◌, ◌<◌, Bool, true, false, not, List, [], ◌∷◌, ◌++◌, length, map, filter, reverse, slice_get, bytes_eq, Option, Some, None, is_some, refl, sym, ap, subst, ◌∙◌, inl, inr, arith, append-nil, option_map, option_map_or, length-map, reverse-reverse, none-some, same_Some, slice_get-map, slice_get_within, bytes_eq-Decides, PostsAll, In, In-get, In-append, in_filter, place_in, get_right, Body, Subckt, Command, FlatLatch, OutPort, LatchValue, CoverValue, FlatValue, Places, IsNumbered, an_input, a_latch, a_cover, IsNetOf, AreNetsOf, no_nets, more_nets, TellsClocks, IsControl, some_latch, no_latch, with_control_net, cover_numbers, inputs_at, most_underscores, IsFlatCover, IsFlatLatch, IsFlat, CoverAt, LatchAt, Net, input_net, latch_net, cover_net, Drives, main_input, latch_output, cover_output, IsClock, controls, Place, FlatOrder, flat, is_cover, own_places, Cover, Latch, none, PlainNetlist, all_inputs, read_control, read_latch, latch_commands, cover_commands, model_of, library_of, ◌≤◌, Posts, skips, posts, in_or}
 use Rattle.netlist.specs.declared.flat.Net.{Net as FlatNet}
-use Rattle.netlist.specs.declared.flat.Net.TheVariants as number
 use Rattle.netlist.specs.FlatCoverValue.{FlatCoverValue}
-use Rattle.blif_write.proofs.PlainLemmas.{bodies_of, body_is, no_subckts, cover_body, latch_there, latch_at_top}
-use Rattle.blif_write.proofs.PlainCycleLemmas.{IsControlName, places_from, places_are_latches, length_places, main_there, clock_there}
-use Rattle.blif_write.proofs.PlainSoundLemmas.{body_output, command_outputs, IsOrderly, mapped, no_subckt_body, cover_drives}
-use Rattle.blif_write.proofs.PostedLemmas.{all_posted}
+use Rattle.blif_write.proofs.PlainCycleLemmas.{bodies_of, body_got, body_is, no_subckts, cover_body, latch_there, latch_at_top, IsControlName, places_from, places_are_latches, length_places, main_there, clock_there, not_clock}
+use Rattle.blif_write.proofs.PlainSoundLemmas.{body_output, command_outputs, IsOrderly, mapped, cover_drives}
+use Rattle.netlist.specs.declared.flat.Net.TheVariants as number
+
+module _ (next : ℕ → List ℕ) (rank : ℕ → ℕ) (falls : (n m : ℕ) → In (next n) m → rank m < rank n) where
+  -- several nodes in turn, where there is one of each alone
+  each_posted : (bound : ℕ) → ((done : List ℕ) (n : ℕ) → rank n < bound → (result : List ℕ) × Posts next done n result) → (ns done : List ℕ) → ((n : ℕ) → In ns n → rank n < bound)
+      → (result : List ℕ) × PostsAll next done ns result
+  each_posted bound one [] done low = (done, PostsAll.none refl refl)
+  each_posted bound one (n ∷ ns) done low =
+      let first : (below : List ℕ) × Posts next done n below = one done n (low n (inl refl)) in
+      let rest : (result : List ℕ) × PostsAll next first.0 ns result = each_posted bound one ns first.0 (λ m i. low m (inr i)) in
+      (rest.0, PostsAll.more n ns first.0 refl first.1 rest.1)
+
+  one_posted : (bound : ℕ) (done : List ℕ) (n : ℕ) → rank n < bound → (result : List ℕ) × Posts next done n result
+  one_posted zero done n low = absurd (omega (arith, low))
+  one_posted (suc bound) done n low = elim (in_or done n) [
+    | inl there ↦ (done, skips there refl)
+    | inr new ↦
+        let below : (result : List ℕ) × PostsAll next done (next n) result =
+        each_posted bound (λ others m less. one_posted bound others m less) (next n) done (λ m i. let f : rank m < rank n = falls n m i in omega (arith, f, low)) in
+        (n ∷ below.0, posts below.0 new below.1 refl)
+  ]
+
+  -- a bound on the ranks
+  abbrev ranks : List ℕ → ℕ
+  ranks [] = 0
+  ranks (n ∷ ns) = rank n + ranks ns
+
+  within_ranks : (ns : List ℕ) (n : ℕ) → In ns n → rank n ≤ ranks ns
+  within_ranks [] n i = elim i [ ]
+  within_ranks (m ∷ ns) n (inl e) = let same : rank n ≡ rank m = ap rank e in omega (arith, same)
+  within_ranks (m ∷ ns) n (inr i) = let rest : rank n ≤ ranks ns = within_ranks ns n i in omega (arith, rest)
+
+  pub all_posted : (ns : List ℕ) → (result : List ℕ) × PostsAll next [] ns result
+  all_posted ns = each_posted (suc (ranks ns)) (λ done n low. one_posted (suc (ranks ns)) done n low) ns [] (λ n i. let w : rank n ≤ ranks ns = within_ranks ns n i in omega (arith, w))
 
 abbrev top_at : ℕ → Place
 top_at i = record { path = []; command = i }
@@ -42,20 +73,7 @@ covers_are n =
 places_are_covers : (n : PlainNetlist) → FlatOrder (library_of n) is_cover [] (model_of n) (places_from (length n.latches) (length n.covers))
 places_are_covers n = flat [] (none (no_subckts n) refl) (sym (append-nil (own_places is_cover [] 0 (model_of n).commands) ∙ covers_are n))
 
--- a cover among the commands stands behind all latches
-cover_got : (cs : List CoverValue) (k : ℕ) (c : CoverValue) → slice_get (map (λ (d : CoverValue). Cover d) cs) k ≡ Some (Cover c) → slice_get cs k ≡ Some c
-cover_got [] k c e = absurd (none-some (Cover c) e)
-cover_got (d ∷ cs) zero c e = let same : d ≡ c = cc in ap Some same
-cover_got (d ∷ cs) (suc k) c e = cover_got cs k c e
-
-cover_behind : (ls : List LatchValue) (cs : List CoverValue) (k : ℕ) (c : CoverValue) → slice_get (map (λ (l : LatchValue). Latch (read_latch l)) ls ++ map (λ (d : CoverValue). Cover d) cs) k ≡ Some (Cover c)
-    → (j : ℕ) × (k ≡ length ls + j) × (slice_get cs j ≡ Some c)
-cover_behind [] cs k c e = (k, omega arith, cover_got cs k c e)
-cover_behind (l ∷ ls) cs zero c e = absurd (let wrong : ⊥ = cc in wrong)
-cover_behind (l ∷ ls) cs (suc k) c e =
-    let rest : (j : ℕ) × (k ≡ length ls + j) × (slice_get cs j ≡ Some c) = cover_behind ls cs k c e in
-    (rest.0, omega (arith, rest.1), rest.2)
-
+-- the covers among the commands
 cover_at : (n : PlainNetlist) (j : ℕ) (c : CoverValue) → slice_get n.covers j ≡ Some c → CoverAt (library_of n) [] (length n.latches + j) c
 cover_at n j c e =
     let latches : List Body = map (λ (l : LatchValue). Latch (read_latch l)) n.latches in
@@ -66,7 +84,7 @@ cover_at n j c e =
 
 cover_of : (n : PlainNetlist) (j : ℕ) (c : CoverValue) → CoverAt (library_of n) [] (length n.latches + j) c → slice_get n.covers j ≡ Some c
 cover_of n j c at =
-    let behind : (k : ℕ) × (length n.latches + j ≡ length n.latches + k) × (slice_get n.covers k ≡ Some c) = cover_behind n.latches n.covers (length n.latches + j) c (cover_body n [] (length n.latches + j) c at).1 in
+    let behind : (k : ℕ) × (length n.latches + j ≡ length n.latches + k) × (slice_get n.covers k ≡ Some c) = body_got n.latches n.covers (length n.latches + j) (Cover c) (cover_body n [] (length n.latches + j) c at).1 in
     let same : j ≡ behind.0 = omega (arith, behind.1) in
     ap (slice_get n.covers) same ∙ behind.2
 
@@ -88,10 +106,6 @@ ports_of [] nets = []
 ports_of (name ∷ names) [] = []
 ports_of (name ∷ names) (net ∷ nets) = record { name = name; net = net } ∷ ports_of names nets
 
-not_clock : (n : PlainNetlist) (test : List ℕ → Bool) → TellsClocks (library_of n) test → (name : List ℕ) → (IsControlName n name → ⊥) → (b : Bool) → test name ≡ b → test name ≡ false
-not_clock n test tells name free true e = absurd (free (clock_there n name (tells.yes name e)))
-not_clock n test tells name free false e = e
-
 module _ (n : PlainNetlist) (h : IsOrderly n) (test : List ℕ → Bool) (tells : TellsClocks (library_of n) test) where
   abbrev driven : List (List ℕ)
   driven = all_inputs n ++ command_outputs n
@@ -106,7 +120,7 @@ module _ (n : PlainNetlist) (h : IsOrderly n) (test : List ℕ → Bool) (tells 
   -- each name that is read as data has a number
   body_number : (k : ℕ) (name : List ℕ) (body : Body) → slice_get (bodies_of n) k ≡ Some body → body_output body ≡ name → (net : FlatNet) × IsNetOf (library_of n) places [] name net
   body_number k name (Cover c) e o =
-      let behind : (j : ℕ) × (k ≡ length n.latches + j) × (slice_get n.covers j ≡ Some c) = cover_behind n.latches n.covers k c e in (
+      let behind : (j : ℕ) × (k ≡ length n.latches + j) × (slice_get n.covers j ≡ Some c) = body_got n.latches n.covers k (Cover c) e in (
         number.Cover behind.0,
         record {
           net = cover_net [] k;
@@ -126,11 +140,11 @@ module _ (n : PlainNetlist) (h : IsOrderly n) (test : List ℕ → Bool) (tells 
           numbered = a_latch (top_at (0 + k)) k (ap (latch_net []) here) (place_at 0 (length n.latches) k (slice_get_within n.latches k there.0 there.1)) refl;
         },
       )
-  body_number k name (Subckt s) e o = absurd (no_subckt_body n.latches n.covers k s e)
+  body_number k name (Subckt s) e o = absurd (body_got n.latches n.covers k (Subckt s) e)
 
   input_number : (name : List ℕ) → In (all_inputs n) name → (IsControlName n name → ⊥) → (net : FlatNet) × IsNetOf (library_of n) places [] name net
   input_number name i free =
-      let kept : In places.inputs name = in_filter (λ (other : List ℕ). not (test other)) (all_inputs n) name i (ap not (not_clock n test tells name free (test name) refl)) in
+      let kept : In places.inputs name = in_filter (λ (other : List ℕ). not (test other)) (all_inputs n) name i (ap not (not_clock n test tells name free)) in
       let at : (j : ℕ) × (slice_get places.inputs j ≡ Some name) = place_in places.inputs name kept in
       (number.Input at.0, record { net = input_net name; drives = main_input refl (main_there n name i) refl; numbered = an_input name at.0 refl at.1 refl })
 
@@ -176,10 +190,9 @@ module _ (n : PlainNetlist) (h : IsOrderly n) (test : List ℕ → Bool) (tells 
 
   read_among : (names : List (List ℕ)) (nets : List FlatNet) → AreNetsOf (library_of n) places [] names nets → (j : ℕ) → In (cover_numbers nets) j → (name : List ℕ) × In names name × IsNetOf (library_of n) places [] name (number.Cover j)
   read_among names nets no_nets j i = elim i [ ]
-  read_among names nets (more_nets name rest (number.Input k) others is are) j i = let r = read_among rest others are j i in (r.0, inr r.1, r.2)
-  read_among names nets (more_nets name rest (number.Latch k) others is are) j i = let r = read_among rest others are j i in (r.0, inr r.1, r.2)
   read_among names nets (more_nets name rest (number.Cover k) others is are) j (inl e) = (name, inl refl, subst (λ (m : ℕ). IsNetOf (library_of n) places [] name (number.Cover m)) (sym e) is)
   read_among names nets (more_nets name rest (number.Cover k) others is are) j (inr i) = let r = read_among rest others are j i in (r.0, inr r.1, r.2)
+  read_among names nets (more_nets name rest net others is are) j i = let r = read_among rest others are j i in (r.0, inr r.1, r.2)
 
   port_names : (names : List (List ℕ)) (nets : List FlatNet) → AreNetsOf (library_of n) places [] names nets → map (λ (o : OutPort). o.name) (ports_of names nets) ≡ names
   port_names names nets no_nets = refl

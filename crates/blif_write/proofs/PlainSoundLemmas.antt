@@ -3,8 +3,7 @@ use Rattle.blif_write.proofs.Common.{◌≡◌, ℕ, zero, suc, ◌<◌, Bool, t
 use Rattle.netlist.specs.Loops.{ReadsCover, Depends, direct, through}
 use Rattle.netlist.specs.Drivers.{Driver, by_input, by_latch, by_cover, IsDriver, input, latch, cover, output, IsRead, cover_input, latch_input, latch_control, input_actual, model_output, Ends, ends, IsDriven}
 use Rattle.blif_write.proofs.DenoteLemmas.{ports_once}
-use Rattle.blif_write.proofs.PlainLemmas.{bodies_of, body_is, no_subckts, none_placed, only_top, cover_body, latch_body, cover_there, latch_there, no_connection}
-use Rattle.blif_write.proofs.PlainCycleLemmas.{IsControlName, input_is, main_there, driven_by_input, control_there, clock_there}
+use Rattle.blif_write.proofs.PlainCycleLemmas.{bodies_of, body_got, body_is, no_subckts, none_placed, only_top, cover_body, latch_body, cover_there, latch_there, no_connection, IsControlName, input_is, main_there, driven_by_input, control_there, clock_there}
 
 -- the name that a command drives
 abbrev pub body_output : Body → List ℕ
@@ -50,16 +49,6 @@ mapped [] i name e = absurd (none-some name e)
 mapped (body ∷ bodies) zero name e = (body, refl, same_Some (body_output body) name e)
 mapped (body ∷ bodies) (suc i) name e = mapped bodies i name e
 
-no_subckt_cover : (cs : List CoverValue) (i : ℕ) (s : SubcktValue) → slice_get (map (λ (c : CoverValue). Cover c) cs) i ≡ Some (Subckt s) → ⊥
-no_subckt_cover [] i s e = none-some (Subckt s) e
-no_subckt_cover (c ∷ cs) zero s e = let wrong : ⊥ = cc in wrong
-no_subckt_cover (c ∷ cs) (suc i) s e = no_subckt_cover cs i s e
-
-pub no_subckt_body : (ls : List LatchValue) (cs : List CoverValue) (i : ℕ) (s : SubcktValue) → slice_get (map (λ (l : LatchValue). Latch (read_latch l)) ls ++ map (λ (c : CoverValue). Cover c) cs) i ≡ Some (Subckt s) → ⊥
-no_subckt_body [] cs i s e = no_subckt_cover cs i s e
-no_subckt_body (l ∷ ls) cs zero s e = let wrong : ⊥ = cc in wrong
-no_subckt_body (l ∷ ls) cs (suc i) s e = no_subckt_body ls cs i s e
-
 driver_there : (n : PlainNetlist) (path : Path) (name : List ℕ) (driver : Driver) → IsDriver (library_of n) path name driver → Drivers n name driver
 driver_there n path name driver (input at t e) =
     let top : at.model ≡ model_of n = (only_top n path at.model at.at).1 in
@@ -81,7 +70,7 @@ one_driver n h name driver other (a_command i b at o f) (a_command j d there p e
 body_driver : (n : PlainNetlist) (i : ℕ) (name : List ℕ) (body : Body) → slice_get (bodies_of n) i ≡ Some body → body_output body ≡ name → (driver : Driver) × IsDriver (library_of n) [] name driver
 body_driver n i name (Cover c) e o = (by_cover i, cover i c (record { model = model_of n; at = refl; is = body_is n i ∙ e }) (sym o) refl)
 body_driver n i name (Latch l) e o = (by_latch i, latch i l (record { model = model_of n; at = refl; is = body_is n i ∙ e }) (sym o) refl)
-body_driver n i name (Subckt s) e o = absurd (no_subckt_body n.latches n.covers i s e)
+body_driver n i name (Subckt s) e o = absurd (body_got n.latches n.covers i (Subckt s) e)
 
 has_driver : (n : PlainNetlist) (name : List ℕ) → In (all_inputs n ++ command_outputs n) name → (driver : Driver) × IsDriver (library_of n) [] name driver
 has_driver n name i = elim (In-append (all_inputs n) (command_outputs n) name i) [

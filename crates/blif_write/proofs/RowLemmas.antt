@@ -1,5 +1,7 @@
--- The bytes of a LUT's rows, as its loops add them.
-use Rattle.blif_write.proofs.Common.{◌≡◌, ℕ, zero, suc, ◌+◌, ◌-◌, ◌<◌, ◌^◌, Bool, true, false, cond, List, [], ◌∷◌, ◌++◌, length, map, replicate, get_or, refl, sym, ap, ◌∙◌, arith, append_assoc, length-append, flat_map, filter, range_with_len, map-append, flat_map_single, flat_map-map, length-map-range_with_len, digit, Cell, One, Any, RowValue, cell_character, map-map, row_line, line_text, digit_cell, digit_cells, chosen_cells, fixed_rows, tunable_rows}
+-- The bytes of the rows of a LUT, as its loops add them, and their value, which is that of the bit that the values of its leaves ask for.
+use Rattle.blif_write.proofs.Common.{◌≡◌, ℕ, zero, suc, ◌+◌, ◌-◌, ◌<◌, ◌^◌, Bool, true, false, cond, List, [], ◌∷◌, ◌++◌, length, map, replicate, get_or, refl, sym, ap, ◌∙◌, arith, append_assoc, length-append, flat_map, filter, range_with_len, map-append, flat_map_single, flat_map-map, length-map-range_with_len, digit, Cell, One, Any, RowValue, cell_character, map-map, row_line, line_text, digit_cell, digit_cells, chosen_cells, fixed_rows, tunable_rows, ◌⊎◌, ◌*◌, ◌/◌, ◌%◌, ◌≤◌, eqb, ◌&&◌, ◌||◌, slice_index_or, inl, inr, and_parts, and_from, eqb-true, In, bit_value, number, number-small, lowest, half, In-map, In-filter, from_map, in_filter, in_range, of_range, allows, matches, some_row, false_from_ne_true, eqb-false}
+use Rattle.std.proofs.Math.Nat.{pow-succ', div-div-eq-div-mul}
+use Rattle.std.proofs.Math.Bool.{or-true, and-true}
 
 -- the digits of a row's leaf values
 abbrev pub digit_text : ℕ → ℕ → List ℕ
@@ -69,3 +71,127 @@ chosen_row leaves v rest e =
 pub with_digits : (leaves v : ℕ) → 0 < leaves → map cell_character (digit_cells leaves v) ++ (32 ∷ 49 ∷ 10 ∷ []) ≡ line_text (row_line (digit_cells leaves v))
 with_digits leaves v h =
     with_cells (digit_cells leaves v) (let n : length (digit_cells leaves v) ≡ leaves = length-map-range_with_len (λ (place : ℕ). digit_cell (digit v place)) 0 leaves in omega (arith, n, h))
+
+-- the cells of a number's digits, one by one
+abbrev cells_of : ℕ → ℕ → List Cell
+cells_of zero v = []
+cells_of (suc leaves) v = digit_cell (eqb (v % 2) 1) ∷ cells_of leaves (v / 2)
+
+cells_from : (leaves place v : ℕ) → map (λ p. digit_cell (digit v p)) (range_with_len place leaves) ≡ cells_of leaves (v / 2 ^ place)
+cells_from zero place v = refl
+cells_from (suc leaves) place v =
+    let e : place + 1 ≡ suc place = omega arith in
+    let p : 2 ^ suc place ≡ 2 * 2 ^ place = pow-succ' 2 place in
+    let c : 2 * 2 ^ place ≡ 2 ^ place * 2 = omega arith in
+    let q : v / 2 ^ place / 2 ≡ v / (2 ^ place * 2) = div-div-eq-div-mul v (2 ^ place) 2 in
+    ap (λ (t : List Cell). digit_cell (digit v place) ∷ t)
+    (cells_from leaves (place + 1) v ∙ ap (λ (k : ℕ). cells_of leaves (v / 2 ^ k)) e ∙ ap (λ (k : ℕ). cells_of leaves (v / k)) (p ∙ c) ∙ ap (cells_of leaves) (sym q))
+
+cells_are : (leaves v : ℕ) → digit_cells leaves v ≡ cells_of leaves v
+cells_are leaves v = let e : v / 1 ≡ v = omega arith in cells_from leaves 0 v ∙ ap (cells_of leaves) e
+
+-- a cell of a digit allows this digit alone
+allowed : (d b : Bool) → allows (digit_cell d) b ≡ true → b ≡ d
+allowed true b h = h
+allowed false true h = absurd (let wrong : ⊥ = cc in wrong)
+allowed false false h = refl
+
+allows_own : (b : Bool) → allows (digit_cell b) b ≡ true
+allows_own b = grind arith
+
+digit_value : (v : ℕ) (b : Bool) → b ≡ eqb (v % 2) 1 → bit_value b ≡ v % 2
+digit_value v true h = sym (eqb-true (v % 2) 1 (sym h))
+digit_value v false h = let off : v % 2 ≡ 1 → ⊥ = eqb-false (v % 2) 1 (sym h) in let zero_rest : 0 ≡ v % 2 = omega (arith, off) in zero_rest
+
+pub matches_number : (v : ℕ) (ins : List Bool) → v < 2 ^ length ins → matches (cells_of (length ins) v) ins ≡ true → number ins ≡ v
+matches_number v [] small h = omega (arith, small)
+matches_number v (b ∷ bs) small h =
+    let p : 2 ^ length (b ∷ bs) ≡ 2 * 2 ^ length bs = pow-succ' 2 (length bs) in
+    let parts : (allows (digit_cell (eqb (v % 2) 1)) b ≡ true) × (matches (cells_of (length bs) (v / 2)) bs ≡ true) = and_parts (allows (digit_cell (eqb (v % 2) 1)) b) (matches (cells_of (length bs) (v / 2)) bs) h in
+    let low : bit_value b ≡ v % 2 = digit_value v b (allowed (eqb (v % 2) 1) b parts.0) in
+    let high : number bs ≡ v / 2 = matches_number (v / 2) bs (omega (arith, small, p)) parts.1 in
+    omega (arith, low, high)
+
+pub matches_own : (ins : List Bool) → matches (cells_of (length ins) (number ins)) ins ≡ true
+matches_own [] = refl
+matches_own (b ∷ bs) =
+    and_from (allows (digit_cell (eqb (number (b ∷ bs) % 2) 1)) b) (matches (cells_of (length bs) (number (b ∷ bs) / 2)) bs)
+    (ap (λ (d : Bool). allows (digit_cell d) b) (lowest b (number bs)) ∙ allows_own b)
+    (ap (λ (k : ℕ). matches (cells_of (length bs) k) bs) (half b (number bs)) ∙ matches_own bs)
+
+-- rows
+row_matches : (rows : List RowValue) (row : RowValue) (ins : List Bool) → In rows row → matches row.cells ins ≡ true → some_row rows ins ≡ true
+row_matches [] row ins i h = elim i [ ]
+row_matches (r ∷ rows) row ins (inl e) h = ap (λ (t : Bool). t || some_row rows ins) (ap (λ (q : RowValue). matches q.cells ins) (sym e) ∙ h)
+row_matches (r ∷ rows) row ins (inr i) h = ap (λ (t : Bool). matches r.cells ins || t) (row_matches rows row ins i h) ∙ or-true (matches r.cells ins)
+
+no_row_matches : (rows : List RowValue) (ins : List Bool) → ((row : RowValue) → In rows row → matches row.cells ins ≡ false) → some_row rows ins ≡ false
+no_row_matches [] ins h = refl
+no_row_matches (r ∷ rows) ins h = ap (λ (t : Bool). t || some_row rows ins) (h r (inl refl)) ∙ no_row_matches rows ins (λ q i. h q (inr i))
+
+-- the rows of a table with fixed bits
+digits_match : (v : ℕ) (ins : List Bool) → matches (digit_cells (length ins) v) ins ≡ matches (cells_of (length ins) v) ins
+digits_match v ins = ap (λ (cells : List Cell). matches cells ins) (cells_are (length ins) v)
+
+one_row : (rows : List RowValue) (ins : List Bool) (bit : Bool) → (bit ≡ true → (row : RowValue) × In rows row × (matches row.cells ins ≡ true)) → ((row : RowValue) → In rows row → matches row.cells ins ≡ true → bit ≡ true) → some_row rows ins ≡ bit
+one_row rows ins true there only = let r : (row : RowValue) × In rows row × (matches row.cells ins ≡ true) = there refl in row_matches rows r.0 ins r.1 r.2
+one_row rows ins false there only = no_row_matches rows ins (λ row i. false_from_ne_true (matches row.cells ins) (λ h. let t : false ≡ true = only row i h in let wrong : ⊥ = cc in wrong))
+
+pub fixed_value : (config : List Bool) (base : ℕ) (ins : List Bool) → some_row (fixed_rows config base (length ins)) ins ≡ slice_index_or config (base + number ins) false
+fixed_value config base ins =
+    let count : ℕ = 2 ^ length ins in
+    let test : ℕ → Bool = λ v. slice_index_or config (base + v) false in
+    let make : ℕ → RowValue = λ v. record { cells = digit_cells (length ins) v } in
+    let below : number ins < 2 ^ length ins = number-small ins in
+    one_row (fixed_rows config base (length ins)) ins (test (number ins))
+    (λ e. (make (number ins), In-map make (filter test (range_with_len 0 count)) (number ins) (in_filter test (range_with_len 0 count) (number ins) (in_range 0 count (number ins) (omega arith) (omega (arith, below))) e), digits_match (number ins) ins ∙ matches_own ins))
+    (λ row i h.
+    let at : (v : ℕ) × In (filter test (range_with_len 0 count)) v × (row ≡ make v) = from_map make (filter test (range_with_len 0 count)) row i in
+    let kept : In (range_with_len 0 count) at.0 × (test at.0 ≡ true) = In-filter test (range_with_len 0 count) at.0 at.1 in
+    let small : (0 ≤ at.0) × (at.0 < 0 + count) = of_range 0 count at.0 kept.0 in
+    ap test (matches_number at.0 ins (omega (arith, small.1)) (sym (digits_match at.0 ins) ∙ ap (λ (r : RowValue). matches r.cells ins) (sym at.2) ∙ h)) ∙ kept.1)
+
+-- the rows of a table whose bits are inputs
+and_moved : (a b c : Bool) → (a && (b && c)) ≡ ((a && b) && c)
+and_moved a b c = grind arith
+
+matches_both : (front back : List Cell) (xs ys : List Bool) → length front ≡ length xs → matches (front ++ back) (xs ++ ys) ≡ (matches front xs && matches back ys)
+matches_both [] back [] ys h = refl
+matches_both (c ∷ front) back (x ∷ xs) ys h =
+    ap (λ (t : Bool). allows c x && t) (matches_both front back xs ys (omega (arith, h))) ∙ and_moved (allows c x) (matches front xs) (matches back ys)
+matches_both front back xs ys h = absurd (omega (arith, h))
+
+matches_any : (count : ℕ) (bits : List Bool) → length bits ≡ count → matches (replicate count Any) bits ≡ true
+matches_any zero [] h = refl
+matches_any (suc count) (b ∷ bits) h = matches_any count bits (omega (arith, h))
+matches_any count bits h = absurd (omega (arith, h))
+
+matches_chosen : (v rest : ℕ) (bits : List Bool) → length bits ≡ v + suc rest → matches (replicate v Any ++ One ∷ replicate rest Any) bits ≡ get_or bits v false
+matches_chosen v rest [] h = absurd (omega (arith, h))
+matches_chosen zero rest (b ∷ bits) h = ap (λ (t : Bool). b && t) (matches_any rest bits (omega (arith, h))) ∙ and-true b
+matches_chosen (suc v) rest (b ∷ bits) h = matches_chosen v rest bits (omega (arith, h))
+
+row_value : (ins bits : List Bool) (v : ℕ) → length bits ≡ 2 ^ length ins → v < 2 ^ length ins
+    → matches (digit_cells (length ins) v ++ chosen_cells (2 ^ length ins) v) (ins ++ bits) ≡ (matches (cells_of (length ins) v) ins && get_or bits v false)
+row_value ins bits v count small =
+    matches_both (digit_cells (length ins) v) (chosen_cells (2 ^ length ins) v) ins bits (length-map-range_with_len (λ (place : ℕ). digit_cell (digit v place)) 0 (length ins))
+    ∙ ap (λ (t : Bool). t && matches (chosen_cells (2 ^ length ins) v) bits) (digits_match v ins)
+    ∙ ap (λ (t : Bool). matches (cells_of (length ins) v) ins && t) (matches_chosen v (2 ^ length ins - suc v) bits (omega (arith, count, small)))
+
+pub tunable_value : (ins bits : List Bool) → length bits ≡ 2 ^ length ins → some_row (tunable_rows (length ins)) (ins ++ bits) ≡ get_or bits (number ins) false
+tunable_value ins bits count =
+    let make : ℕ → RowValue = λ v. record { cells = digit_cells (length ins) v ++ chosen_cells (2 ^ length ins) v } in
+    let below : number ins < 2 ^ length ins = number-small ins in
+    one_row (tunable_rows (length ins)) (ins ++ bits) (get_or bits (number ins) false)
+    (λ e. (
+      make (number ins),
+      In-map make (range_with_len 0 (2 ^ length ins)) (number ins) (in_range 0 (2 ^ length ins) (number ins) (omega arith) (omega (arith, below))),
+      row_value ins bits (number ins) count below ∙ and_from (matches (cells_of (length ins) (number ins)) ins) (get_or bits (number ins) false) (matches_own ins) e,
+    ))
+    (λ row i h.
+    let at : (v : ℕ) × In (range_with_len 0 (2 ^ length ins)) v × (row ≡ make v) = from_map make (range_with_len 0 (2 ^ length ins)) row i in
+    let small : (0 ≤ at.0) × (at.0 < 0 + 2 ^ length ins) = of_range 0 (2 ^ length ins) at.0 at.1 in
+    let fits : at.0 < 2 ^ length ins = omega (arith, small.1) in
+    let parts : (matches (cells_of (length ins) at.0) ins ≡ true) × (get_or bits at.0 false ≡ true) =
+    and_parts (matches (cells_of (length ins) at.0) ins) (get_or bits at.0 false) (sym (row_value ins bits at.0 count fits) ∙ ap (λ (r : RowValue). matches r.cells (ins ++ bits)) (sym at.2) ∙ h) in
+    ap (λ (k : ℕ). get_or bits k false) (matches_number at.0 ins fits parts.0) ∙ parts.1)

@@ -1,9 +1,11 @@
--- The cycles of a written netlist are those of its LUTs.
-use Rattle.blif_write.proofs.Common.{◌≡◌, ◌⊎◌, ℕ, zero, suc, ◌+◌, ◌-◌, ◌*◌, ◌^◌, ◌<◌, ◌≤◌, Bool, true, false, cond, ◌&&◌, ◌||◌, nat_le, nat_lt, not, List, [], ◌∷◌, ◌++◌, length, map, get_or, slice_get, slice_index_or, bytes_eq, codes, Option, Some, None, refl, sym, ap, subst, ◌∙◌, inl, inr, arith, flat_map, range_with_len, map-append, length-map, get_or-map, leb-true, le-leb, ltb-true, and_parts, get_or-map-range_with_len, length-map-range_with_len, bytes_eq-Decides, none-some, In, number, number-small, In-get_or, In-left, In-right, In-filter, LatchValue, CoverValue, cover_value, some_row, OutPort, FlatLatch, FlatValue, Param, regular_names, param_names, has_name, Lit, lits_of, Lut, TemplateValue, bits_of, Shape, last_source, is_regular, source_value, leaf_values, address, IsTableCycle, false_from_ne_true, map-map, read_control, Naming, naming_of, table_name, latch_name, bit_name, source_name, literal_name, leaf_names, bit_names, fixed_rows, tunable_rows, fixed_table, tunable_table, wire_of, wire, wires, clock_of, written_latch, written_latches, control_names, with_tables, HasPorts, AreTablesOf, input_bits}
+-- The cycles of a written netlist are those of its LUTs. Its inputs, read again: the regular ones, a control `NIL`, and the configuration bits.
+use Rattle.blif_write.proofs.Common.{◌≡◌, ◌⊎◌, ℕ, zero, suc, ◌+◌, ◌-◌, ◌*◌, ◌^◌, ◌<◌, ◌≤◌, Bool, true, false, cond, ◌&&◌, ◌||◌, nat_le, nat_lt, not, List, [], ◌∷◌, ◌++◌, length, map, get_or, slice_get, slice_index_or, bytes_eq, codes, Option, Some, None, refl, sym, ap, subst, ◌∙◌, inl, inr, arith, flat_map, range_with_len, map-append, length-map, get_or-map, leb-true, le-leb, ltb-true, and_parts, get_or-map-range_with_len, length-map-range_with_len, bytes_eq-Decides, none-some, In, number, number-small, In-get_or, In-left, In-right, In-filter, LatchValue, CoverValue, cover_value, some_row, OutPort, FlatLatch, FlatValue, Param, regular_names, param_names, has_name, Lit, lits_of, Lut, TemplateValue, bits_of, Shape, last_source, is_regular, source_value, leaf_values, address, IsTableCycle, false_from_ne_true, map-map, read_control, Naming, naming_of, table_name, latch_name, bit_name, source_name, literal_name, leaf_names, bit_names, fixed_rows, tunable_rows, fixed_table, tunable_table, wire_of, wire, wires, clock_of, written_latch, written_latches, control_names, with_tables, HasPorts, AreTablesOf, input_bits, if◌then◌else◌, filter, ap₂, append_assoc, sum_by-cons, same_Some, place_in, ranges_join, ModelValue, TellsClocks, IsFlat, main_input, controls, HaveBases, PlainNetlist, all_inputs, read_latch, library_of, free_control, cases_Bool, In-map}
 use Rattle.cover_pick.proofs.BitsLemmas.{base_within}
-use Rattle.blif_write.proofs.PlainCycleLemmas.{IsControlName, PlainFits}
-use Rattle.blif_write.proofs.RowValueLemmas.{fixed_value, tunable_value}
+use Rattle.blif_write.proofs.PlainCycleLemmas.{not_clock, IsControlName, PlainFits, main_there, clock_there, only_top, latch_at_top}
+use Rattle.blif_write.proofs.RowLemmas.{fixed_value, tunable_value}
 use Rattle.blif_write.proofs.OwnNameLemmas.{no_port_name, source_literal, table_literal}
+use Rattle.std.proofs.lemmas.List.Elements.{filter-append}
+use Rattle.blif_write.proofs.PartLemmas.{control_named_in, in_lines}
 
 -- the latches of a written netlist
 pub latch_written : (g : Naming) (control : Option (List ℕ)) (ordinal : ℕ) (ls : List FlatLatch) (nexts : List Lit) (j : ℕ) → length nexts ≡ length ls → j < length ls
@@ -20,10 +22,9 @@ latch_written g control ordinal (l ∷ ls) (next ∷ nexts) (suc j) same small =
 latch_inputs_are : (g : Naming) (value : List ℕ → Bool) (control : Option (List ℕ)) (ordinal : ℕ) (ls : List FlatLatch) (nexts : List Lit) → length nexts ≡ length ls
     → map (λ (l : LatchValue). value l.input) (written_latches g control ordinal ls nexts) ≡ map (λ lit. value (literal_name g lit)) (lits_of nexts)
 latch_inputs_are g value control ordinal [] [] same = refl
-latch_inputs_are g value control ordinal [] (next ∷ nexts) same = absurd (omega (arith, same))
-latch_inputs_are g value control ordinal (l ∷ ls) [] same = absurd (omega (arith, same))
 latch_inputs_are g value control ordinal (l ∷ ls) (next ∷ nexts) same =
     ap (λ (t : List Bool). value (literal_name g next.0) ∷ t) (latch_inputs_are g value control (suc ordinal) ls nexts (omega (arith, same)))
+latch_inputs_are g value control ordinal ls nexts same = absurd (omega (arith, same))
 
 -- the control of a written latch is the flat circuit's
 named_by : (own name : List ℕ) (nil : Bool) → cond nil None (Some own) ≡ Some name → Some own ≡ Some name
@@ -40,20 +41,18 @@ clock_given control false name e = absurd (none-some name e)
 
 pub latch_next : (g : Naming) (control : Option (List ℕ)) (ordinal : ℕ) (ls : List FlatLatch) (nexts : List Lit) (l : LatchValue) → In (written_latches g control ordinal ls nexts) l
     → (lit : Lit) × In nexts lit × (l.input ≡ literal_name g lit.0) × ((name : List ℕ) → l.control ≡ Some name → control ≡ Some name)
-latch_next g control ordinal [] nexts l i = elim i [ ]
-latch_next g control ordinal (k ∷ ls) [] l i = elim i [ ]
 latch_next g control ordinal (k ∷ ls) (next ∷ nexts) l (inl e) = (next, inl refl, ap (λ (m : LatchValue). m.input) e, λ c f. clock_given control k.clocked c (sym (ap (λ (m : LatchValue). m.control) e) ∙ f))
 latch_next g control ordinal (k ∷ ls) (next ∷ nexts) l (inr i) =
     let r : (lit : Lit) × In nexts lit × (l.input ≡ literal_name g lit.0) × ((name : List ℕ) → l.control ≡ Some name → control ≡ Some name) = latch_next g control (suc ordinal) ls nexts l i in
     (r.0, inr r.1, r.2, r.3)
+latch_next g control ordinal ls nexts l i = elim i [ ]
 
 pub latch_named : (g : Naming) (control : Option (List ℕ)) (ordinal : ℕ) (ls : List FlatLatch) (nexts : List Lit) (l : LatchValue) (name : List ℕ) → In (written_latches g control ordinal ls nexts) l → read_control l.control ≡ Some name → control ≡ Some name
 latch_named g control ordinal ls nexts l name i e = (latch_next g control ordinal ls nexts l i).3 name (read_given l.control name e)
 
 -- outputs
 or_none : (b : Bool) → ((b && true) || false) ≡ b
-or_none true = refl
-or_none false = refl
+or_none b = grind arith
 
 wire_by : (root name : List ℕ) (value : List ℕ → Bool) (same : Bool) → bytes_eq name root ≡ same → ((c : CoverValue) → In (cond same [] (wire_of root name ∷ [])) c → value c.output ≡ cover_value c (map value c.inputs)) → value name ≡ value root
 wire_by root name value true e h = ap value ((bytes_eq-Decides name root).0 e)
@@ -65,17 +64,14 @@ wire_value root name value h = wire_by root name value (bytes_eq name root) refl
 outputs_are_roots : (g : Naming) (value : List ℕ → Bool) (os : List OutPort) (lits : List Lit) → length lits ≡ length os → ((c : CoverValue) → In (wires g os lits) c → value c.output ≡ cover_value c (map value c.inputs))
     → map value (map (λ (o : OutPort). o.name) os) ≡ map (λ lit. value (literal_name g lit)) (lits_of lits)
 outputs_are_roots g value [] [] same h = refl
-outputs_are_roots g value [] (lit ∷ lits) same h = absurd (omega (arith, same))
-outputs_are_roots g value (o ∷ os) [] same h = absurd (omega (arith, same))
 outputs_are_roots g value (o ∷ os) (lit ∷ lits) same h =
     ap (λ (b : Bool). b ∷ map value (map (λ (p : OutPort). p.name) os)) (wire_value (literal_name g lit.0) o.name value (λ c i. h c (In-left (wire (literal_name g lit.0) o.name) (wires g os lits) c i)))
     ∙ ap (λ (t : List Bool). value (literal_name g lit.0) ∷ t) (outputs_are_roots g value os lits (omega (arith, same)) (λ c i. h c (In-right (wire (literal_name g lit.0) o.name) (wires g os lits) c i)))
+outputs_are_roots g value os lits same h = absurd (omega (arith, same))
 
 -- small facts on lists
 pub in_all : {A B : Type 0} (f : A → List B) (xs : List A) (x : A) (y : B) → In xs x → In (f x) y → In (flat_map (λ (t : List B). t) (map f xs)) y
-in_all f [] x y i j = elim i [ ]
-in_all f (z ∷ xs) x y (inl e) j = In-left (f z) (flat_map (λ t. t) (map f xs)) y (subst (λ k. In (f k) y) e j)
-in_all f (z ∷ xs) x y (inr i) j = In-right (f z) (flat_map (λ t. t) (map f xs)) y (in_all f xs x y i j)
+in_all f xs x y i j = in_lines (map f xs) (f x) y (In-map f xs x i) j
 
 -- the sources
 parts_by : (shape : Shape) (n : ℕ) (first : Bool) → (nat_le 1 n && nat_le n shape.regular) ≡ first → (first || (nat_lt (shape.regular + shape.params) n && nat_le n (last_source shape))) ≡ true
@@ -94,25 +90,26 @@ name_input flat params name i = (In-filter (λ (other : List ℕ). not (has_name
 past_regular : (n r : ℕ) → r < n → nat_le n r ≡ false
 past_regular n r h = false_from_ne_true (nat_le n r) (λ t. let e : n ≤ r = leb-true n r t in omega (arith, e, h))
 
+-- the control of a written netlist is the flat circuit's
+control_is : (flat : FlatValue) (params : List Param) (t : TemplateValue) (bits : List (List (List ℕ))) (tables : List CoverValue) (name : List ℕ) → IsControlName (with_tables flat params t bits tables) name → flat.control ≡ Some name
+control_is flat params t bits tables name c = latch_named (naming_of flat params) flat.control 0 flat.latches t.next c.latch name c.in' c.is
+
 module _ (flat : FlatValue) (params : List Param) (t : TemplateValue) (bits : List (List (List ℕ))) (tables : List CoverValue) (ports : HasPorts flat) (are : AreTablesOf flat params t)
     (x : List ℕ → Bool) (s : List Bool) (value : List ℕ → Bool) (fits : PlainFits (with_tables flat params t bits tables) x s value) where
   abbrev named : Naming
   named = naming_of flat params
-
-  control_is : (name : List ℕ) → IsControlName (with_tables flat params t bits tables) name → flat.control ≡ Some name
-  control_is name c = latch_named named flat.control 0 flat.latches t.next c.latch name c.in' c.is
 
   regular_fit : (i : ℕ) → i < length named.regular → value (get_or named.regular i []) ≡ x (get_or named.regular i [])
   regular_fit i small =
       let name : List ℕ = get_or named.regular i [] in
       let there : In named.regular name = In-get_or named.regular i [] small in
       fits.inputs name (In-left (named.regular ++ control_names flat.control) (flat_map (λ (l : List (List ℕ)). l) bits) name (In-left named.regular (control_names flat.control) name there))
-      (λ c. ports.no_input name (control_is name c) (name_input flat params name there))
+      (λ c. ports.no_input name (control_is flat params t bits tables name c) (name_input flat params name there))
 
   bit_fit : (b : ℕ) → In (flat_map (λ (l : List (List ℕ)). l) bits) (bit_name named b) → value (bit_name named b) ≡ x (bit_name named b)
   bit_fit b there =
       fits.inputs (bit_name named b) (In-right (named.regular ++ control_names flat.control) (flat_map (λ (l : List (List ℕ)). l) bits) (bit_name named b) there)
-      (λ c. no_port_name named 99 b (bit_name named b) refl (ports.control (bit_name named b) (control_is (bit_name named b) c)).under refl)
+      (λ c. no_port_name named 99 b (bit_name named b) refl (ports.control (bit_name named b) (control_is flat params t bits tables (bit_name named b) c)).under refl)
 
   latch_fit : (j : ℕ) → j < length flat.latches → value (latch_name named j) ≡ slice_index_or s j false
   latch_fit j small =
@@ -185,3 +182,98 @@ module _ (flat : FlatValue) (params : List Param) (t : TemplateValue) (bits : Li
       ∙ get_or-map-range_with_len (λ c. value (bit_name named c)) u.base (2 ^ length u.leaves) (number ins) b false small refl
       ∙ bit_fit b (input b (omega arith) (omega (arith, small)))
       ∙ sym (get_or-map-range_with_len (λ c. x (bit_name named c)) 0 t.bits b b false (omega (arith, small, within, sum)) (omega arith))
+
+-- names that are no clocks stay
+kept_all : (test : List ℕ → Bool) (names : List (List ℕ)) → ((name : List ℕ) → In names name → test name ≡ false) → filter (λ name. not (test name)) names ≡ names
+kept_all test [] h = refl
+kept_all test (name ∷ names) h = rw (h name (inl refl)) (ap (λ (t : List (List ℕ)). name ∷ t) (kept_all test names (λ other i. h other (inr i))))
+
+-- a clocked latch is written with the control
+clocked_written : (g : Naming) (control : Option (List ℕ)) (ordinal : ℕ) (ls : List FlatLatch) (nexts : List Lit) (l : FlatLatch) → length nexts ≡ length ls → In ls l → l.clocked ≡ true
+    → (k : LatchValue) × In (written_latches g control ordinal ls nexts) k × (k.control ≡ control)
+clocked_written g control ordinal [] nexts l same i c = elim i [ ]
+clocked_written g control ordinal (m ∷ ls) [] l same i c = absurd (omega (arith, same))
+clocked_written g control ordinal (m ∷ ls) (next ∷ nexts) l same (inl e) c =
+    (written_latch g control ordinal m next, inl refl, ap (clock_of control) (sym (ap (λ (k : FlatLatch). k.clocked) e) ∙ c))
+clocked_written g control ordinal (m ∷ ls) (next ∷ nexts) l same (inr i) c =
+    let r : (k : LatchValue) × In (written_latches g control (suc ordinal) ls nexts) k × (k.control ≡ control) = clocked_written g control (suc ordinal) ls nexts l (omega (arith, same)) i c in
+    (r.0, inr r.1, r.2)
+
+-- a control that is read isn't `NIL`
+unless_nil : (own name : List ℕ) (b : Bool) → bytes_eq own (codes "NIL") ≡ b → (if b then None else Some own) ≡ Some name → bytes_eq name (codes "NIL") ≡ false
+unless_nil own name true f e = absurd (none-some name e)
+unless_nil own name false f e = sym (ap (λ (k : List ℕ). bytes_eq k (codes "NIL")) (same_Some own name e)) ∙ f
+
+read_named : (control : Option (List ℕ)) (name : List ℕ) → read_control control ≡ Some name → bytes_eq name (codes "NIL") ≡ false
+read_named None name e = absurd (none-some name e)
+read_named (Some own) name e = unless_nil own name (bytes_eq own (codes "NIL")) refl e
+
+-- the configuration bits in the order of their addresses
+pub bits_in_order : (g : Naming) (b : ℕ) (luts : List Lut) → HaveBases b luts → flat_map (λ (l : List (List ℕ)). l) (map (bit_names g) luts) ≡ map (bit_name g) (range_with_len b (bits_of luts))
+bits_in_order g b [] h = refl
+bits_in_order g b (t ∷ ts) h =
+    let count : ℕ = 2 ^ length t.leaves in
+    let sum : bits_of (t ∷ ts) ≡ count + bits_of ts = sum_by-cons (λ (k : Lut). 2 ^ length k.leaves) t ts in
+    ap (λ (rest : List (List ℕ)). bit_names g t ++ rest) (bits_in_order g (b + count) ts h.1)
+    ∙ ap (λ (k : ℕ). map (bit_name g) (range_with_len k count) ++ map (bit_name g) (range_with_len (b + count) (bits_of ts))) h.0
+    ∙ sym (map-append (bit_name g) (range_with_len b count) (range_with_len (b + count) (bits_of ts)))
+    ∙ ap (map (bit_name g)) (sym (ranges_join b count (bits_of ts)) ∙ ap (range_with_len b) (sym sum))
+
+module _ (flat : FlatValue) (params : List Param) (t : TemplateValue) (bits : List (List (List ℕ))) (tables : List CoverValue) (ports : HasPorts flat) (nexts : length t.next ≡ length flat.latches) where
+  abbrev g : Naming
+  g = naming_of flat params
+
+  abbrev n : PlainNetlist
+  n = with_tables flat params t bits tables
+
+  abbrev bit_inputs : List (List ℕ)
+  bit_inputs = flat_map (λ (l : List (List ℕ)). l) bits
+
+  control_there : (own : List ℕ) → flat.control ≡ Some own → bytes_eq own (codes "NIL") ≡ false → IsControlName n own
+  control_there own e f =
+      let l : (l : FlatLatch) × In flat.latches l × (l.clocked ≡ true) = ports.clocked own e in
+      let k : (k : LatchValue) × In n.latches k × (k.control ≡ flat.control) = clocked_written g flat.control 0 flat.latches t.next l.0 nexts l.1 l.2 in
+      record { latch = k.0; in' = k.1; is = ap read_control (k.2 ∙ e) ∙ ap (λ (b : Bool). if b then None else Some own) f }
+
+  module _ (test : List ℕ → Bool) (tells : TellsClocks (library_of n) test) where
+    no_clock : (name : List ℕ) → (IsControlName n name → ⊥) → test name ≡ false
+    no_clock name h = not_clock n test tells name h
+
+    a_clock : (name : List ℕ) → In (all_inputs n) name → IsControlName n name → test name ≡ true
+    a_clock name i c = elim (cases_Bool (test name)) [
+      | inl e ↦ e
+      | inr e ↦ let p : (j : ℕ) × (slice_get n.latches j ≡ Some c.latch) = place_in n.latches c.latch c.in' in
+          absurd (tells.no name e (controls [] p.0 (read_latch c.latch) name (latch_at_top n p.0 c.latch p.1) c.is (main_input refl (main_there n name i) refl)))
+    ]
+
+    regular_kept : filter (λ name. not (test name)) g.regular ≡ g.regular
+    regular_kept = kept_all test g.regular (λ name i. no_clock name (λ c. ports.no_input name (control_is flat params t bits tables name c) (name_input flat params name i)))
+
+    unless : (own : List ℕ) (b : Bool) → flat.control ≡ Some own → bytes_eq own (codes "NIL") ≡ b → filter (λ name. not (test name)) (own ∷ []) ≡ (if b then own ∷ [] else [])
+    unless own true e f = kept_all test (own ∷ []) (λ name i. no_clock name (λ c.
+        let same : own ≡ name = same_Some own name (sym e ∙ control_is flat params t bits tables name c) in
+        let wrong : true ≡ false = sym f ∙ ap (λ (k : List ℕ). bytes_eq k (codes "NIL")) same ∙ read_named c.latch.control name c.is in
+        let no : ⊥ = cc in
+        no))
+    unless own false e f =
+        let here : In (all_inputs n) own = In-left (g.regular ++ control_names flat.control) bit_inputs own (In-right g.regular (control_names flat.control) own (control_named_in flat.control own e)) in
+        rw (a_clock own here (control_there own e f)) refl
+
+    control_kept : (control : Option (List ℕ)) → flat.control ≡ control → filter (λ name. not (test name)) (control_names control) ≡ free_control control
+    control_kept None e = refl
+    control_kept (Some own) e = unless own (bytes_eq own (codes "NIL")) e refl
+
+    bits_kept : ((name : List ℕ) → In bit_inputs name → (b : ℕ) × (b < 2 ^ 64) × (name ≡ bit_name g b)) → filter (λ name. not (test name)) bit_inputs ≡ bit_inputs
+    bits_kept own = kept_all test bit_inputs (λ name i. no_clock name (λ c. no_port_name g 99 (own name i).0 name refl (ports.control name (control_is flat params t bits tables name c)).under (sym (own name i).2)))
+
+  -- the inputs of its flat circuit
+  pub inputs_again : ((name : List ℕ) → In bit_inputs name → (b : ℕ) × (b < 2 ^ 64) × (name ≡ bit_name g b)) → (again : FlatValue) → IsFlat (library_of n) again
+      → again.inputs ≡ g.regular ++ (free_control flat.control ++ bit_inputs)
+  inputs_again own again h =
+      let off : List ℕ → Bool = λ name. not (h.test name) in
+      let all : filter off h.main.inputs ≡ filter off ((g.regular ++ control_names flat.control) ++ bit_inputs) = ap (λ (m : ModelValue). filter off m.inputs) (only_top n [] h.main h.is_main).1 in
+      h.inputs ∙ all ∙ filter-append off (g.regular ++ control_names flat.control) bit_inputs
+      ∙ ap₂ (λ (a b : List (List ℕ)). a ++ b)
+      (filter-append off g.regular (control_names flat.control) ∙ ap₂ (λ (a b : List (List ℕ)). a ++ b) (regular_kept h.test h.tells) (control_kept h.test h.tells flat.control refl))
+      (bits_kept h.test h.tells own)
+      ∙ append_assoc g.regular (free_control flat.control) bit_inputs

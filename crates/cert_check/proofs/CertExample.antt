@@ -2,8 +2,9 @@
 --
 -- The sources are the inputs 1, 2 and 3. Nodes 4 and 5 are the products of the exclusive or of inputs 1 and 2, node 6 is its
 -- complement, and node 7 is the product of input 3 and the exclusive or.
-use Rattle.cert_check.proofs.Common.{◌≡◌, ◌≢◌, ℕ, zero, suc, ◌+◌, ◌<◌, ◌≤◌, Bool, true, ◌||◌, not, eqb, leb, List, [], ◌∷◌, Some, refl, sym, ap, subst, inl, inr, arith, slice_get, list_all, list_any, and_parts, or_cases, or_left, or_right, not-true, eqb-true, leb-true, eq-eqb, both_ways, none-some, same_Some, slice_get_within, Aig, IsAnd, IsSource, Regular, Pair, In, PathValue, StepValue, CertificateValue, IsFanIn, first, second, IsPath, claim_of, IsJustified, node, complemented, IsReached, IsValid, MayStand, IsFault, IsLowerBound, PathCount, Shared, NotReached}
+use Rattle.cert_check.proofs.Common.{◌≡◌, ◌≢◌, ℕ, zero, suc, ◌+◌, ◌<◌, ◌≤◌, Bool, true, ◌||◌, not, eqb, leb, List, [], ◌∷◌, Some, refl, sym, subst, inl, inr, arith, slice_get, list_all, list_any, and_parts, or_cases, or_left, or_right, not-true, eqb-true, leb-true, eq-eqb, both_ways, none-some, same_Some, slice_get_within, Aig, Regular, Pair, In, PathValue, StepValue, CertificateValue, IsFanIn, first, second, IsPath, claim_of, IsJustified, node, complemented, IsReached, IsValid, MayStand, IsFault, IsLowerBound, PathCount, Shared, NotReached, ◌-◌, ◌/◌, ◌⊎◌, PathsFault, None, codes, WordsLine, says_claim, says_path, said_of, malformed_line, IsCertText, DepthFault}
 use Rattle.cert_check.proofs.LeastLemmas.{valid_bound}
+use Rattle.cert_check.proofs.PathLemmas.{fan_in_cases}
 
 abbrev pair : ℕ → ℕ → Pair
 pair a b = record { x = record { 0 = a }; y = record { 0 = b } }
@@ -25,49 +26,25 @@ abbrev pub certificate : CertificateValue
 certificate = record { depth = 2; steps = lower ∷ upper ∷ [] }
 
 -- the edges
-one_four : IsFanIn circuit 1 4
-one_four = first (pair 2 5) (record { above = omega arith; is = refl }) refl
+edge : (m n : ℕ) (p : Pair) → 4 ≤ n → slice_get circuit.pairs (n - 4) ≡ Some p → (m ≡ p.x.0 / 2) ⊎ (m ≡ p.y.0 / 2) → IsFanIn circuit m n
+edge m n p l e (inl f) = first p (record { above = l; is = e }) f
+edge m n p l e (inr f) = second p (record { above = l; is = e }) f
 
-two_five : IsFanIn circuit 2 5
-two_five = second (pair 3 4) (record { above = omega arith; is = refl }) refl
-
-four_six : IsFanIn circuit 4 6
-four_six = first (pair 9 11) (record { above = omega arith; is = refl }) refl
-
-five_six : IsFanIn circuit 5 6
-five_six = second (pair 9 11) (record { above = omega arith; is = refl }) refl
-
-three_seven : IsFanIn circuit 3 7
-three_seven = first (pair 6 13) (record { above = omega arith; is = refl }) refl
-
-six_seven : IsFanIn circuit 6 7
-six_seven = second (pair 6 13) (record { above = omega arith; is = refl }) refl
-
-input_one : IsSource circuit Regular 1
-input_one = record { above = omega arith; is = refl }
-
-input_two : IsSource circuit Regular 2
-input_two = record { above = omega arith; is = refl }
-
-input_three : IsSource circuit Regular 3
-input_three = record { above = omega arith; is = refl }
+path_lower : IsPath circuit 6 (1 ∷ 4 ∷ 6 ∷ [])
+path_lower = (record { above = omega arith; is = refl }, (edge 1 4 (pair 2 5) (omega arith) refl (inl refl), (edge 4 6 (pair 9 11) (omega arith) refl (inl refl), refl)))
 
 path_three : IsPath circuit 7 (3 ∷ 7 ∷ [])
-path_three = (input_three, (three_seven, refl))
+path_three = (record { above = omega arith; is = refl }, (edge 3 7 (pair 6 13) (omega arith) refl (inl refl), refl))
 
 path_one : IsPath circuit 7 (1 ∷ 4 ∷ 6 ∷ 7 ∷ [])
-path_one = (input_one, (one_four, (four_six, (six_seven, refl))))
+path_one = (path_lower.0, (path_lower.1.0, (path_lower.1.1.0, (edge 6 7 (pair 6 13) (omega arith) refl (inr refl), refl))))
 
 path_two : IsPath circuit 7 (2 ∷ 5 ∷ 6 ∷ 7 ∷ [])
-path_two = (input_two, (two_five, (five_six, (six_seven, refl))))
+path_two = (record { above = omega arith; is = refl }, (edge 2 5 (pair 3 4) (omega arith) refl (inr refl), (edge 5 6 (pair 9 11) (omega arith) refl (inr refl), (path_one.1.1.1.0, refl))))
 
 -- a path that leaves out a node is none
-jump : IsFanIn circuit 1 6 → ⊥
-jump (first p is e) = let q : pair 9 11 ≡ p = same_Some (pair 9 11) p is.is in let x : p.x.0 ≡ 9 = ap (λ (r : Pair). r.x.0) (sym q) in omega arith
-jump (second p is e) = let q : pair 9 11 ≡ p = same_Some (pair 9 11) p is.is in let y : p.y.0 ≡ 11 = ap (λ (r : Pair). r.y.0) (sym q) in omega arith
-
 no_path : IsPath circuit 6 (1 ∷ 6 ∷ []) → ⊥
-no_path p = jump p.1.0
+no_path p = elim (fan_in_cases circuit 1 6 (pair 9 11) (record { above = omega arith; is = refl }) p.1.0) [ inl e ↦ (let q : 1 ≡ 4 = e in cc) | inr e ↦ (let q : 1 ≡ 5 = e in cc) ]
 
 -- which nodes two lists share, by a test
 abbrev has : List ℕ → ℕ → Bool
@@ -113,23 +90,19 @@ apart i j m p q l e f =
     (λ below. all_share claim upper (3 ∷ 7 ∷ []) (2 ∷ 5 ∷ 6 ∷ 7 ∷ []) refl) (λ below. all_share claim upper (1 ∷ 4 ∷ 6 ∷ 7 ∷ []) (2 ∷ 5 ∷ 6 ∷ 7 ∷ []) refl) (λ below. absurd (omega arith)))
     j q f i p e l m
 
+upper_paths : (p : PathValue) → In upper.paths p → IsPath circuit 7 p.nodes
+upper_paths p (inl e) = rw e path_three
+upper_paths p (inr (inl e)) = rw e path_one
+upper_paths p (inr (inr (inl e))) = rw e path_two
+upper_paths p (inr (inr (inr x))) = absurd x
+
 upper_shown : IsJustified circuit 2 (claim_of certificate.steps) upper
-upper_shown = record {
-  count = refl;
-  paths = λ p i. elim i [
-    | inl e ↦ subst (λ (r : PathValue). IsPath circuit 7 r.nodes) (sym e) path_three
-    | inr j ↦ elim j [
-      | inl e ↦ subst (λ (r : PathValue). IsPath circuit 7 r.nodes) (sym e) path_one
-      | inr k ↦ elim k [ inl e ↦ subst (λ (r : PathValue). IsPath circuit 7 r.nodes) (sym e) path_two | inr x ↦ absurd x ]
-    ]
-  ];
-  apart = apart;
-}
+upper_shown = record { count = refl; paths = upper_paths; apart = apart }
 
 lower_shown : IsJustified circuit 2 (claim_of certificate.steps) lower
 lower_shown = record {
   count = refl;
-  paths = λ p i. elim i [ inl e ↦ subst (λ (r : PathValue). IsPath circuit 6 r.nodes) (sym e) (input_one, (one_four, (four_six, refl))) | inr x ↦ absurd x ];
+  paths = λ p i. elim i [ inl e ↦ rw e path_lower | inr x ↦ absurd x ];
   apart = λ i j m p q l e f a b other. absurd (let one : j < 1 = slice_get_within lower.paths j q f in omega arith);
 }
 
@@ -137,62 +110,43 @@ lower_shown = record {
 pub valid : IsValid circuit (14 ∷ []) 2 certificate
 valid = record {
   ascending = (λ n i. elim i [ inl e ↦ (let q : n ≡ 7 = e in omega arith) | inr x ↦ absurd x ], (λ n i. absurd i, tt));
-  nodes = λ s i. elim i [
-    | inl e ↦ subst (λ (t : StepValue). IsAnd circuit t.node) (sym e) (omega arith, omega arith)
-    | inr j ↦ elim j [ inl e ↦ subst (λ (t : StepValue). IsAnd circuit t.node) (sym e) (omega arith, omega arith) | inr x ↦ absurd x ]
-  ];
-  justified = λ s i. elim i [
-    | inl e ↦ subst (IsJustified circuit 2 (claim_of certificate.steps)) (sym e) lower_shown
-    | inr j ↦ elim j [ inl e ↦ subst (IsJustified circuit 2 (claim_of certificate.steps)) (sym e) upper_shown | inr x ↦ absurd x ]
-  ];
+  nodes = λ s i. elim i [ inl e ↦ rw e (omega arith, omega arith) | inr j ↦ elim j [ inl e ↦ rw e (omega arith, omega arith) | inr x ↦ absurd x ] ];
+  justified = λ s i. elim i [ inl e ↦ rw e lower_shown | inr j ↦ elim j [ inl e ↦ rw e upper_shown | inr x ↦ absurd x ] ];
   reached = inr (inl (node (omega arith, omega arith) (omega arith)));
 }
 
 pub bound : IsLowerBound circuit 2 (14 ∷ []) 2
 bound = valid_bound circuit (14 ∷ []) 2 certificate valid
 
--- a node may stand behind paths, by a test
-may_by : (claim : ℕ → ℕ) (s : StepValue) (earlier : List PathValue) (m : ℕ) → list_all (λ (p : PathValue). may_share claim s p.nodes m) earlier ≡ true → MayStand claim s earlier m
-may_by claim s [] m t p i j other = absurd i
-may_by claim s (q ∷ qs) m t p (inl e) j other = one_shares claim s q.nodes m (and_parts (may_share claim s q.nodes m) (list_all (λ (r : PathValue). may_share claim s r.nodes m) qs) t).0 (subst (λ (r : PathValue). In r.nodes m) e j) other
-may_by claim s (q ∷ qs) m t p (inr i) j other = may_by claim s qs m (and_parts (may_share claim s q.nodes m) (list_all (λ (r : PathValue). may_share claim s r.nodes m) qs) t).1 p i j other
-
 -- Without the claim of node 6 the third path, in line 7, may not share it with the second one.
 abbrev unclaimed : CertificateValue
 unclaimed = record { depth = 2; steps = upper ∷ [] }
 
-shared_node : MayStand (claim_of []) upper (path 5 (3 ∷ 7 ∷ []) ∷ path 6 (1 ∷ 4 ∷ 6 ∷ 7 ∷ []) ∷ []) 6 → ⊥
+-- a node may stand behind paths, by a test
+may : (earlier : List PathValue) (m : ℕ) → list_all (λ (p : PathValue). may_share (claim_of []) upper p.nodes m) earlier ≡ true → MayStand (claim_of []) upper earlier m
+may [] m t p i j other = absurd i
+may (q ∷ qs) m t p (inl e) j other = one_shares (claim_of []) upper q.nodes m (and_parts _ _ t).0 (subst (λ (r : PathValue). In r.nodes m) e j) other
+may (q ∷ qs) m t p (inr i) j other = may qs m (and_parts (may_share (claim_of []) upper q.nodes m) _ t).1 p i j other
+
+abbrev before_third : List PathValue
+before_third = path 5 (3 ∷ 7 ∷ []) ∷ path 6 (1 ∷ 4 ∷ 6 ∷ 7 ∷ []) ∷ []
+
+shared_node : MayStand (claim_of []) upper before_third 6 → ⊥
 shared_node may = let l : 2 ≤ 0 + 1 = may (path 6 (1 ∷ 4 ∷ 6 ∷ 7 ∷ [])) (inr (inl refl)) (inr (inr (inl refl))) (λ e. let q : 6 ≡ 7 = e in omega arith) in omega arith
+
+third_fault : (R : Type 0) → PathsFault circuit (claim_of []) upper before_third (path 7 (2 ∷ 5 ∷ 6 ∷ 7 ∷ []) ∷ []) R (Shared 7 6)
+third_fault R = inr (path_two, inr (may before_third 2 refl, inr (may before_third 5 refl, inl (shared_node, refl))))
+
+second_fault : (R : Type 0) → PathsFault circuit (claim_of []) upper (path 5 (3 ∷ 7 ∷ []) ∷ []) (path 6 (1 ∷ 4 ∷ 6 ∷ 7 ∷ []) ∷ path 7 (2 ∷ 5 ∷ 6 ∷ 7 ∷ []) ∷ []) R (Shared 7 6)
+second_fault R =
+    let one : List PathValue = path 5 (3 ∷ 7 ∷ []) ∷ [] in
+    inr (path_one, inr (may one 1 refl, inr (may one 4 refl, inr (may one 6 refl, inr (may one 7 refl, third_fault R)))))
 
 pub shared : IsFault circuit (14 ∷ []) 2 unclaimed (Shared 7 6)
 shared =
-    let may : (earlier : List PathValue) (m : ℕ) → list_all (λ (p : PathValue). may_share (claim_of []) upper p.nodes m) earlier ≡ true → MayStand (claim_of []) upper earlier m = may_by (claim_of []) upper in
-    let one : List PathValue = path 5 (3 ∷ 7 ∷ []) ∷ [] in
-    let two : List PathValue = path 5 (3 ∷ 7 ∷ []) ∷ path 6 (1 ∷ 4 ∷ 6 ∷ 7 ∷ []) ∷ [] in
     inr (
       record { and = (omega arith, omega arith); above = λ t i. absurd i },
-      inr (
-        refl,
-        inr (
-          path_three,
-          inr (
-            may [] 3 refl,
-            inr (
-              may [] 7 refl,
-              inr (
-                path_one,
-                inr (
-                  may one 1 refl,
-                  inr (
-                    may one 4 refl,
-                    inr (may one 6 refl, inr (may one 7 refl, inr (path_two, inr (may two 2 refl, inr (may two 5 refl, inl (shared_node, refl)))))),
-                  ),
-                ),
-              ),
-            ),
-          ),
-        ),
-      ),
+      inr (refl, inr (path_three, inr (may [] 3 refl, inr (may [] 7 refl, second_fault (DepthFault circuit (14 ∷ []) unclaimed (Shared 7 6)))))),
     )
 
 -- two paths are too few for a claim of 2
@@ -210,4 +164,53 @@ pub not_reached : IsFault circuit (14 ∷ []) 2 (record { depth = 3; steps = [] 
 not_reached = inl (not_needed, refl)
 
 pub complement_needs : IsReached circuit (3 ∷ []) (claim_of []) 1
-complement_needs = inr (inl (complemented refl input_one refl))
+complement_needs = inr (inl (complemented refl (record { above = omega arith; is = refl }) refl))
+
+claim_is_said : said_of (codes "claim" ∷ codes "6" ∷ codes "1" ∷ []) ≡ Some (says_claim 6 1)
+claim_is_said = refl
+
+path_is_said : said_of (codes "path" ∷ codes "1" ∷ codes "4" ∷ codes "4294967295" ∷ []) ≡ Some (says_path (1 ∷ 4 ∷ 4294967295 ∷ []))
+path_is_said = refl
+
+-- a claim of 0, a path of one node, a number that begins with 0, and one that is too great
+no_claim : said_of (codes "claim" ∷ codes "6" ∷ codes "0" ∷ []) ≡ None
+no_claim = refl
+
+one_node : said_of (codes "path" ∷ codes "1" ∷ []) ≡ None
+one_node = refl
+
+leading_zero : said_of (codes "depth" ∷ codes "01" ∷ []) ≡ None
+leading_zero = refl
+
+too_great : said_of (codes "depth" ∷ codes "4294967296" ∷ []) ≡ None
+too_great = refl
+
+-- A text and its certificate. A line that is a comment has no part in it, but counts.
+abbrev read : CertificateValue
+read = record { depth = 1; steps = record { line = 3; node = 4; claim = 1; paths = record { line = 4; nodes = 1 ∷ 4 ∷ [] } ∷ [] } ∷ [] }
+
+pub text : IsCertText (codes "depth 1\n# why\nclaim 4 1\npath 1 4\n") read
+text = record {
+  lines = record { number = 1; tokens = record { start = 0; end = 5 } ∷ record { start = 6; end = 7 } ∷ [] }
+      ∷ record { number = 3; tokens = record { start = 14; end = 19 } ∷ record { start = 20; end = 21 } ∷ record { start = 22; end = 23 } ∷ [] }
+      ∷ record { number = 4; tokens = record { start = 24; end = 28 } ∷ record { start = 29; end = 30 } ∷ record { start = 31; end = 32 } ∷ [] } ∷ [];
+  lines_are = refl;
+  are = (refl, (refl, refl, (refl, refl, tt)));
+}
+
+-- Without a line the first one is missing.
+nothing : malformed_line [] ≡ Some 1
+nothing = refl
+
+-- A path behind the depth belongs to no step, and the depth stands once.
+abbrev line : ℕ → List (List ℕ) → WordsLine
+line number words = record { number = number; words = words }
+
+stray_path : malformed_line (line 1 (codes "depth" ∷ codes "1" ∷ []) ∷ line 3 (codes "path" ∷ codes "1" ∷ codes "4" ∷ []) ∷ []) ≡ Some 3
+stray_path = refl
+
+depth_again : malformed_line (line 1 (codes "depth" ∷ codes "1" ∷ []) ∷ line 2 (codes "claim" ∷ codes "4" ∷ codes "1" ∷ []) ∷ line 3 (codes "depth" ∷ codes "1" ∷ []) ∷ []) ≡ Some 3
+depth_again = refl
+
+claim_first : malformed_line (line 2 (codes "claim" ∷ codes "4" ∷ codes "1" ∷ []) ∷ []) ≡ Some 2
+claim_first = refl

@@ -1,16 +1,12 @@
 -- The steps of a certificate, one by one.
-use Rattle.cert_check.proofs.Common.{◌≡◌, ℕ, suc, ◌+◌, ◌<◌, ◌≤◌, cond, eqb, List, [], ◌∷◌, ◌++◌, take, drop, drop-cons, set, length, get_or, get_or-set_same, get_or-set_other, length-set, append_assoc, append-nil, refl, sym, ap, ◌∙◌, subst, inl, inr, Result, Ok, Err, arith, IsErrAnd, IfOk, OnOk, fun_ext, eqb-true, eqb-false, cases_eq, cases_lt, take_more, take_all, Aig, first_and, node_count, IsAnd, AreNormal, lits_of, Lit, In, choose, drop_at, In-push, In-pushed, StepValue, CertificateValue, claim_of, IsJustified, SomeNeeds, IsReached, First, IsAbove, StepFault, StepsFault, DepthFault, IsFault, HasOneVerdict, IsNext, AreInTurn, CertErr, BadClaim, NotReached}
+use Rattle.cert_check.proofs.Common.{◌≡◌, ℕ, suc, ◌+◌, ◌<◌, ◌≤◌, eqb, List, [], ◌∷◌, ◌++◌, take, drop, drop-cons, set, length, get_or, get_or-set_same, get_or-set_other, length-set, append_assoc, append-nil, refl, sym, ap, ◌∙◌, subst, inl, inr, Result, Ok, Err, arith, IsErrAnd, IfOk, OnOk, fun_ext, eqb-true, eqb-false, cases_eq, cases_lt, take_more, take_all, Aig, first_and, node_count, IsAnd, AreNormal, lits_of, Lit, In, choose, drop_at, In-push, In-pushed, StepValue, CertificateValue, claim_of, IsJustified, SomeNeeds, IsReached, First, IsAbove, StepFault, StepsFault, DepthFault, IsFault, HasOneVerdict, IsNext, AreInTurn, CertErr, BadClaim, NotReached}
 use Rattle.cert_check.proofs.FaultLemmas.{step_more, steps_more, steps_met, one_fault}
-use Rattle.cert_check.proofs.InTurnLemmas.{valid_turn}
+use Rattle.cert_check.proofs.InTurnLemmas.{claim_before, valid_turn}
 
 -- one more step in turn
 turn_push : (g : Aig) (k : ℕ) (before ss : List StepValue) (s : StepValue) → AreInTurn g k before ss → IsNext g k (before ++ ss) s → AreInTurn g k before (ss ++ s ∷ [])
 turn_push g k before [] s r n = (subst (λ xs. IsNext g k xs s) (append-nil before) n, tt)
 turn_push g k before (u ∷ us) s r n = (r.0, turn_push g k (before ++ u ∷ []) us s r.1 (subst (λ xs. IsNext g k xs s) (sym (append_assoc before (u ∷ []) us)) n))
-
-claim_old : (ss : List StepValue) (s : StepValue) (m : ℕ) → (s.node ≡ m → ⊥) → claim_of (ss ++ s ∷ []) m ≡ claim_of ss m
-claim_old [] s m ne = choose (λ v. v ≡ 0) (eqb s.node m) s.claim 0 (λ e. absurd (ne (eqb-true s.node m e))) (λ e. refl)
-claim_old (t ∷ ts) s m ne = ap (λ v. cond (eqb t.node m) t.claim v) (claim_old ts s m ne)
 
 claim_new : (ss : List StepValue) (s : StepValue) (m : ℕ) → ((t : StepValue) → In ss t → t.node < s.node) → s.node ≡ m → claim_of (ss ++ s ∷ []) m ≡ s.claim
 claim_new [] s m below e = choose (λ v. v ≡ s.claim) (eqb s.node m) s.claim 0 (λ q. refl) (λ q. absurd (eqb-false s.node m q e))
@@ -79,7 +75,7 @@ module _ (g : Aig) (k : ℕ) (steps : List StepValue) (at last : ℕ) (claims ma
       next_claims : (m : ℕ) → get_or (set claims s.node s.claim) m 0 ≡ claim_of (take at steps ++ s ∷ []) m
       next_claims m = elim (cases_eq m s.node) [
         | inl q ↦ ap (λ x. get_or (set claims s.node s.claim) x 0) q ∙ (get_or-set_same claims s.node s.claim 0 inside ∙ sym (claim_new (take at steps) s m (above_is and up).above (sym q)))
-        | inr ne ↦ get_or-set_other claims s.node m s.claim 0 ne ∙ (taken.claims_are m ∙ sym (claim_old (take at steps) s m (λ e. ne (sym e))))
+        | inr ne ↦ get_or-set_other claims s.node m s.claim 0 ne ∙ (taken.claims_are m ∙ sym (claim_before (take at steps) (s ∷ []) m (λ t j e. elim j [ inl f ↦ ne (sym e ∙ ap (λ (x : StepValue). x.node) f) | inr x ↦ absurd x ])))
       ]
 
       pub next_taken : (new_claims new_marks : List ℕ) → new_claims ≡ set claims s.node s.claim → length new_marks ≡ node_count g → ((m : ℕ) → get_or new_marks m 0 ≤ s.node) → AreStepsTaken g k steps (at + 1) s.node new_claims new_marks

@@ -1,15 +1,15 @@
 -- Steps in turn: a certificate is valid where its steps are in turn and its depth is reached, and only there.
-use Rattle.cert_check.proofs.Common.{◌≡◌, ℕ, ◌+◌, ◌<◌, ◌≤◌, cond, eqb, List, [], ◌∷◌, ◌++◌, append_assoc, map, refl, sym, ap, ◌∙◌, subst, inl, inr, arith, eqb-true, ◌≢◌, Aig, first_and, IsAnd, AreNormal, In, IsAscending, choose, In-left, In-right, In-push, In-get, In-map, StepValue, CertificateValue, claim_of, IsJustified, IsReached, IsValid, AreInTurn}
+use Rattle.cert_check.proofs.Common.{◌≡◌, ℕ, ◌+◌, ◌<◌, ◌≤◌, cond, eqb, List, [], ◌∷◌, ◌++◌, append_assoc, map, refl, sym, ap, ◌∙◌, subst, inl, inr, arith, eqb-true, ◌≢◌, Aig, first_and, IsAnd, AreNormal, In, IsAscending, choose, In-left, In-right, In-push, In-get, In-map, from_map, StepValue, CertificateValue, claim_of, IsJustified, IsReached, IsValid, AreInTurn}
 use Rattle.cert_check.proofs.PathLemmas.{path_below}
 
--- later steps of higher nodes do not change the claim of a node
-claim_none : (ss : List StepValue) (m : ℕ) → ((t : StepValue) → In ss t → m < t.node) → claim_of ss m ≡ 0
-claim_none [] m above = refl
-claim_none (t ∷ ts) m above = choose (λ v. v ≡ 0) (eqb t.node m) t.claim (claim_of ts m) (λ e. let l : m < t.node = above t (inl refl) in let q : t.node ≡ m = eqb-true t.node m e in absurd (omega arith)) (λ e. claim_none ts m (λ u j. above u (inr j)))
+-- later steps of other nodes do not change the claim of a node
+claim_none : (ss : List StepValue) (m : ℕ) → ((t : StepValue) → In ss t → t.node ≢ m) → claim_of ss m ≡ 0
+claim_none [] m never = refl
+claim_none (t ∷ ts) m never = choose (λ v. v ≡ 0) (eqb t.node m) t.claim (claim_of ts m) (λ e. absurd (never t (inl refl) (eqb-true t.node m e))) (λ e. claim_none ts m (λ u j. never u (inr j)))
 
-claim_before : (xs ys : List StepValue) (m : ℕ) → ((t : StepValue) → In ys t → m < t.node) → claim_of (xs ++ ys) m ≡ claim_of xs m
-claim_before [] ys m above = claim_none ys m above
-claim_before (t ∷ ts) ys m above = ap (λ v. cond (eqb t.node m) t.claim v) (claim_before ts ys m above)
+pub claim_before : (xs ys : List StepValue) (m : ℕ) → ((t : StepValue) → In ys t → t.node ≢ m) → claim_of (xs ++ ys) m ≡ claim_of xs m
+claim_before [] ys m never = claim_none ys m never
+claim_before (t ∷ ts) ys m never = ap (λ v. cond (eqb t.node m) t.claim v) (claim_before ts ys m never)
 
 -- steps in turn have higher nodes than those before them
 steps_above : (g : Aig) (k : ℕ) (before ss : List StepValue) → AreInTurn g k before ss → (t s : StepValue) → In before t → In ss s → t.node < s.node
@@ -17,15 +17,10 @@ steps_above g k before [] r t s i j = absurd j
 steps_above g k before (u ∷ us) r t s i (inl e) = let l : t.node < u.node = r.0.above.above t i in let q : s.node ≡ u.node = ap (λ (x : StepValue). x.node) e in omega arith
 steps_above g k before (u ∷ us) r t s i (inr j) = steps_above g k (before ++ u ∷ []) us r.1 t s (In-left before (u ∷ []) t i) j
 
-of_nodes : (ss : List StepValue) (m : ℕ) → In (map (λ (s : StepValue). s.node) ss) m → (s : StepValue) × In ss s × (m ≡ s.node)
-of_nodes [] m i = absurd i
-of_nodes (s ∷ ss) m (inl e) = (s, inl refl, e)
-of_nodes (s ∷ ss) m (inr i) = let r = of_nodes ss m i in (r.0, inr r.1, r.2)
-
 steps_ascending : (g : Aig) (k : ℕ) (before ss : List StepValue) → AreInTurn g k before ss → IsAscending (map (λ (s : StepValue). s.node) ss)
 steps_ascending g k before [] r = tt
 steps_ascending g k before (u ∷ us) r = (
-  (λ m i. let q = of_nodes us m i in
+  (λ m i. let q = from_map (λ (s : StepValue). s.node) us m i in
       let l : u.node < q.0.node = steps_above g k (before ++ u ∷ []) us r.1 u q.0 (In-right before (u ∷ []) u (inl refl)) q.1 in
       let e : m ≡ q.0.node = q.2 in omega arith),
   steps_ascending g k (before ++ u ∷ []) us r.1,
@@ -44,9 +39,9 @@ justified_agree g k f h s normal same just = record {
 
 -- the claims of all steps are below a node those of the steps before its step
 claims_agree : (before ss : List StepValue) (u : StepValue) → ((s : StepValue) → In ss s → u.node < s.node) → (m : ℕ) → m < u.node → claim_of (before ++ (u ∷ ss)) m ≡ claim_of before m
-claims_agree before ss u above m l = claim_before before (u ∷ ss) m (λ t j. elim j [
-  | inl f ↦ (let h : t.node ≡ u.node = ap (λ (x : StepValue). x.node) f in omega arith)
-  | inr h ↦ (let a : u.node < t.node = above t h in omega arith)
+claims_agree before ss u above m l = claim_before before (u ∷ ss) m (λ t j e. elim j [
+  | inl f ↦ (let h : t.node ≡ u.node = ap (λ (x : StepValue). x.node) f in absurd (omega arith))
+  | inr h ↦ (let a : u.node < t.node = above t h in absurd (omega arith))
 ])
 
 turn_justified : (g : Aig) (k : ℕ) (before ss all : List StepValue) → AreNormal (first_and g) g.pairs → before ++ ss ≡ all → AreInTurn g k before ss → (s : StepValue) → In ss s → IsJustified g k (claim_of all) s

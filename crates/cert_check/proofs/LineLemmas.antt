@@ -1,5 +1,5 @@
 -- The lines of a certificate's text are read one by one: the steps of the lines so far, and the first line that doesn't fit.
-use Rattle.cert_check.proofs.Common.{◌≡◌, ℕ, zero, suc, ◌+◌, ◌<◌, ◌≤◌, true, false, eqb, List, [], ◌∷◌, ◌++◌, length, map, take, drop, get_or, Some, None, Result, Ok, Err, refl, sym, ap, ◌∙◌, subst, arith, append_assoc, append-nil, slice_get, MatchResult, option_map, cond-true, cond-false, le-leb, take_all, map-append, flat_map-append, slice_get-map, slice_get_read, slice_get_within, drop_get, OrMemory, OrMemory-map, LineValue, WordsLine, words_line, PathValue, StepValue, Saying, says_depth, says_claim, says_path, said_of, SaidLine, path_said, step_said, steps_said, AreSaid, AreLinesOf, fits_at, first_misfit, IsMalformed, IsMisfit, refusal_of, CertErr, Malformed, take_get}
+use Rattle.cert_check.proofs.Common.{◌≡◌, ℕ, suc, ◌+◌, ◌<◌, ◌≤◌, true, false, eqb, List, [], ◌∷◌, ◌++◌, length, map, take, drop, get_or, Some, None, Result, Ok, Err, refl, sym, ap, ◌∙◌, subst, arith, append_assoc, append-nil, slice_get, MatchResult, option_map, cond-true, cond-false, le-leb, take_all, map-append, flat_map-append, slice_get-map, slice_get_read, slice_get_within, drop_get, OrMemory, OrMemory-map, LineValue, WordsLine, words_line, PathValue, StepValue, Saying, says_depth, says_claim, says_path, said_of, SaidLine, path_said, step_said, steps_said, AreSaid, AreLinesOf, fits_at, first_misfit, IsMalformed, IsMisfit, refusal_of, CertErr, Malformed, take_get, Option, take-append-drop, token_bytes, Token, number_of, in_front, numbers_of, min, length-take}
 
 -- one more line
 said_push : (lines : List WordsLine) (others : List SaidLine) (line : WordsLine) (said : SaidLine) → AreSaid lines others → line.number ≡ said.number → said_of line.words ≡ Some said.saying → AreSaid (lines ++ line ∷ []) (others ++ said ∷ [])
@@ -13,12 +13,6 @@ said_length [] [] are = refl
 said_length [] (x ∷ xs) are = absurd are
 said_length (l ∷ ls) [] are = absurd are
 said_length (l ∷ ls) (x ∷ xs) are = ap suc (said_length ls xs are.2)
-
-length_taken : {A : Type 0} (xs : List A) (i : ℕ) → i ≤ length xs → length (take i xs) ≡ i
-length_taken [] zero l = refl
-length_taken [] (suc i) l = absurd (omega arith)
-length_taken (x ∷ xs) zero l = refl
-length_taken (x ∷ xs) (suc i) l = ap suc (length_taken xs i (omega arith))
 
 -- the lines before a place are read, and these are their steps
 pub record AreRead (lines : List WordsLine) (i : ℕ) (steps : List StepValue) : Type 0 where
@@ -34,7 +28,7 @@ module _ (lines : List WordsLine) (i : ℕ) (steps : List StepValue) (read : Are
     place_is =
         let l : i < length lines = slice_get_within lines i line at in
         let a : length (steps_said steps) ≡ length (take i lines) = said_length (take i lines) (steps_said steps) read.said in
-        let b : length (take i lines) ≡ i = length_taken lines i (omega arith) in omega arith
+        let b : length (take i lines) ≡ min i (length lines) = length-take i lines in omega arith
 
     -- the next line doesn't fit
     stops : (e : CertErr) → fits_at (1 + i) (said_of line.words) ≡ false → e ≡ Malformed line.number → IsMisfit 1 lines e
@@ -66,9 +60,6 @@ module _ (lines : List WordsLine) (i : ℕ) (steps : List StepValue) (read : Are
   all_read past = subst (λ ls. AreSaid ls (steps_said steps)) (take_all i lines past) read.said
 
 -- the steps that say one line more
-pub claim_pushed : (steps more : List StepValue) (line node claim : ℕ) → more ≡ steps ++ record { line = line; node = node; claim = claim; paths = [] } ∷ [] → steps_said more ≡ steps_said steps ++ record { number = line; saying = says_claim node claim } ∷ []
-claim_pushed steps more line node claim is = ap steps_said is ∙ flat_map-append step_said steps (record { line = line; node = node; claim = claim; paths = [] } ∷ [])
-
 pub path_pushed : (front steps more : List StepValue) (s t : StepValue) (p : PathValue) → steps ≡ front ++ s ∷ [] → more ≡ front ++ t ∷ [] → t.line ≡ s.line → t.node ≡ s.node → t.claim ≡ s.claim → t.paths ≡ s.paths ++ p ∷ [] → steps_said more ≡ steps_said steps ++ path_said p ∷ []
 path_pushed front steps more s t p before after line node claim paths =
     let one : step_said t ≡ step_said s ++ path_said p ∷ [] =
@@ -131,3 +122,39 @@ module _ (text : List ℕ) where
     first = cond-true (fits_at 0 (said_of (words_line text l).words)) (first_misfit 1 (map (words_line text) ls)) (Some l.number) (ap (fits_at 0) (subst (λ (x : LineValue). said_of (words_line text x).words ≡ Some (says_depth depth)) is says)) ∙ misfit.first;
     is = misfit.is;
   }
+
+-- numbers
+abbrev joined : Option (List ℕ) → Option (List ℕ) → Option (List ℕ)
+joined None rest = None
+joined (Some xs) None = None
+joined (Some xs) (Some ys) = Some (xs ++ ys)
+
+joined_front : (o : Option ℕ) (xs ys : Option (List ℕ)) → in_front o (joined xs ys) ≡ joined (in_front o xs) ys
+joined_front None xs ys = refl
+joined_front (Some n) None ys = refl
+joined_front (Some n) (Some xs) None = refl
+joined_front (Some n) (Some xs) (Some ys) = refl
+
+behind_none : (o : Option (List ℕ)) → o ≡ joined (Some []) o
+behind_none None = refl
+behind_none (Some ys) = refl
+
+none_behind : (o : Option (List ℕ)) → joined o None ≡ None
+none_behind None = refl
+none_behind (Some ys) = refl
+
+numbers_append : (xs ys : List (List ℕ)) → numbers_of (xs ++ ys) ≡ joined (numbers_of xs) (numbers_of ys)
+numbers_append [] ys = behind_none (numbers_of ys)
+numbers_append (x ∷ xs) ys = ap (in_front (number_of x)) (numbers_append xs ys) ∙ joined_front (number_of x) (numbers_of xs) (numbers_of ys)
+
+module _ (text : List ℕ) (tokens : List Token) (i : ℕ) (token : Token) (at : slice_get tokens i ≡ Some token) where
+  pub numbers_next : (ns more : List ℕ) (n : ℕ) → number_of (token_bytes text token) ≡ Some n → more ≡ ns ++ n ∷ [] → numbers_of (map (token_bytes text) (take i tokens)) ≡ Some ns → numbers_of (map (token_bytes text) (take (i + 1) tokens)) ≡ Some more
+  numbers_next ns more n is added so_far =
+      ap (λ l. numbers_of (map (token_bytes text) l)) (take_get tokens i token at) ∙ ap numbers_of (map-append (token_bytes text) (take i tokens) (token ∷ [])) ∙ numbers_append (map (token_bytes text) (take i tokens)) (token_bytes text token ∷ [])
+      ∙ ap (λ o. joined o (in_front (number_of (token_bytes text token)) (Some []))) so_far ∙ ap (λ o. joined (Some ns) (in_front o (Some []))) is ∙ ap (λ l. Some l) (sym added)
+
+  pub numbers_stop : number_of (token_bytes text token) ≡ None → numbers_of (map (token_bytes text) tokens) ≡ None
+  numbers_stop is =
+      ap (λ l. numbers_of (map (token_bytes text) l)) (sym (take-append-drop i tokens) ∙ ap (λ l. take i tokens ++ l) (drop_get tokens i token at))
+      ∙ ap numbers_of (map-append (token_bytes text) (take i tokens) (token ∷ drop (i + 1) tokens)) ∙ numbers_append (map (token_bytes text) (take i tokens)) (token_bytes text token ∷ map (token_bytes text) (drop (i + 1) tokens))
+      ∙ ap (λ o. joined (numbers_of (map (token_bytes text) (take i tokens))) (in_front o (numbers_of (map (token_bytes text) (drop (i + 1) tokens))))) is ∙ none_behind (numbers_of (map (token_bytes text) (take i tokens)))

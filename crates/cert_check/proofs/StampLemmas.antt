@@ -31,13 +31,6 @@ pub record AreStampsOf (n : ℕ) (earlier : List PathValue) (stamps : List ℕ) 
   pub only : (m : ℕ) → get_or stamps m 0 ≡ n → (p : PathValue) × In earlier p × In p.nodes m
   pub most : (m : ℕ) → get_or stamps m 0 ≤ n
 
-pub no_stamps : (n : ℕ) (stamps : List ℕ) → ((m : ℕ) → get_or stamps m 0 < n) → AreStampsOf n [] stamps
-no_stamps n stamps fresh = record {
-  there = λ p m i j. absurd i;
-  only = λ m e. absurd (let l : get_or stamps m 0 < n = fresh m in omega arith);
-  most = λ m. let l : get_or stamps m 0 < n = fresh m in omega arith;
-}
-
 pub stamps_more : (n : ℕ) (earlier : List PathValue) (p : PathValue) (old new : List ℕ) → AreStampsOf n earlier old → AreStamped old n p.nodes new → AreStampsOf n (earlier ++ p ∷ []) new
 stamps_more n earlier p old new are more = record {
   there = λ q m i j. elim (In-push earlier p q i) [
@@ -74,11 +67,6 @@ module _ (claims : List ℕ) (s : StepValue) (earlier : List PathValue) (stamps 
   all_stand (x ∷ xs) (inl c) m i = absurd (none-some x c.1)
   all_stand (x ∷ xs) (inr r) m (inl e) = subst (MayStand (λ y. get_or claims y 0) s earlier) (sym e) (may_stand x r.0)
   all_stand (x ∷ xs) (inr r) m (inr i) = all_stand xs r.1 m i
-
-  pub nodes_pass : (line : ℕ) (nodes : List ℕ) (rest : Type 0) (e : CertErr) → IsFirstClash stamps claims s.node s.claim nodes None → rest → NodesFault (λ x. get_or claims x 0) s earlier line nodes rest e
-  nodes_pass line [] rest e none r = r
-  nodes_pass line (x ∷ xs) rest e (inl c) r = absurd (none-some x c.1)
-  nodes_pass line (x ∷ xs) rest e (inr n) r = inr (may_stand x n.0, nodes_pass line xs rest e n.1 r)
 
   -- the first node that clashes is the fault
   nodes_stop : (line : ℕ) (nodes : List ℕ) (rest : Type 0) (m : ℕ) → IsFirstClash stamps claims s.node s.claim nodes (Some m) → NodesFault (λ x. get_or claims x 0) s earlier line nodes rest (Shared line m)

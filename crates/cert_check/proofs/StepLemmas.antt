@@ -1,6 +1,7 @@
 -- The paths of a step, one by one.
 use Rattle.cert_check.proofs.Common.{◌≡◌, ℕ, zero, suc, ◌+◌, ◌<◌, ◌≤◌, List, [], ◌∷◌, ◌++◌, take, drop, length, get_or, Some, refl, sym, ap, ◌∙◌, subst, inl, inr, arith, slice_get, ◌≢◌, cases_lt, take_more, take_all, none-some, same_Some, slice_get_within, slice_get_read, Aig, node_count, In, drop_at, In-push, PathValue, StepValue, IsPath, path_count, IsJustified, PathsFault, IsPathTaken, IsPathFault, CertErr}
-use Rattle.cert_check.proofs.StampLemmas.{AreStampsOf, no_stamps, stamps_more, all_stand, nodes_pass, path_stops}
+use Rattle.cert_check.proofs.FaultLemmas.{nodes_met}
+use Rattle.cert_check.proofs.StampLemmas.{AreStampsOf, stamps_more, all_stand, path_stops}
 
 -- an element before a place is one of the elements before it
 get_taken : {A : Type 0} (xs : List A) (i j : ℕ) (x : A) → i < j → slice_get xs i ≡ Some x → In (take j xs) x
@@ -16,15 +17,6 @@ pub record AreTaken (g : Aig) (claims : List ℕ) (s : StepValue) (at : ℕ) (ma
   pub apart : (i j m : ℕ) (p q : PathValue) → i < j → j < at → slice_get s.paths i ≡ Some p → slice_get s.paths j ≡ Some q → In p.nodes m → In q.nodes m → m ≢ s.node → s.claim ≤ get_or claims m 0 + 1
   pub stamps : AreStampsOf s.node (take at s.paths) marks
   pub skips : (e : CertErr) → PathsFault g (λ x. get_or claims x 0) s (take at s.paths) (drop at s.paths) ⊥ e → PathsFault g (λ x. get_or claims x 0) s [] s.paths ⊥ e
-
-pub none_taken : (g : Aig) (claims : List ℕ) (s : StepValue) (stamps : List ℕ) → length stamps ≡ node_count g → ((m : ℕ) → get_or stamps m 0 < s.node) → AreTaken g claims s 0 stamps
-none_taken g claims s stamps size fresh = record {
-  size = size;
-  paths = λ p i. absurd i;
-  apart = λ i j m p q l k. absurd (omega arith);
-  stamps = no_stamps s.node stamps fresh;
-  skips = λ e f. f;
-}
 
 module _ (g : Aig) (claims : List ℕ) (s : StepValue) (at : ℕ) (stamps : List ℕ) (taken : AreTaken g claims s at stamps) (p : PathValue) (within : at < length s.paths) (item : p ≡ get_or s.paths at p) where
   here : slice_get s.paths at ≡ Some p
@@ -57,7 +49,7 @@ module _ (g : Aig) (claims : List ℕ) (s : StepValue) (at : ℕ) (stamps : List
     skips = λ e f. taken.skips e (subst (λ ps. PathsFault g (λ x. get_or claims x 0) s (take at s.paths) ps ⊥ e) (sym rest)
         (inr (
           one.path,
-          nodes_pass claims s (take at s.paths) stamps taken.stamps p.line p.nodes (PathsFault g (λ x. get_or claims x 0) s (take at s.paths ++ p ∷ []) (drop (at + 1) s.paths) ⊥ e) e one.no_clash
+          (nodes_met (λ x. get_or claims x 0) s (take at s.paths) p.line p.nodes _ e (all_stand claims s (take at s.paths) stamps taken.stamps p.nodes one.no_clash)).0
               (subst (λ ps. PathsFault g (λ x. get_or claims x 0) s ps (drop (at + 1) s.paths) ⊥ e) more f),
         )));
   }

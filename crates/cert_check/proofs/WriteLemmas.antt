@@ -1,5 +1,5 @@
 -- The parts of a certificate's text.
-use Rattle.cert_check.proofs.Common.{◌≡◌, ℕ, ◌+◌, List, [], ◌∷◌, ◌++◌, map, codes, decimal, refl, sym, ap, ◌∙◌, append_assoc, append-nil, flat_map, map-append, flat_map-append, PathValue, StepValue, CertificateValue, says_depth, says_path, SaidLine, path_said, step_said, steps_said, saying_words, words_text, line_text, cert_text, number_text, path_text, claim_text, step_text}
+use Rattle.cert_check.proofs.Common.{◌≡◌, ℕ, List, [], ◌∷◌, ◌++◌, map, codes, decimal, refl, sym, ap, ◌∙◌, append_assoc, append-nil, flat_map, map-append, flat_map-append, PathValue, StepValue, CertificateValue, says_depth, says_path, SaidLine, path_said, step_said, steps_said, saying_words, words_text, line_text, cert_text, number_text, path_text, claim_text, step_text}
 
 -- the words of numbers
 numbers_text : (ns : List ℕ) → flat_map number_text ns ≡ words_text (map decimal ns)

@@ -7,10 +7,12 @@ use Rattle.tl_fault.specs.Settled.{IsSettled}
 use Rattle.tl_text.specs.LineValue.{WordsLine}
 use Rattle.tl_text.specs.TextOf.{IsTextOf, IsTextFault}
 use Rattle.tl_text.specs.declared.text_err.TextErr.{TextErr}
-use Rattle.tl_text.specs.declared.text_err.TextErr.TheVariants as text_err
 use Rattle.cert_check.specs.CertificateValue.{PathValue, StepValue, CertificateValue}
 use Rattle.cert_check.specs.declared.cert_err.CertErr.{CertErr}
 use Rattle.cert_check.specs.declared.cert_err.CertErr.TheVariants.{BadByte, TrailingSlash, Malformed, Memory}
+use Rattle.cert_check.specs.declared.saying.Saying.{Saying as Read}
+use Rattle.tl_text.specs.declared.text_err.TextErr.TheVariants as text_err
+use Rattle.cert_check.specs.declared.saying.Saying.TheVariants as read
 
 -- what a line says: the depth, the claim of a node, or the nodes of a path
 pub data Saying : Type 0 where
@@ -130,3 +132,15 @@ IsCertTextFault = IsTextFault cert_err IsMalformed
 -- a text is that of one certificate at most, or has one refusal at most, and never both
 abbrev pub HasOneReading : List ℕ → Type 0
 HasOneReading text = IsSettled (IsCertText text) (IsCertTextFault text)
+
+-- a saying with a plain list in the vector's place
+abbrev pub saying_value : Read → Saying
+saying_value (read.Depth d) = says_depth d
+saying_value (read.Claim n h) = says_claim n h
+saying_value (read.Path ns) = says_path ns.items
+
+-- lines from a place on are refused at the first one that doesn't fit
+pub record IsMisfit (place : ℕ) (lines : List WordsLine) (e : CertErr) : Type 0 where
+  pub line : ℕ
+  pub first : first_misfit place lines ≡ Some line
+  pub is : e ≡ Malformed line

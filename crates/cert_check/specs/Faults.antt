@@ -6,7 +6,7 @@ use Rattle.aig_core.specs.Aig.{Aig, IsAnd}
 use Rattle.list_laws.specs.Members.{In}
 use Rattle.cert_check.specs.CertificateValue.{PathValue, StepValue, CertificateValue}
 use Rattle.cert_check.specs.Paths.{IsPath}
-use Rattle.cert_check.specs.Valid.{claim_of, path_count, IsReached, IsValid}
+use Rattle.cert_check.specs.Valid.{claim_of, path_count, IsReached, IsValid, IsJustified}
 use Rattle.cert_check.specs.declared.cert_err.CertErr.{CertErr}
 use Rattle.cert_check.specs.declared.cert_err.CertErr.TheVariants.{BadClaim, BadPath, PathCount, Shared, NotReached}
 
@@ -57,3 +57,13 @@ IsFault g roots k c e = StepsFault g k [] c.steps (DepthFault g roots c e) e
 pub record HasOneVerdict (g : Aig) (roots : List ℕ) (k : ℕ) (c : CertificateValue) : Type 0 where
   pub one_fault : (e f : CertErr) → IsFault g roots k c e → IsFault g roots k c f → e ≡ f
   pub not_both : (e : CertErr) → IsValid g roots k c → IsFault g roots k c e → ⊥
+
+-- a step's node is above those before it, and its claim is shown where the claims before it count
+pub record IsNext (g : Aig) (k : ℕ) (before : List StepValue) (s : StepValue) : Type 0 where
+  pub above : IsAbove g before s
+  pub justified : IsJustified g k (claim_of before) s
+
+-- each of these steps is next after those before it
+abbrev pub AreInTurn : Aig → ℕ → List StepValue → List StepValue → Type 0
+AreInTurn g k before [] = Unit {0}
+AreInTurn g k before (s ∷ ss) = IsNext g k before s × AreInTurn g k (before ++ s ∷ []) ss

@@ -9,6 +9,3 @@ pub mod WrittenText
 pub mod Refusals
 -- What only bodies are compared with.
 pub mod Stamps
-pub mod InTurn
-pub mod Reading
-pub mod Writing

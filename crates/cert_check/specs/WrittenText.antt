@@ -51,3 +51,16 @@ pub record ReadsBack (text : List ℕ) (c : CertificateValue) : Type 0 where
   pub read : CertificateValue
   pub is : IsCertText text read
   pub same : bare read ≡ bare c
+
+-- a number behind a blank
+abbrev pub number_text : ℕ → List ℕ
+number_text n = 32 ∷ decimal n
+
+abbrev pub path_text : PathValue → List ℕ
+path_text p = line_text (saying_words (says_path p.nodes))
+
+abbrev pub claim_text : StepValue → List ℕ
+claim_text s = line_text (saying_words (says_claim s.node s.claim))
+
+abbrev pub step_text : StepValue → List ℕ
+step_text s = claim_text s ++ flat_map path_text s.paths

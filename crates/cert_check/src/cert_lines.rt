@@ -2,8 +2,7 @@
 ghost use Rattle.std.specs.Prelude.{◌≡◌, ◌+◌, ◌<◌, [], ◌∷◌, ◌++◌, length, map, true, false, Some, IfOk, IfErr, MatchResult};
 ghost use Rattle.tl_fault.specs.OrMemory.{OrMemory};
 ghost use Rattle.tl_text.specs.LineValue.{IsLineIn, AreLinesIn, words_line};
-ghost use Rattle.cert_check.specs.CertText.{says_depth, says_path, path_said, steps_said, AreSaid, AreLinesOf, said_of, fits_at, IsMalformed};
-ghost use Rattle.cert_check.specs.Reading.{saying_value, IsMisfit};
+ghost use Rattle.cert_check.specs.CertText.{says_depth, says_path, path_said, steps_said, AreSaid, AreLinesOf, said_of, fits_at, IsMalformed, saying_value, IsMisfit};
 ghost use Rattle.cert_check.specs.Refusals.{refusal_of};
 ghost use Rattle.cert_check.specs.declared.cert_err.CertErr.TheVariants.{Malformed};
 

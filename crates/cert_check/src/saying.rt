@@ -5,8 +5,7 @@ ghost use Rattle.list_laws.specs.Members.{In};
 ghost use Rattle.tl_fault.specs.OrMemory.{OrMemory};
 ghost use Rattle.tl_text.specs.LineValue.{IsLineIn, IsWithin, token_bytes, words_line};
 ghost use Rattle.tl_text.specs.declared.token.Token.{Token as TokenValue};
-ghost use Rattle.cert_check.specs.CertText.{number_of, numbers_of, depth_with, claim_with, path_with, saying_by, said_of};
-ghost use Rattle.cert_check.specs.Reading.{saying_value};
+ghost use Rattle.cert_check.specs.CertText.{number_of, numbers_of, depth_with, claim_with, path_with, saying_by, said_of, saying_value};
 ghost use Rattle.cert_check.specs.Refusals.{refusal_of};
 ghost use Rattle.cert_check.specs.declared.cert_err.CertErr.TheVariants.{Malformed};
 

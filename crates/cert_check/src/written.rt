@@ -3,8 +3,7 @@ ghost use Rattle.std.specs.List.{flat_map};
 ghost use Rattle.tl_io.specs.Sink.{IsPut};
 ghost use Rattle.tl_piece.specs.Added.{IsAdded};
 ghost use Rattle.cert_check.specs.CertText.{says_depth};
-ghost use Rattle.cert_check.specs.WrittenText.{saying_words, line_text, cert_text, IsWritable, ReadsBack};
-ghost use Rattle.cert_check.specs.Writing.{number_text, path_text, claim_text, step_text};
+ghost use Rattle.cert_check.specs.WrittenText.{saying_words, line_text, cert_text, IsWritable, ReadsBack, number_text, path_text, claim_text, step_text};
 
 use crate::certificate::{Certificate, NodePath, Step};
 use tl_io::{Failed, Sink};

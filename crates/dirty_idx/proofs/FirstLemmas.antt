@@ -13,18 +13,14 @@ upper_le k zero h = let e : k ≡ 0 = omega arith in subst (λ m. upper_words m 
 upper_le k (suc d) h = elim (cases_eq k (suc d)) [
   | inl e ↦ subst (λ m. upper_words m ≤ upper_words (suc d)) (sym e) (omega arith)
   | inr n ↦ (
-      let r : upper_words k ≤ upper_words d = upper_le k d (omega arith) in
       let s : d + 1 ≡ suc d = omega arith in
       let m : upper_words (suc d) ≡ 64 * upper_words d + 1 = ap upper_words (sym s) ∙ upper_more d in
-      omega arith)
+      omega (arith, upper_le k d (omega arith)))
 ]
 
 -- a word within a layer above the lowest is above the lowest
 pub upper_within : (k d at : ℕ) → k < d → at ≤ 64 * upper_words k → at < upper_words d
-upper_within k d at h l =
-    let r : upper_words (k + 1) ≤ upper_words d = upper_le (k + 1) d (omega arith) in
-    let m : upper_words (k + 1) ≡ 64 * upper_words k + 1 = upper_more k in
-    omega arith
+upper_within k d at h l = omega (arith, upper_le (k + 1) d (omega arith), upper_more k)
 
 -- the word at the top is the first of its layer
 pub first_start : (words : List ℕ) → 0 < word_at words 0 → IsFirstWord 0 0 words

@@ -30,16 +30,6 @@ told_set base at up b w words e lb lu told here others = record {
       | inr q ↦ ap (λ m. bit_at m c) (get_or-set_other words up a w 0 q) ∙ told.each a c la lc (λ p. q (omega arith))
     ]
 
--- at the start nothing has changed
-pub climbed_start : (base at : ℕ) (words : List ℕ) → AreTold base at words → at ≤ 64 * base → IsClimbed base at words words
-climbed_start base at words told to = record { count = refl_length; lowest = λ m l. refl_word m; told = told; to = to }
-  where
-    refl_length : length words ≡ length words
-    refl_length = omega arith
-
-    refl_word : (m : ℕ) → word_at words m ≡ word_at words m
-    refl_word m = omega arith
-
 -- one word further up
 pub climbed_up : (base at up b w : ℕ) (old new : List ℕ) → at ≡ 64 * up + 1 + b → b < 64 → up < length new → IsClimbed base at old new
     → bit_at w b ≡ min 1 (word_at new at) → ((i : ℕ) → i < 64 → (i ≡ b → ⊥) → bit_at w i ≡ bit_at (word_at new up) i) → IsClimbed base up old (set new up w)
@@ -123,11 +113,4 @@ some_end base at old new said way = record {
   count = way.climbed.count;
   lowest = way.climbed.lowest;
   told = told_end base at new way.climbed.told (λ l. let s : bit_above new at ≡ 1 = said l in let n : 0 < word_at new at = way.some in omega arith);
-}
-
-pub none_end : (base at : ℕ) (old new : List ℕ) → (0 < at → 0 < word_at new at) → IsNoneOnTheWay base at old new → IsRetold base old new
-none_end base at old new some way = record {
-  count = way.climbed.count;
-  lowest = way.climbed.lowest;
-  told = told_end base at new way.climbed.told (λ l. let s : bit_above new at ≡ 1 = way.said l in let n : 0 < word_at new at = some l in omega arith);
 }

@@ -1,8 +1,7 @@
 -- Fan-ins of a graph.
 use Rattle.flow_cert.proofs.Common.{◌≡◌, ℕ, ◌-◌, ◌/◌, ◌<◌, ◌≤◌, List, [], ◌∷◌, ◌++◌, length, get_or, Some, refl, sym, subst, inl, inr, ◌⊎◌, arith, slice_get_within, slice_get-get_or, cases_eq, cases_lt, slice_get, Aig, first_and, node_count, IsAnd, IsNode, IsSource, AreNormal, Regular, Parameter, Pair, source_below, In, Blocks, member, constant, parameter, fan_ins, CanBeLeaf, IsFanIn, first, second, Climbs, IsPath}
 use Rattle.aig_core.specs.declared.lit.Kind.{Kind}
-pub use Rattle.cert_check.proofs.PathLemmas.{fan_in_below, path_below}
-pub use Rattle.cert_check.proofs.PathPlaces.{fan_in_cases}
+pub use Rattle.cert_check.proofs.PathLemmas.{fan_in_below, path_below, fan_in_cases}
 
 -- a node with a pair is an AND node
 node_and : (g : Aig) (p : Pair) (n : ℕ) → IsNode g p n → IsAnd g n

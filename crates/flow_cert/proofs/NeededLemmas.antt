@@ -1,6 +1,6 @@
 -- The nodes whose claims are needed: they are the same where the paths are, and the numbers of lines have no part in them.
-use Rattle.flow_cert.proofs.Common.{◌≡◌, ℕ, ◌≤◌, ◌<◌, List, map, Some, slice_get, refl, sym, ap, ◌∙◌, subst, arith, Aig, In, In-map, from_map, LabelsValue, label_of, PathValue, StepValue, CertificateValue, bare_path, bare_step, bare, AreLabelClaims, IsFirstToNeed, IsShared, IsNeeded, root, shared, AreNeeded, ShowAlike, HasOneClaiming, rules}
-use Rattle.cert_check.proofs.BareLemmas.{got, bared}
+use Rattle.flow_cert.proofs.Common.{◌≡◌, ℕ, ◌≤◌, ◌<◌, List, map, Some, slice_get, refl, sym, ap, ◌∙◌, subst, arith, Aig, In, LabelsValue, label_of, PathValue, StepValue, CertificateValue, bare_path, bare_step, bare, AreLabelClaims, IsFirstToNeed, IsShared, IsNeeded, root, shared, AreNeeded, ShowAlike, HasOneClaiming, rules}
+use Rattle.cert_check.proofs.BareLemmas.{same_step, same_path}
 
 -- a step of the same node with the same paths shares the same nodes
 shared_alike : (s t : StepValue) (m : ℕ) → s.node ≡ t.node → s.paths ≡ t.paths → IsShared s m → IsShared t m
@@ -20,13 +20,7 @@ module _ (g : Aig) (roots : List ℕ) (label : ℕ → ℕ) where
     once = λ c d ofc ofd depth alike m h. ofd.all m (needed_alike c d ofd depth alike m (subst (λ x. IsNeeded g roots label c x) h.is (ofc.only h.step h.there)));
   }
 
--- of two lists that are the same but for lines: a step of the first is one of the second, and so is a path
-same_step : (ss ts : List StepValue) → map bare_step ss ≡ map bare_step ts → (s : StepValue) → In ss s → (t : StepValue) × In ts t × (bare_step s ≡ bare_step t)
-same_step ss ts same s i = from_map bare_step ts (bare_step s) (subst (λ us. In us (bare_step s)) same (In-map bare_step ss s i))
-
-same_path : (ps qs : List PathValue) → map bare_path ps ≡ map bare_path qs → (i : ℕ) (p : PathValue) → slice_get ps i ≡ Some p → (q : PathValue) × (slice_get qs i ≡ Some q) × (p.nodes ≡ q.nodes)
-same_path ps qs same i p e = grind (arith, got, bared)
-
+-- the same paths but for lines share the same nodes
 same_shared : (s t : StepValue) (m : ℕ) → bare_step s ≡ bare_step t → IsShared s m → IsShared t m
 same_shared s t m same h = grind (arith, same_path)
 

@@ -1,7 +1,7 @@
 -- The files of two small packs in both versions, and three files that are refused.
 use Rattle.ppc_file.proofs.Common.{◌≡◌, ℕ, ◌≤◌, List, [], ◌∷◌, ◌++◌, length, false, refl, sym, subst, inl, inr, arith, ap, get_or, IsClean, Parameter, Lit, AreNormal-push, PackValue, PackParam, MOST_PACK_NODES, One, Two, bytes_of, magic, pair, lettered, in_nodes, in_bits, AreParams, AreNodes, IsPackFault}
+use Rattle.ppc_file.proofs.FieldLemmas.{clean_name}
 use Rattle.ppc_file.specs.declared.pack_err.PackErr.TheVariants as refused
-use Rattle.ppc_file.proofs.NameRules.{clean_name}
 
 abbrev p : PackParam
 p = record { name = 112 ∷ []; init = false }

@@ -1,12 +1,8 @@
 mod Common
-mod FieldTakes
-mod FieldsAgain
+mod FieldLemmas
 mod FileExamples
-mod FileLemmas
-mod NameRules
 mod NumberLemmas
 pub mod OneReading
-mod PowerLemmas
 mod AddedLemmas
 mod ReadLemmas
 mod ReadsLemmas

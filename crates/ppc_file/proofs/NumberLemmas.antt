@@ -1,7 +1,31 @@
--- A number that is read is the number that was spelled, and what was spelled is read again.
-use Rattle.ppc_file.proofs.Common.{◌≡◌, ℕ, zero, suc, ◌+◌, ◌-◌, ◌*◌, ◌/◌, ◌%◌, ◌^◌, ◌<◌, ◌≤◌, Bool, true, false, cond, ltb, eqb, List, [], ◌∷◌, ◌++◌, length, get_or, take, drop, Result, Ok, Err, refl, sym, ap, subst, ◌∙◌, append_assoc, arith, inl, inr, Width, w16, w32, byte_len, from_be_bytes, to_be_bytes, pow-succ', cases_lt, ltb-false, le-ltb, lt-ltb, eqb-false, PackErr, Truncated, BadNumber, Version, One, Two, Field, ◌>>=◌, offset, sevens, spelled, sevens_at, behind_byte, unless_over, number_at}
-use Rattle.std.proofs.lemmas.List.{take_at, drop_at, take-append-drop, length-append, length-take, get_or-drop, get_or-take, get_or_past}
+-- A number that is read is the number that was spelled, and what was spelled is read again; numbers by bytes of seven bits are small.
+use Rattle.ppc_file.proofs.Common.{◌≡◌, ℕ, zero, suc, ◌+◌, ◌-◌, ◌*◌, ◌^◌, ◌<◌, ◌≤◌, arith, pow-succ', ◌/◌, ◌%◌, Bool, true, false, cond, ltb, eqb, List, [], ◌∷◌, ◌++◌, length, get_or, take, drop, Result, Ok, Err, refl, sym, ap, subst, ◌∙◌, append_assoc, inl, inr, Width, w16, w32, byte_len, from_be_bytes, to_be_bytes, cases_lt, ltb-false, le-ltb, lt-ltb, PackErr, Truncated, BadNumber, Version, One, Two, Field, ◌>>=◌, offset, sevens, spelled, sevens_at, behind_byte, unless_over, number_at, nat_tests, take_at, drop_at, take-append-drop, length-append, length-take, get_or-drop, get_or-take, get_or_past}
 use Rattle.std.proofs.lemmas.Nat.{be_bytes_2, be_bytes_4, from_be_bytes-to_be_bytes_2, from_be_bytes-to_be_bytes_4}
+
+pub one_at_least : (n b : ℕ) → 1 ≤ n → b < 128 → b < 128 ^ n
+one_at_least zero b some small = absurd (omega arith)
+one_at_least (suc zero) b some small = omega arith
+one_at_least (suc (suc n)) b some small =
+    let r : b < 128 ^ suc n = one_at_least (suc n) b (omega arith) small in
+    let p : 128 ^ suc (suc n) ≡ 128 * 128 ^ suc n = pow-succ' 128 (suc n) in
+    omega arith
+
+-- one more byte
+pub below_power : (n high b : ℕ) → 1 ≤ n → high < 128 ^ (n - 1) → b < 128 → b + 128 * high < 128 ^ n
+below_power zero high b some h small = absurd (omega arith)
+below_power (suc n) high b some h small =
+    let p : 128 ^ suc n ≡ 128 * 128 ^ n = pow-succ' 128 n in
+    let e : suc n - 1 ≡ n = omega arith in
+    let h' : high < 128 ^ n = rw e at h in
+    omega arith
+
+pub fits_word : (n high b : ℕ) → 1 ≤ n → n ≤ 5 → high < 128 ^ (n - 1) → b < 128 → b + 128 * high < 34359738368
+fits_word (suc zero) high b some few h small = let h' : high < 1 = h in omega arith
+fits_word (suc (suc zero)) high b some few h small = let h' : high < 128 = h in omega arith
+fits_word (suc (suc (suc zero))) high b some few h small = let h' : high < 16384 = h in omega arith
+fits_word (suc (suc (suc (suc zero)))) high b some few h small = let h' : high < 2097152 = h in omega arith
+fits_word (suc (suc (suc (suc (suc zero))))) high b some few h small = let h' : high < 268435456 = h in omega arith
+fits_word n high b some few h small = absurd (omega arith)
 
 -- numbers below 256
 abbrev pub IsBytes : List ℕ → Type 0
@@ -65,7 +89,7 @@ sevens_again at (suc left) n rest h = elim (cases_lt n 128) [
 ]
 
 pub not_zero : (n : ℕ) → eqb n 0 ≡ false → 1 ≤ n
-not_zero n h = elim (cases_lt 0 n) [ inl some ↦ omega arith | inr none ↦ absurd (eqb-false n 0 h (omega arith)) ]
+not_zero n h = grind (arith, nat_tests)
 
 behind_ok : (at low : ℕ) (field : Field ℕ) (y : ℕ × List ℕ) → behind_byte at low field ≡ Ok y → (x : ℕ × List ℕ) × (field ≡ Ok x) × (1 ≤ x.0) × (y ≡ (low + 128 * x.0, x.1))
 behind_ok at low (Err e) y h = absurd cc
@@ -84,8 +108,6 @@ one_more left b n high bytes rest large byte some number inner =
     record { parts = rw (le-ltb n 128 above) (rw (up, low) (ap (λ (t : List ℕ). b ∷ t) inner.parts)); rest_fits = inner.rest_fits }
 
 pub sevens_takes : (at left : ℕ) (bytes : List ℕ) (n : ℕ) (rest : List ℕ) → IsBytes bytes → sevens_at at left bytes ≡ Ok (n, rest) → Takes bytes (sevens left n) rest
-sevens_takes at zero bytes n rest fits e = absurd cc
-sevens_takes at (suc left) [] n rest fits e = absurd cc
 sevens_takes at (suc left) (b ∷ bytes) n rest fits e = elim (cases_lt b 128) [
   | inl small ↦ (
       let h : Ok (b, bytes) ≡ Ok (n, rest) = rw (lt-ltb b 128 small) at e in
@@ -106,6 +128,7 @@ sevens_takes at (suc left) (b ∷ bytes) n rest fits e = elim (cases_lt b 128) [
       (one_more left b n x.0.0 bytes x.0.1 large (fits 0) x.2 number (sevens_takes at left bytes x.0.0 x.0.1 (rest_bytes b bytes fits) x.1))
       )
 ]
+sevens_takes at left bytes n rest fits e = absurd cc
 
 -- ---- numbers of a field
 

@@ -1,20 +1,20 @@
--- What the readers of a file's parts are compared with: refusals, new names, and new pairs of a graph.
-use Rattle.ppc_file.proofs.Common.{◌≡◌, ℕ, ◌+◌, ◌*◌, ◌/◌, ◌<◌, ◌≤◌, Bool, true, false, ◌||◌, List, [], ◌∷◌, ◌++◌, length, replicate, min, max, Option, Some, None, Ok, Err, refl, sym, ap, subst, ◌∙◌, arith, inl, inr, cond, list_any, position, cases_Bool, ne_eqb, length-replicate, position_none, list_any-position_none, Unless, OrMemory, place_of, Aig, IsNormal, first_and, node_count, Answer, and_of, is_pair, found_or_new, Parameter, Lit, Pair, PackParam, PackErr, Version, Field, ◌>>=◌, offset, param_at, names_of_params, fan_ins_at, is_bad_pair, if_new_pair, node_at, bit_at, in_params, in_nodes, in_bits, IsPackFault, StandsAt, refusal_of}
+-- What the readers of a file's parts are compared with: refusals, new names, new pairs of a graph, and the pack of a file that was read to its end.
+use Rattle.ppc_file.proofs.Common.{◌≡◌, ℕ, ◌+◌, ◌*◌, ◌/◌, ◌<◌, ◌≤◌, Bool, true, false, ◌||◌, List, [], ◌∷◌, ◌++◌, length, replicate, min, max, Option, Some, None, Ok, Err, refl, sym, ap, subst, ◌∙◌, arith, inl, inr, cond, list_any, position, cases_Bool, ne_eqb, length-replicate, position_none, list_any-position_none, OrMemory, place_of, Aig, IsNormal, first_and, node_count, Answer, and_of, is_pair, found_or_new, Parameter, Lit, Pair, PackParam, PackErr, Version, Field, ◌>>=◌, offset, param_at, names_of_params, fan_ins_at, is_bad_pair, if_new_pair, node_at, bit_at, in_params, in_nodes, in_bits, IsPackFault, StandsAt, refusal_of, ◌⊎◌, append-nil, AreNormal, PackValue, IsPack, One, Two, bytes_of, IsPackFile, Result, passed_on}
 use Rattle.std.proofs.lemmas.List.Quantifiers.{position-Some}
-use Rattle.tl_fault.specs.RefusalValue.{RefusalValue}
-use Rattle.ppc_file.specs.declared.pack_err.PackErr.TheVariants as refused
-use Rattle.ppc_file.proofs.FieldTakes.{param_takes}
-use Rattle.ppc_file.proofs.NameRules.{new_place}
+use Rattle.std.specs.Prelude.{IsErrAnd, MatchResult}
+use Rattle.tl_fault.proofs.OrMemoryLemmas.{Unless-of}
+use Rattle.ppc_file.proofs.FieldLemmas.{param_takes, new_place}
 use Rattle.ppc_file.proofs.NumberLemmas.{IsBytes}
-use Rattle.ppc_file.proofs.StandLemmas.{rest_bytes, stands_param, stands_node, stands_bit, no_param, no_node, no_bit}
+use Rattle.ppc_file.proofs.StandLemmas.{rest_bytes, stands_param, stands_node, stands_bit, no_param, no_node, no_bit, no_end}
+use Rattle.ppc_file.specs.declared.pack_err.PackErr.TheVariants as refused
 
 -- a refusal that is so whatever it tells
-unless_said : (refusal : Option RefusalValue) (P : Type 0) → P → Unless refusal P
-unless_said None P p = tt
-unless_said (Some r) P p = p
-
 pub said : (P : PackErr → Type 0) (e : PackErr) → P e → OrMemory refusal_of P e
-said P e p = unless_said (refusal_of e) (P e) p
+said P e p = Unless-of (refusal_of e) p
+
+-- and that a `?` passes on
+pub refused_on : {T : Type 0} (bytes : List ℕ) (r : Result T PackErr) (e : PackErr) → IsErrAnd r (λ y. y ≡ e) → IsPackFault bytes e → MatchResult r (λ _. Unit {0}) (OrMemory refusal_of (IsPackFault bytes))
+refused_on bytes r e is fault = passed_on r e (λ _. Unit {0}) (OrMemory refusal_of (IsPackFault bytes)) is (said (IsPackFault bytes) e fault)
 
 -- the product of the fan-ins of a node that would be the next one
 module _ (g : Aig) (p : Pair) (normal : IsNormal (node_count g) p) where
@@ -128,3 +128,39 @@ all_bits bytes v params pairs count read bits rest stands is past =
     let within : length bits ≤ count = stands.sound.0.within in
     let same : count ≡ length bits = omega arith in
     subst (λ (n : ℕ). StandsAt bytes (in_bits v params pairs n bits) rest) same stands
+
+-- the bytes are those of one of the versions
+pub by_version : (v : Version) (pack : PackValue) (bytes : List ℕ) → bytes ≡ bytes_of v pack → (bytes ≡ bytes_of One pack) ⊎ (bytes ≡ bytes_of Two pack)
+by_version One pack bytes is = inl is
+by_version Two pack bytes is = inr is
+
+module _ (bytes : List ℕ) (params : List PackParam) (g : Aig) (bits : List Lit) (kinds : g.kinds ≡ replicate (length params) Parameter) where
+  sources : length g.kinds ≡ length params
+  sources = ap length kinds ∙ length-replicate (length params) Parameter
+
+  pub is_pack : (v : Version) (rest : List ℕ) → StandsAt bytes (in_bits v params g.pairs (length bits) bits) rest → IsPack params g bits
+  is_pack v rest stands =
+      let sound = stands.sound in
+      record {
+        few_params = sound.1.0.few;
+        short = sound.1.0.short;
+        clean = sound.1.0.clean;
+        once = sound.1.0.once;
+        kinds = kinds;
+        few_nodes = sound.1.1.0.few;
+        few_bits = sound.1.1.1.few;
+        lits = λ l i. subst (λ (n : ℕ). l.0 < 2 * (1 + n + length g.pairs)) (sym sources) (sound.1.1.1.below l i);
+      }
+
+  pub is_file : (v : Version) → StandsAt bytes (in_bits v params g.pairs (length bits) bits) [] → IsPackFile bytes (record { params = params; graph = g; bits = bits })
+  is_file v stands = record {
+    is_pack = is_pack v [] stands;
+    normal = subst (λ (n : ℕ). AreNormal (1 + n) g.pairs) (sym sources) stands.sound.1.1.0.normal;
+    spelled = by_version v (record { params = params; graph = g; bits = bits }) bytes (stands.spelled ∙ append-nil (bytes_of v (record { params = params; graph = g; bits = bits })));
+  }
+
+-- bytes follow the last bit
+pub trailing : (bytes : List ℕ) (fits : IsBytes bytes) (v : Version) (params : List PackParam) (pairs : List Pair) (bits : List Lit) (rest : List ℕ) → StandsAt bytes (in_bits v params pairs (length bits) bits) rest → 1 ≤ length rest
+    → IsPackFault bytes (refused.Trailing (offset (length bytes) rest))
+trailing bytes fits v params pairs bits [] stands some = absurd (omega arith)
+trailing bytes fits v params pairs bits (b ∷ rest) stands some = no_end bytes fits v params pairs bits b rest stands

@@ -1,9 +1,8 @@
 -- A file is read front by front, in one way; and a sound front that a file begins with is met on the way.
-use Rattle.ppc_file.proofs.Common.{◌≡◌, ℕ, ◌+◌, ◌*◌, ◌<◌, ◌≤◌, true, false, ltb, eqb, List, [], ◌∷◌, ◌++◌, length, Option, Some, Ok, refl, sym, ap, subst, ◌∙◌, append_assoc, append-nil, arith, inl, inr, length-append, eqb-true, slice_get, w16, w32, to_be_bytes, flat_map, list_any, le-ltb, lt-ltb, cases_Bool, and_parts, slice_get_within, In, In-right, In-map, place_in, get_left, get_end, AreOnce, AreNormal, is_pair, Lit, Pair, PackParam, MOST_PACK_NODES, MOST_PACK_BITS, MOST_PARAMETERS, Version, Field, offset, spelled, magic, version_number, head_bytes, param_bytes, node_bytes, nodes_bytes, bit_bytes, params_part, nodes_part, bits_part, names_of_params, Front, nothing, lettered, versioned, in_params, in_nodes, in_bits, spelling, AreParams, AreNodes, AreBits, AreSome, IsSound, read_into, next_at}
+use Rattle.ppc_file.proofs.Common.{◌≡◌, ℕ, ◌+◌, ◌*◌, ◌<◌, ◌≤◌, true, false, ltb, List, [], ◌∷◌, ◌++◌, length, Option, Some, Ok, refl, sym, ap, subst, ◌∙◌, append_assoc, append-nil, arith, inl, inr, length-append, slice_get, w16, w32, to_be_bytes, flat_map, list_any, le-ltb, lt-ltb, cases_Bool, slice_get_within, In, In-right, In-map, place_in, get_left, get_end, AreOnce, AreNormal, is_pair, Lit, Pair, PackParam, MOST_PACK_NODES, MOST_PACK_BITS, MOST_PARAMETERS, Version, Field, offset, spelled, magic, version_number, head_bytes, param_bytes, node_bytes, nodes_bytes, bit_bytes, params_part, nodes_part, bits_part, names_of_params, Front, nothing, lettered, versioned, in_params, in_nodes, in_bits, spelling, AreParams, AreNodes, AreBits, AreSome, IsSound, read_into, next_at, nat_tests}
+use Rattle.ppc_file.proofs.NumberLemmas.{wide16, wide32}
+use Rattle.ppc_file.proofs.FieldLemmas.{none_all, IsNextParam, IsNextNode, magic_again, version_again, count_again, param_again, node_again, bit_again}
 use Rattle.ppc_file.specs.declared.pack_err.PackErr.TheVariants as refused
-use Rattle.ppc_file.proofs.NameRules.{none_all}
-use Rattle.ppc_file.proofs.FieldTakes.{IsNextParam, IsNextNode}
-use Rattle.ppc_file.proofs.FieldsAgain.{magic_again, version_again, count16_again, count32_again, param_again, node_again, bit_again}
 
 -- from a front with something left to another one, field by field
 pub data Reads (total : ℕ) (t : Front) (q : List ℕ) : Front → List ℕ → Type 0 where
@@ -37,14 +36,7 @@ new_name (d ∷ front) p rest once (inr i) = new_name front p rest once.1 i
 
 -- the pair of a node is none of those before it
 pair_is : (p q : Pair) → is_pair p.x.0 p.y.0 q ≡ true → q ≡ p
-pair_is p q h =
-    let a = and_parts (eqb p.x.0 q.x.0) (eqb p.y.0 q.y.0) h in
-    let x : p.x.0 ≡ q.x.0 = eqb-true p.x.0 q.x.0 a.0 in
-    let y : p.y.0 ≡ q.y.0 = eqb-true p.y.0 q.y.0 a.1 in
-    sym (ap (λ (n : ℕ). make n p.y.0) x ∙ ap (make q.x.0) y)
-  where
-    make : ℕ → ℕ → Pair
-    make a b = record { x = record { 0 = a }; y = record { 0 = b } }
+pair_is p q h = grind (arith, nat_tests)
 
 new_pair : (first : ℕ) (front : List Pair) (p : Pair) (rest : List Pair) → AreNormal first (front ++ p ∷ rest) → list_any (is_pair p.x.0 p.y.0) front ≡ false
 new_pair first front p rest normal = none_all (is_pair p.x.0 p.y.0) front (λ q i. elim (cases_Bool (is_pair p.x.0 p.y.0 q)) [
@@ -135,7 +127,7 @@ module _ (total : ℕ) (t : Front) (q : List ℕ) where
       let few : count ≤ 65535 = some.few in
       let behind : List ℕ = flat_map (param_bytes v) params ++ rest in
       subst (λ (s : List ℕ). Reads total t q (versioned v) s) (sym (append_assoc (spelled v w16 count) (flat_map (param_bytes v) params) rest))
-      (go (in_params v count [], behind) (ap (λ (f : Field ℕ). Some (read_into (λ n. in_params v n []) f)) (count16_again total v MOST_PARAMETERS (refused.BadNumber (offset total (spelled v w16 count ++ behind))) count behind some.few (omega arith)))
+      (go (in_params v count [], behind) (ap (λ (f : Field ℕ). Some (read_into (λ n. in_params v n []) f)) (count_again total w16 65536 wide16 v MOST_PARAMETERS (refused.BadNumber (offset total (spelled v w16 count ++ behind))) count behind some.few (omega arith)))
       (reads_params v count [] params rest are some.within on))
 
   reads_nodes_part : (v : Version) (params : List PackParam) (count : ℕ) (pairs : List Pair) (rest : List ℕ) → AreParams params → AreSome MOST_PACK_NODES count (length pairs) → AreNodes params pairs
@@ -148,7 +140,7 @@ module _ (total : ℕ) (t : Front) (q : List ℕ) where
       let start : 1 + length params + 0 ≡ first = omega arith in
       subst (λ (s : List ℕ). Reads total t q (in_params v (length params) params) s) (sym (append_assoc (spelled v w32 count) (nodes_bytes v first pairs) rest))
       (go (in_nodes v params count [], behind)
-      (rw all (ap (λ (f : Field ℕ). Some (read_into (λ n. in_nodes v params n []) f)) (count32_again total v MOST_PACK_NODES (refused.BadNode (offset total (spelled v w32 count ++ behind))) count behind some.few (omega arith))))
+      (rw all (ap (λ (f : Field ℕ). Some (read_into (λ n. in_nodes v params n []) f)) (count_again total w32 4294967296 wide32 v MOST_PACK_NODES (refused.BadNode (offset total (spelled v w32 count ++ behind))) count behind some.few (omega arith))))
       (subst (λ (n : ℕ). Reads total t q (in_nodes v params count []) (nodes_bytes v n pairs ++ rest)) start (reads_nodes v params are_params.few count [] pairs rest are some.within on)))
 
   reads_bits_part : (v : Version) (params : List PackParam) (pairs : List Pair) (count : ℕ) (bits : List Lit) (rest : List ℕ) → AreParams params → AreNodes params pairs → AreSome MOST_PACK_BITS count (length bits) → AreBits (1 + length params + length pairs) bits
@@ -161,7 +153,7 @@ module _ (total : ℕ) (t : Front) (q : List ℕ) where
       let all : ltb (length pairs) (length pairs) ≡ false = le-ltb (length pairs) (length pairs) (omega arith) in
       subst (λ (s : List ℕ). Reads total t q (in_nodes v params (length pairs) pairs) s) (sym (append_assoc (spelled v w32 count) (flat_map (bit_bytes v) bits) rest))
       (go (in_bits v params pairs count [], behind)
-      (rw all (ap (λ (f : Field ℕ). Some (read_into (λ n. in_bits v params pairs n []) f)) (count32_again total v MOST_PACK_BITS (refused.BadBit (offset total (spelled v w32 count ++ behind))) count behind some.few (omega arith))))
+      (rw all (ap (λ (f : Field ℕ). Some (read_into (λ n. in_bits v params pairs n []) f)) (count_again total w32 4294967296 wide32 v MOST_PACK_BITS (refused.BadBit (offset total (spelled v w32 count ++ behind))) count behind some.few (omega arith))))
       (reads_bits v params pairs (omega arith) count [] bits rest are some.within on))
 
 -- a sound front is met

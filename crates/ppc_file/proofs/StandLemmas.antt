@@ -3,8 +3,8 @@ use Rattle.ppc_file.proofs.Common.{◌≡◌, ℕ, suc, ◌+◌, ◌*◌, ◌<�
 use Rattle.std.proofs.lemmas.List.Concat.{flat_map-append}
 use Rattle.list_laws.proofs.Apart.{pushed_apart}
 use Rattle.ppc_file.specs.declared.pack_err.PackErr.TheVariants as refused
-use Rattle.ppc_file.proofs.NumberLemmas.{IsBytes, Takes}
-use Rattle.ppc_file.proofs.FieldTakes.{IsNextParam, magic_takes, version_takes, count16_takes, count32_takes, param_takes, node_takes, bit_takes}
+use Rattle.ppc_file.proofs.NumberLemmas.{IsBytes, Takes, wide16, wide32}
+use Rattle.ppc_file.proofs.FieldLemmas.{IsNextParam, magic_takes, version_takes, count_takes, param_takes, node_takes, bit_takes}
 
 bytes_behind : (front rest : List ℕ) → IsBytes (front ++ rest) → IsBytes rest
 bytes_behind [] rest fits = fits
@@ -48,7 +48,7 @@ module _ (bytes : List ℕ) (fits : IsBytes bytes) where
 
   pub stands_param_count : (v : Version) (rest : List ℕ) (y : ℕ × List ℕ) → StandsAt bytes (versioned v) rest → param_count_at (length bytes) v rest ≡ Ok y → StandsAt bytes (in_params v y.0 []) y.1
   stands_param_count v rest y stands e =
-      let t = count16_takes (length bytes) v MOST_PARAMETERS (refused.BadNumber (offset (length bytes) rest)) rest y (rest_bytes (versioned v) rest stands) e in
+      let t = count_takes (length bytes) w16 65536 wide16 v MOST_PARAMETERS (refused.BadNumber (offset (length bytes) rest)) rest y (rest_bytes (versioned v) rest stands) e in
       further (versioned v) (in_params v y.0 []) (spelled v w16 y.0) rest y.1 stands t.0 (ap (λ (s : List ℕ). head_bytes v ++ s) (sym (append-nil (spelled v w16 y.0))))
       (record { few = t.1; within = omega arith }, record { few = omega arith; short = λ p i. absurd i; clean = λ p i. absurd i; once = tt })
 
@@ -74,7 +74,7 @@ module _ (bytes : List ℕ) (fits : IsBytes bytes) where
   pub stands_node_count : (v : Version) (params : List PackParam) (rest : List ℕ) (y : ℕ × List ℕ) → StandsAt bytes (in_params v (length params) params) rest → node_count_at (length bytes) v rest ≡ Ok y
       → StandsAt bytes (in_nodes v params y.0 []) y.1
   stands_node_count v params rest y stands e =
-      let t = count32_takes (length bytes) v MOST_PACK_NODES (refused.BadNode (offset (length bytes) rest)) rest y (rest_bytes (in_params v (length params) params) rest stands) e in
+      let t = count_takes (length bytes) w32 4294967296 wide32 v MOST_PACK_NODES (refused.BadNode (offset (length bytes) rest)) rest y (rest_bytes (in_params v (length params) params) rest stands) e in
       further (in_params v (length params) params) (in_nodes v params y.0 []) (spelled v w32 y.0) rest y.1 stands t.0
       (inner (head_bytes v) (params_part v (length params) params) (spelled v w32 y.0) (params_part v (length params) params ++ nodes_part v (1 + length params) y.0 [])
       (ap (λ (s : List ℕ). params_part v (length params) params ++ s) (sym (append-nil (spelled v w32 y.0)))))
@@ -106,7 +106,7 @@ module _ (bytes : List ℕ) (fits : IsBytes bytes) where
   pub stands_bit_count : (v : Version) (params : List PackParam) (pairs : List Pair) (rest : List ℕ) (y : ℕ × List ℕ) → StandsAt bytes (in_nodes v params (length pairs) pairs) rest → bit_count_at (length bytes) v rest ≡ Ok y
       → StandsAt bytes (in_bits v params pairs y.0 []) y.1
   stands_bit_count v params pairs rest y stands e =
-      let t = count32_takes (length bytes) v MOST_PACK_BITS (refused.BadBit (offset (length bytes) rest)) rest y (rest_bytes (in_nodes v params (length pairs) pairs) rest stands) e in
+      let t = count_takes (length bytes) w32 4294967296 wide32 v MOST_PACK_BITS (refused.BadBit (offset (length bytes) rest)) rest y (rest_bytes (in_nodes v params (length pairs) pairs) rest stands) e in
       let P : List ℕ = params_part v (length params) params in
       let N : List ℕ = nodes_part v (1 + length params) (length pairs) pairs in
       let C : List ℕ = spelled v w32 y.0 in

@@ -7,4 +7,3 @@ pub mod PackFile
 pub mod Refusals
 -- What only bodies are compared with.
 pub mod Reading
-pub mod Adding

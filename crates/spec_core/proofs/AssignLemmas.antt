@@ -50,8 +50,7 @@ AreAssigned-rest count a assigns h = record {
 later_apart : (count : ℕ) (a : Assign) (assigns : List Assign) → AreAssigned count (a ∷ assigns) → (b : Assign) → In assigns b → b.param ≡ a.param → ⊥
 later_apart count a assigns h b i e =
     let at = place_in assigns b i in
-    let s : 0 ≡ suc at.0 = h.once 0 (suc at.0) a b refl at.1 (sym e) in
-    omega arith
+    omega (arith, h.once 0 (suc at.0) a b refl at.1 (sym e))
 
 -- the marks are right once parameters have their values
 module _ (pack : PackValue) (readers : ReadersValue) (old : List Bool) where

@@ -59,12 +59,7 @@ pub params_fit : (pack : PackValue) (given values : List Bool) → length given 
 params_fit pack given values count fits = ext_get_or false (params_in pack values) given (long ∙ sym count) at
   where
     long : length (params_in pack values) ≡ length pack.params
-    long =
-        let g : length given ≡ length pack.graph.kinds = fits.given in
-        let c : length values ≡ node_count pack.graph = fits.count in
-        let t : length (params_in pack values) ≡ _ = length-take (length pack.params) (drop 1 values) in
-        let d : length (drop 1 values) ≡ length values - 1 = length-drop 1 values in
-        omega arith
+    long = omega (arith, fits.given, fits.count, length-take (length pack.params) (drop 1 values), length-drop 1 values)
 
     at : (k : ℕ) → k < length (params_in pack values) → get_or (params_in pack values) k false ≡ get_or given k false
     at k l =

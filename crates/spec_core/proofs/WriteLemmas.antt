@@ -109,10 +109,7 @@ least_written marks to a least same = ap (map (write_of to)) (least_first marks 
 -- no more addresses pass a test than there are
 pub writes_few : (test : ℕ → Bool) (to : List Bool) (n : ℕ) → length (map (write_of to) (filter test (range_with_len 0 n))) ≤ n
 writes_few test to n =
-    let m : length (map (write_of to) (filter test (range_with_len 0 n))) ≡ length (filter test (range_with_len 0 n)) = length-map (filter test (range_with_len 0 n)) (write_of to) in
-    let f : length (filter test (range_with_len 0 n)) + length (filter (λ x. not (test x)) (range_with_len 0 n)) ≡ length (range_with_len 0 n) = length-filter_both test (λ x. not (test x)) (λ _. refl) (range_with_len 0 n) in
-    let r : length (range_with_len 0 n) ≡ n = length-range_with_len 0 n in
-    omega arith
+    omega (arith, length-map (filter test (range_with_len 0 n)) (write_of to), length-filter_both test (λ x. not (test x)) (λ _. refl) (range_with_len 0 n), length-range_with_len 0 n)
 
 -- one fewer is left where the least marked one is taken
 pub fewer_left : (marks : List Bool) (a n : ℕ) → IsLeast marks a → a < n → length (filter (is_marked (slice_set marks a false)) (range_with_len 0 n)) < length (filter (is_marked marks) (range_with_len 0 n))

@@ -1,4 +1,4 @@
-use Rattle.blif_write.proofs.TableLemmas.{clock_text}
+use Rattle.blif_write.proofs.NetlistLemmas.{clock_text}
 use Rattle.blif_write.proofs.Common.{added_as, added_twice}
 use Rattle.blif_write.proofs.latches.add_clock.Goals as goal
 

@@ -1,5 +1,5 @@
 use Rattle.blif_write.proofs.Common.{IsAdded}
-use Rattle.blif_write.proofs.PairLemmas.{latches_before}
+use Rattle.blif_write.proofs.NetlistLemmas.{latches_before}
 use Rattle.blif_write.proofs.latches.add_latches.Given as goal
 
 abbrev pub invariant-loop-ordinal : goal.invariant-loop-ordinal

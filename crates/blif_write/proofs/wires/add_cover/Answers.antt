@@ -1,5 +1,5 @@
 use Rattle.blif_write.proofs.Common.{literal_name, added_as, added_twice}
-use Rattle.blif_write.proofs.TableLemmas.{wire_text}
+use Rattle.blif_write.proofs.NetlistLemmas.{wire_text}
 use Rattle.blif_write.proofs.wires.add_cover.Goals as goal
 
 pub returns : goal.returns

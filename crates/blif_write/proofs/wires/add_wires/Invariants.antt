@@ -1,5 +1,5 @@
 use Rattle.blif_write.proofs.Common.{IsAdded}
-use Rattle.blif_write.proofs.PairLemmas.{wires_before}
+use Rattle.blif_write.proofs.NetlistLemmas.{wires_before}
 use Rattle.blif_write.proofs.wires.add_wires.Given as goal
 
 abbrev pub invariant-loop-place : goal.invariant-loop-place

@@ -1,6 +1,6 @@
 use Rattle.cert_check.proofs.Common.{List, map, Ok, sym, ap, ◌∙◌, OrMemory-map, OrMemory, LineValue, words_line, cert_err, IsMalformed, IsCertTextFault, refusal_of, passed_err}
 use Rattle.tl_text.specs.TextOf.{IsLinesFault, by_lines, at_line}
-use Rattle.cert_check.proofs.FormedLemmas.{text_writable}
+use Rattle.cert_check.proofs.RoundTrip.{text_writable}
 use Rattle.cert_check.proofs.OnceLemmas.{one_reading}
 use Rattle.cert_check.proofs.cert_text.read_cert.Goals as goal
 

@@ -8,7 +8,4 @@ make-requires-clause-nodes c =
     (subst (AreOf (node_count c.args.graph.now)) (sym (c.deref.ensures.value ∙ c.in_ok-readings.ensures)) (nodes_below c.args.graph.now c.len.ensures.normal))
 
 pub make-requires-clause-few : goal.make-requires-clause-few
-make-requires-clause-few c =
-    let n : length c.deref.result.now ≡ 2 * length c.args.graph.now.pairs = ap length (c.deref.ensures.value ∙ c.in_ok-readings.ensures) ∙ length-node_readings (first_and c.args.graph.now) c.args.graph.now.pairs in
-    let few : length c.args.graph.now.pairs ≤ 2 ^ 25 = c.requires in
-    omega arith
+make-requires-clause-few c = omega (arith, ap length (c.deref.ensures.value ∙ c.in_ok-readings.ensures) ∙ length-node_readings (first_and c.args.graph.now) c.args.graph.now.pairs, c.requires)

@@ -7,15 +7,6 @@ use Rattle.dirty_idx.proofs.tiers.first_word.Goals as goal
 pub loop-layer-init : goal.loop-layer-init
 loop-layer-init c = first_start c.args.words.now c.requires.some
 
-pub bounds-words-at : goal.bounds-words-at
-bounds-words-at c = let l : c.loop-layer.at < upper_words c.args.depth = upper_within c.loop-layer._layer c.args.depth c.loop-layer.at (omega arith) c.loop-layer.invariant.to in omega arith
-
-pub overflow_mul-at : goal.overflow_mul-at
-overflow_mul-at c = let l : c.loop-layer.at < upper_words c.args.depth = upper_within c.loop-layer._layer c.args.depth c.loop-layer.at (omega arith) c.loop-layer.invariant.to in omega arith
-
-pub overflow_add-at : goal.overflow_add-at
-overflow_add-at c = let l : c.loop-layer.at < upper_words c.args.depth = upper_within c.loop-layer._layer c.args.depth c.loop-layer.at (omega arith) c.loop-layer.invariant.to in omega arith
-
 pub overflow_add-at-in-loop-layer : goal.overflow_add-at-in-loop-layer
 overflow_add-at-in-loop-layer c = let l : c.loop-layer.at < upper_words c.args.depth = upper_within c.loop-layer._layer c.args.depth c.loop-layer.at (omega arith) c.loop-layer.invariant.to in omega (arith, trailing_le 64 (get_or c.args.words.now c.loop-layer.at 0))
 

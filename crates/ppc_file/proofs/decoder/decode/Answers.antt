@@ -1,5 +1,5 @@
-use Rattle.ppc_file.proofs.Common.{◌≡◌, ℕ, List, length, replicate, ap, ◌∙◌, sym, subst, arith, eqb-true, Aig, Parameter, PackParam, Trailing, in_bits, IsPackFile, IsPackFault, StandsAt}
-use Rattle.ppc_file.proofs.FileLemmas.{is_pack, is_file, trailing, empty}
+use Rattle.ppc_file.proofs.Common.{◌≡◌, ℕ, List, length, replicate, ap, ◌∙◌, sym, subst, arith, eqb-true, Aig, Parameter, PackParam, Trailing, in_bits, IsPackFile, IsPackFault, StandsAt, nil_from_length}
+use Rattle.ppc_file.proofs.ReadLemmas.{is_pack, is_file, trailing}
 use Rattle.ppc_file.proofs.NumberLemmas.{not_zero}
 use Rattle.ppc_file.proofs.decoder.decode.Goals as goal
 
@@ -30,4 +30,4 @@ returns-clause-ok c =
     subst (λ (ps : List PackParam). StandsAt c.args.bytes.now (in_bits c.in_ok-version.version ps g.pairs (length bits) bits) rest) c.deref-2.ensures.value c.in_ok-bits.ensures.stands in
     subst (IsPackFile c.args.bytes.now) (sym c.make.ensures)
     (is_file c.args.bytes.now params g bits kinds c.in_ok-version.version
-    (subst (StandsAt c.args.bytes.now (in_bits c.in_ok-version.version params g.pairs (length bits) bits)) (empty rest (eqb-true (length rest) 0 (sym c.is_empty.ensures ∙ c.if-not-is_empty.false))) stands))
+    (subst (StandsAt c.args.bytes.now (in_bits c.in_ok-version.version params g.pairs (length bits) bits)) (nil_from_length rest (eqb-true (length rest) 0 (sym c.is_empty.ensures ∙ c.if-not-is_empty.false))) stands))

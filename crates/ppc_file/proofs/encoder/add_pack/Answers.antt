@@ -1,5 +1,6 @@
-use Rattle.ppc_file.proofs.Common.{◌≡◌, ◌⊎◌, refl, sym, inl, inr, PackValue, Version, One, Two, bytes_of, added_as, added_twice}
+use Rattle.ppc_file.proofs.Common.{refl, sym, added_as, added_twice}
 use Rattle.ppc_file.proofs.AddedLemmas.{pack_parts}
+use Rattle.ppc_file.proofs.ReadLemmas.{by_version}
 use Rattle.ppc_file.proofs.encoder.add_pack.Goals as goal
 
 pub returns-clause-added : goal.returns-clause-added
@@ -11,10 +12,5 @@ returns-clause-added g c =
     (added_twice c.add_params.ensures
     (added_twice c.add_nodes.ensures c.add_bits.ensures)))
 
--- the bytes are those of one of the versions
-by_version : (version : Version) (pack : PackValue) → (bytes_of version pack ≡ bytes_of One pack) ⊎ (bytes_of version pack ≡ bytes_of Two pack)
-by_version One pack = inl refl
-by_version Two pack = inr refl
-
 pub returns-clause-file : goal.returns-clause-file
-returns-clause-file g c = record { is_pack = c.params.ensures.pack; normal = rw c.graph-graph.ensures.value at c.len-count.ensures.normal; spelled = by_version c.args.version c.args.pack.now }
+returns-clause-file g c = record { is_pack = c.params.ensures.pack; normal = rw c.graph-graph.ensures.value at c.len-count.ensures.normal; spelled = by_version c.args.version c.args.pack.now _ refl }

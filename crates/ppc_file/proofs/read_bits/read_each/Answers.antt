@@ -1,14 +1,13 @@
-use Rattle.ppc_file.proofs.Common.{◌≡◌, ◌<◌, ◌+◌, ℕ, length, ap, ◌∙◌, arith, length-append, [], ◌∷◌, passed_on, OrMemory, IsPackFault, refusal_of}
-use Rattle.ppc_file.proofs.ReadLemmas.{said, bit_read, bit_refused, all_bits}
+use Rattle.ppc_file.proofs.Common.{◌≡◌, ◌<◌, ◌+◌, ℕ, length, ap, ◌∙◌, arith, length-append, [], ◌∷◌}
+use Rattle.ppc_file.proofs.ReadLemmas.{refused_on, bit_read, bit_refused, all_bits}
 use Rattle.ppc_file.proofs.read_bits.read_each.Goals as goal
 
 pub returns-in_err-literal-clause-fault : goal.returns-in_err-literal-clause-fault
 returns-in_err-literal-clause-fault c =
     let below : length c.loop.bits.items < c.args.count = omega (arith, c.loop.invariant.count, c.loop-test.true) in
     let nodes : c.len-nodes.result ≡ 1 + length c.args.params.now + length c.args.graph.now.pairs = c.len-nodes.ensures.count ∙ ap (λ (n : ℕ). 1 + n + length c.args.graph.now.pairs) c.requires.sources in
-    let e = c.in_err-literal.field-0.0 in
-    passed_on c.from_residual.result e (λ _. Unit {0}) (OrMemory refusal_of (IsPackFault c.args.file.now)) c.from_residual.ensures.1
-    (said (IsPackFault c.args.file.now) e (bit_refused c.args.file.now (λ i. omega (arith, c.type_inv.file i)) c.args.version c.args.params.now c.args.graph.now.pairs c.args.count c.len-nodes.result c.loop.bits.items c.loop.rest.now c.loop.invariant.stands nodes below e c.in_err-literal.ensures))
+    refused_on c.args.file.now c.from_residual.result c.in_err-literal.field-0.0 c.from_residual.ensures.1
+    (bit_refused c.args.file.now (λ i. omega (arith, c.type_inv.file i)) c.args.version c.args.params.now c.args.graph.now.pairs c.args.count c.len-nodes.result c.loop.bits.items c.loop.rest.now c.loop.invariant.stands nodes below _ c.in_err-literal.ensures)
 
 pub loop-preserved : goal.loop-preserved
 loop-preserved c =

@@ -1,5 +1,5 @@
-use Rattle.ppc_file.proofs.Common.{◌<◌, length, ap, ◌∙◌, arith, length-append, [], ◌∷◌, ◌++◌, List, ℕ, sym, map-append, passed_on, OrMemory, PackParam, names_of_params, IsPackFault, refusal_of}
-use Rattle.ppc_file.proofs.ReadLemmas.{said, param_new, param_read, param_refused, all_params}
+use Rattle.ppc_file.proofs.Common.{◌<◌, length, ap, ◌∙◌, arith, length-append, [], ◌∷◌, ◌++◌, List, ℕ, sym, map-append, PackParam, names_of_params}
+use Rattle.ppc_file.proofs.ReadLemmas.{refused_on, param_new, param_read, param_refused, all_params}
 use Rattle.ppc_file.proofs.read_params.read_each.Goals as goal
 
 pub push_param-requires : goal.push_param-requires
@@ -11,9 +11,8 @@ push_param-requires c =
 pub returns-in_err-found-clause-fault : goal.returns-in_err-found-clause-fault
 returns-in_err-found-clause-fault c =
     let below : length c.loop.params.items < c.args.count = omega (arith, c.loop.invariant.count, c.loop-test.true) in
-    let e = c.in_err-found.field-0.0 in
-    passed_on c.from_residual.result e (λ _. Unit {0}) (OrMemory refusal_of (IsPackFault c.args.file.now)) c.from_residual.ensures.1
-    (said (IsPackFault c.args.file.now) e (param_refused c.args.file.now (λ i. omega (arith, c.type_inv.file i)) c.args.version c.args.count c.loop.params.items c.loop.names c.loop.rest.now c.loop.invariant.stands c.loop.invariant.names below e c.in_err-found.ensures))
+    refused_on c.args.file.now c.from_residual.result c.in_err-found.field-0.0 c.from_residual.ensures.1
+    (param_refused c.args.file.now (λ i. omega (arith, c.type_inv.file i)) c.args.version c.args.count c.loop.params.items c.loop.names c.loop.rest.now c.loop.invariant.stands c.loop.invariant.names below _ c.in_err-found.ensures)
 
 pub loop-preserved : goal.loop-preserved
 loop-preserved c =

@@ -1,5 +1,5 @@
-use Rattle.ppc_file.proofs.Common.{arith, passed_on, OrMemory, IsPackFault, refusal_of}
-use Rattle.ppc_file.proofs.ReadLemmas.{said}
+use Rattle.ppc_file.proofs.Common.{arith}
+use Rattle.ppc_file.proofs.ReadLemmas.{refused_on}
 use Rattle.ppc_file.proofs.StandLemmas.{stands_param_count, no_param_count}
 use Rattle.ppc_file.proofs.read_params.read_params.Goals as goal
 
@@ -7,7 +7,5 @@ pub read_each-requires-clause-stands : goal.read_each-requires-clause-stands
 read_each-requires-clause-stands c = stands_param_count c.args.file.now (λ i. omega (arith, c.type_inv.file i)) c.args.version c.args.rest.now (c.in_ok-count.count, c.in_ok-count.rest.now) c.requires.stands c.in_ok-count.ensures
 
 pub returns-in_err-count-clause-fault : goal.returns-in_err-count-clause-fault
-returns-in_err-count-clause-fault c =
-    let e = c.in_err-count.field-0.0 in
-    passed_on c.from_residual.result e (λ _. Unit {0}) (OrMemory refusal_of (IsPackFault c.args.file.now)) c.from_residual.ensures.1
-    (said (IsPackFault c.args.file.now) e (no_param_count c.args.file.now (λ i. omega (arith, c.type_inv.file i)) c.args.version c.args.rest.now e c.requires.stands c.in_err-count.ensures))
+returns-in_err-count-clause-fault c = refused_on c.args.file.now c.from_residual.result c.in_err-count.field-0.0 c.from_residual.ensures.1
+    (no_param_count c.args.file.now (λ i. omega (arith, c.type_inv.file i)) c.args.version c.args.rest.now _ c.requires.stands c.in_err-count.ensures)

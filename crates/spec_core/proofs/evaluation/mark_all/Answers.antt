@@ -2,6 +2,4 @@ use Rattle.spec_core.proofs.Common.{◌<◌, length, get_or, arith, In-get_or}
 use Rattle.spec_core.proofs.evaluation.mark_all.Goals as goal
 
 pub mark-requires : goal.mark-requires
-mark-requires c =
-    let within : get_or c.args.numbers.now c.loop-n.n-index 0 < length c.args.marks.now = c.requires _ (In-get_or c.args.numbers.now c.loop-n.n-index 0 (omega arith)) in
-    omega arith
+mark-requires c = omega (arith, c.requires _ (In-get_or c.args.numbers.now c.loop-n.n-index 0 (omega arith)))

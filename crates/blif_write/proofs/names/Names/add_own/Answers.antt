@@ -1,5 +1,5 @@
 use Rattle.blif_write.proofs.Common.{ap, added_as, added_twice, Naming}
-use Rattle.blif_write.proofs.NameLemmas.{own_is}
+use Rattle.blif_write.proofs.OwnNameLemmas.{own_is}
 use Rattle.blif_write.proofs.names.Names.add_own.Goals as goal
 
 pub returns : goal.returns
