@@ -3,10 +3,10 @@ pub use Rattle.std.proofs.Common.{ℕ, List, length, refl, subst, ◌≡◌, ◌
 pub use Rattle.std.proofs.lemmas.List.{length-map, map-append, length-take, take_all}
 pub use Rattle.std.specs.List.{concat}
 pub use Rattle.cmd_base.specs.Walk.{IsBegun, Explains, Outside, outside}
-pub use Rattle.cmd_stations.proofs.EventLemmas.{put_then, one_line, split_by, more_by, value_has}
-pub use Rattle.cmd_stations.proofs.InitLemmas.{init_count, init_params, cycle_count, param_count, inits_are}
+pub use Rattle.cmd_stations.proofs.EventLemmas.{split_by, more_by, value_has}
+pub use Rattle.cmd_stations.proofs.InitLemmas.{init_count, init_params, cycle_count, param_count}
 pub use Rattle.cmd_stations.specs.Script.{names_in, IsSplit, ScriptedWords, scripted_reading}
-pub use Rattle.cmd_stations.specs.Tables.{ComesScripted, IsReadSource, AreMade}
+pub use Rattle.cmd_stations.specs.Tables.{ComesScripted}
 pub use Rattle.cmd_stations.specs.SourceCircuit.{width_of, shape_of, IsSourceCycle}
 pub use Rattle.cmd_stations.specs.Tunable.{IsTunable}
 pub use Rattle.cmd_stations.specs.declared.source.Source.{Source}
@@ -23,8 +23,8 @@ pub use Rattle.spec_core.proofs.AssignLemmas.{length-assigned}
 pub use Rattle.spec_core.specs.Differences.{differences}
 pub use Rattle.tl_io.specs.Content.{extended}
 pub use Rattle.tl_io.specs.Shelf.{Files}
-pub use Rattle.cmd_pace.specs.Verdict.{IsAllPaced, HasPace, IsPaceCut, pace_walk}
+pub use Rattle.cmd_pace.specs.Verdict.{HaveShown, IsAllPaced, HasPace, IsPaceCut, pace_walk}
 pub use Rattle.cmd_pace.specs.Headline.{stage_of, IsFirst, ShowAll, HasPaceHeadline, Stage, ShowsAsk, ShowsStep, ShowsWait, ShowsTick, Shows, none, more, StallsAnywhere}
-pub use Rattle.cmd_pace.specs.Job.{PaceJob, IsPaceStart, pacer_header, PaceWords, scripted_of, pace_seen}
-pub use Rattle.cmd_pace.specs.Ready.{IsReadyFor, AreAllPaced, AreCut, IsCutFirst, IsHeaded, CanPace, StartsPace}
+pub use Rattle.cmd_pace.specs.Job.{PaceJob, StartsPace, IsPaceStart, pacer_header, PaceWords, scripted_of, pace_seen}
+pub use Rattle.cmd_pace.specs.Ready.{IsReadyFor, CanPace, StartsAt}
 pub use Rattle.cmd_pace.specs.declared.prepare.Ready.{Ready}

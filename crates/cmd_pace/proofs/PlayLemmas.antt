@@ -1,7 +1,5 @@
--- The playing of events: what stands behind some of them, and how it ends at the next one; and a job that was made ready is begun, and ends so.
-use Rattle.cmd_pace.proofs.Common.{◌≡◌, ◌⊎◌, ℕ, ◌<◌, List, [], ◌∷◌, ◌++◌, length, map, take, Option, refl, sym, ap, ◌∙◌, subst, inl, inr, append_assoc, concat, map-append, extended, Shape, PackValue, PaceValue, Ask, Tick, PacerValue, Shown, shown_line, IsTicked, steps, waits, IsPaced, ArePaced, FitsPacer, Outside, IsSplit, put_then, one_line, IsAllPaced, IsPaceCut, pacer_header, AreAllPaced, AreCut, IsCutFirst, IsHeaded, Files, IsBegun, pace_values, Ready, HasPace, IsReadyFor, pace_walk, PaceWords}
-use Rattle.tl_io.specs.Causes.{Rose}
-use Rattle.tl_io.proofs.ContentLemmas.{extended_none}
+-- The playing of events: what stands behind one event more; and a job that was made ready is begun, and ends as its playing does.
+use Rattle.cmd_pace.proofs.Common.{◌≡◌, ℕ, List, [], ◌∷◌, ◌++◌, length, refl, sym, ap, ◌∙◌, subst, map-append, Shape, PackValue, PaceValue, Ask, Tick, PacerValue, Shown, shown_line, IsTicked, steps, waits, IsPaced, ArePaced, FitsPacer, Outside, HaveShown, Files, IsBegun, pace_values, Ready, HasPace, IsReadyFor, pace_walk, PaceWords}
 use Rattle.pace_core.specs.EventValue as pace
 use Rattle.cmd_stations.proofs.RefusedLemmas.{least_mapped}
 
@@ -31,78 +29,13 @@ then_paced old mid new [] (first ∷ shown) event one are paced = absurd are
 then_paced old mid new (first ∷ events) [] event one are paced = absurd are
 then_paced old mid new (first ∷ events) (here ∷ shown) event one are paced = (are.0, are.1, then_paced are.0 mid new events shown event one are.2 paced)
 
--- events were played one after the other, and the output grew by their lines
-pub record HaveCome (old : PacerValue) (events : List PaceValue) (before : Option (List ℕ)) (new : PacerValue) (after : Option (List ℕ)) : Type 0 where
-  pub shown : List Shown
-  pub are : ArePaced old events shown new
-  pub bytes : after ≡ extended before (concat (map shown_line shown))
-
-pub come_none : (old : PacerValue) (before : Option (List ℕ)) → HaveCome old [] before old before
-come_none old before = record { shown = []; are = refl; bytes = sym (extended_none before) }
-
-pub come_more : (old mid new : PacerValue) (events : List PaceValue) (event : PaceValue) (one : Shown) (first before after : Option (List ℕ)) → HaveCome old events first mid before → IsPaced event mid new one
-    → after ≡ extended before (shown_line one) → HaveCome old (events ++ event ∷ []) first new after
-come_more old mid new events event one first before after come paced put =
-    let lines = map shown_line come.shown in
-    record {
-      shown = come.shown ++ one ∷ [];
-      are = then_paced old mid new events come.shown event one come.are paced;
-      bytes = put_then first before after (concat lines) (shown_line one) come.bytes put
-          ∙ ap (λ l. extended first l) (one_line lines (shown_line one) ∙ ap concat (sym (map-append shown_line come.shown (one ∷ []))));
-    }
-
-pub come_all : (old new : PacerValue) (events : List PaceValue) (before after : Option (List ℕ)) → HaveCome old events before new after → AreAllPaced old events before after
-come_all old new events before after come = record { shown = come.shown; end = new; are = come.are; bytes = come.bytes }
-
--- the events end at one whose line was cut
-pub events_cut : (old mid new : PacerValue) (all events : List PaceValue) (event : PaceValue) (one : Shown) (first before after : Option (List ℕ)) (part : ℕ) → IsSplit all events event → HaveCome old events first mid before
-    → IsPaced event mid new one → part < length (shown_line one) → after ≡ extended before (take part (shown_line one)) → AreCut old all first after
-events_cut old mid new all events event one first before after part split come paced within put = record {
-  first = events;
-  event = event;
-  split = split;
-  shown = come.shown;
-  mid = mid;
-  are = come.are;
-  one = one;
-  next = new;
-  paced = paced;
-  part = part;
-  within = within;
-  bytes = put_then first before after (concat (map shown_line come.shown)) (take part (shown_line one)) come.bytes put;
+pub then_shown : (old mid new : PacerValue) (events : List PaceValue) (lines : List (List ℕ)) (event : PaceValue) (one : Shown) → HaveShown old events lines mid → IsPaced event mid new one
+    → HaveShown old (events ++ event ∷ []) (lines ++ shown_line one ∷ []) new
+then_shown old mid new events lines event one come paced = record {
+  shown = come.shown ++ one ∷ [];
+  are = then_paced old mid new events come.shown event one come.are paced;
+  lines_are = ap (λ ls. ls ++ shown_line one ∷ []) come.lines_are ∙ sym (map-append shown_line come.shown (one ∷ []));
 }
-
--- what a playing leaves outside, behind its header
-pub all_paced : (p : PacerValue) (events : List PaceValue) (old new : Outside) → IsHeaded p events old.bytes new.bytes (λ headed. AreAllPaced p events headed new.bytes) → IsAllPaced p events old new
-all_paced p events old new end = record {
-  shown = end.rest.shown;
-  end = end.rest.end;
-  are = end.rest.are;
-  bytes = put_then old.bytes end.headed new.bytes (pacer_header p) (concat (map shown_line end.rest.shown)) end.header end.rest.bytes;
-}
-
-pub cut_paced : (p : PacerValue) (events : List PaceValue) (old new : Outside) → IsCutFirst p events old.bytes new.bytes ⊎ IsHeaded p events old.bytes new.bytes (λ headed. AreCut p events headed new.bytes)
-    → Rose old.put_faults new.put_faults → IsPaceCut p events old new
-cut_paced p events old new (inl cut) rose = inl (record { part = cut.part; within = cut.within; bytes = cut.bytes; cause = rose })
-cut_paced p events old new (inr end) rose =
-    let cut = end.rest in
-    let lines = concat (map shown_line cut.shown) in
-    let part = take cut.part (shown_line cut.one) in
-    inr (record {
-      before = cut.first;
-      event = cut.event;
-      split = cut.split;
-      shown = cut.shown;
-      mid = cut.mid;
-      are = cut.are;
-      one = cut.one;
-      next = cut.next;
-      paced = cut.paced;
-      part = cut.part;
-      within = cut.within;
-      bytes = put_then old.bytes end.headed new.bytes (pacer_header p) (lines ++ part) end.header cut.bytes ∙ ap (λ l. extended old.bytes l) (sym (append_assoc (pacer_header p) lines part));
-      cause = rose;
-    })
 
 -- A job of `pace` that was made ready is begun, and ends as its playing does.
 module _ (files : Files) (words : PaceWords) (ready : Ready) (is : IsReadyFor files words ready) where

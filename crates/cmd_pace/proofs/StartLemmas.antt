@@ -1,5 +1,5 @@
--- The machine at the start: its latches have the inits of a source circuit that was read, and it can play each ask and tick that its script may have.
-use Rattle.cmd_pace.proofs.Common.{ℕ, List, length, refl, subst, length-map, In, EventValue, Fits, PaceValue, asks_and_ticks, Source, names_in, width_of, ◌≡◌, Bool, sym, ◌∙◌, param_inits, Files, Shape, PackValue, IsConf, HasOneConf, inits_of, event_values, pace_values, PacerValue, ComesScripted, IsTunable, inits_are, param_count, Ready, PaceJob, IsPaceStart, CanPace, StartsPace, IsReadyFor, PaceWords, scripted_of, IsReadSource, AreMade}
+-- The machine at the start: it can play each ask and tick that its script may have.
+use Rattle.cmd_pace.proofs.Common.{ℕ, List, length, refl, subst, length-map, In, EventValue, Fits, PaceValue, asks_and_ticks, Source, names_in, width_of, ◌≡◌, sym, Files, Shape, event_values, pace_values, PacerValue, ComesScripted, param_count, Ready, PaceJob, CanPace, StartsPace, StartsAt, IsReadyFor, PaceWords, scripted_of}
 use Rattle.param_list.specs.declared.params.Param.{Param}
 use Rattle.run_text.specs.ScriptText.{IsScript}
 use Rattle.run_text.specs.declared.event.Forms.TheVariants.{Pace}
@@ -7,11 +7,9 @@ use Rattle.run_text.proofs.FitLemmas.{events_fit}
 use Rattle.pace_core.specs.EventValue as pace
 use Rattle.pace_core.specs.PaceText.{ArePaced}
 use Rattle.pace_core.proofs.PaceTextLemmas as texts
-use Rattle.netlist.specs.FlatCycle.{flat_inits}
 use Rattle.run_text.specs.declared.event.Forms.TheVariants as forms
 use Rattle.pace_core.proofs.PaceTextLemmas.{script_paced}
 use Rattle.cmd_stations.specs.declared.scripted.Scripted.{Scripted}
-use Rattle.cmd_stations.specs.declared.tables.Tables.{Tables}
 
 -- The asks and ticks of a script fit the source circuit that it is played on.
 module _ (source : Source) (bits : ℕ) where
@@ -30,32 +28,15 @@ module _ (source : Source) (bits : ℕ) where
   script_fits text read events is are event i =
       as_listed event (texts.events_fit (names_in Pace source bits) (width_of source) read events refl are (events_fit (names_in Pace source bits) _ read is.are) event i)
 
--- a machine of a source circuit's tables, as it is made
-pub starts_pace : (source : Source) (tables : Tables) (rate : ℕ) (p : PacerValue) → IsReadSource source → AreMade source tables → ((given : List Bool) → length given ≡ length tables.pack.params → HasOneConf tables.pack given)
-    → p.pack ≡ tables.pack → p.params ≡ inits_of tables.pack.params → IsConf tables.pack (inits_of tables.pack.params) p.config → p.sim.template ≡ tables.template → p.sim.shape ≡ tables.shape → p.sim.states ≡ flat_inits source.netlist.flat
-    → p.rate ≡ rate → StartsPace source tables.template rate p
-starts_pace source tables rate p read made one is_pack params config template shape states rate_is = record {
-  start = λ events. record {
-    pack = subst (λ (q : PackValue). IsTunable source tables.template q) (sym is_pack) made.tunable;
-    one_config = subst (λ (q : PackValue). (given : List Bool) → length given ≡ length q.params → HasOneConf q given) (sym is_pack) one;
-    params = params ∙ made.inits;
-    config = subst (λ (q : PackValue). IsConf q (param_inits source.params.list) p.config) (sym is_pack) (subst (λ (vs : List Bool). IsConf tables.pack vs p.config) made.inits config);
-    template = template;
-    shape = shape ∙ made.shape;
-    states = inits_are source p.sim.states read.netlist states;
-    rate_is = rate_is;
-  };
-}
-
 -- it can play the asks and ticks among events that its script may have
-pub can_pace : (job : PaceJob) (rate : ℕ) (p : PacerValue) → IsPaceStart job rate p → (read : List EventValue) → ((event : EventValue) → In read event → Fits (names_in forms.Pace job.source job.template.bits) event)
+pub can_pace : (job : PaceJob) (p : PacerValue) → StartsPace job.source job.template p → (read : List EventValue) → ((event : EventValue) → In read event → Fits (names_in forms.Pace job.source job.template.bits) event)
     → (events : List PaceValue) → events ≡ asks_and_ticks read → CanPace events p
-can_pace job rate p start read fit events are = subst (λ es. CanPace es p) (sym are) (λ paced i.
+can_pace job p start read fit events are = subst (λ es. CanPace es p) (sym are) (λ paced i.
     subst (λ n. pace.Fits n p.sim.shape.regular paced) (sym (param_count job.source job.template p.pack start.pack))
     (subst (λ (s : Shape). pace.Fits (length job.source.params.list) s.regular paced) (sym start.shape) (kept_fit job.source job.template.bits read fit paced i)))
 
 -- what the files of a job say that was made ready
-pub ready_for : (files : Files) (words : PaceWords) (s : Scripted) (ready : Ready) → ComesScripted files (scripted_of words) s → StartsPace s.mapped.source s.mapped.tables.template words.rate ready.pacer
+pub ready_for : (files : Files) (words : PaceWords) (s : Scripted) (ready : Ready) → ComesScripted files (scripted_of words) s → StartsAt s.mapped.source s.mapped.tables.template words.rate ready.pacer
     → pace_values ready.events.items ≡ asks_and_ticks (event_values s.events.items) → IsReadyFor files words ready
 ready_for files words s ready comes starts are =
     let read = event_values s.events.items in
@@ -67,7 +48,7 @@ ready_for files words s ready comes starts are =
         is = comes.has;
         events = subst (λ es. ArePaced read es) (sym are) (script_paced (names_in forms.Pace s.mapped.source s.mapped.tables.template.bits) comes.has.script.text read refl comes.has.script.is);
       };
-      start = starts.start events;
+      start = record { start = starts.0; rate_is = starts.1 };
       events = refl;
       settled = comes.settled;
     }

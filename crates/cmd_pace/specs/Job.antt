@@ -1,5 +1,5 @@
 -- The arguments of `pace`, its job in its files, and the machine that it starts.
-use Rattle.std.specs.Prelude.{ℕ, ◌≤◌, ◌&&◌, nat_le, if◌then◌else◌, List, [], ◌∷◌, codes, bytes_eq, Option, Some, None, ◌≡◌, Bool, length}
+use Rattle.std.specs.Prelude.{ℕ, ◌≤◌, ◌&&◌, nat_le, if◌then◌else◌, List, [], ◌∷◌, codes, bytes_eq, Option, Some, None, ◌≡◌}
 use Rattle.std.specs.Option.{option_and_then}
 use Rattle.tl_text.specs.Decimal.{decimal_of}
 use Rattle.cover_pick.specs.declared.rule.Rule.{Rule}
@@ -9,16 +9,13 @@ use Rattle.cmd_stations.specs.Script.{ScriptedWords, HasScripted}
 use Rattle.cmd_pace.specs.declared.words.PaceWords.{PaceWords as PaceWordsRead}
 use Rattle.tl_io.specs.Shelf.{Files}
 use Rattle.cover_pick.specs.Template.{TemplateValue}
-use Rattle.param_list.specs.Parameters.{param_inits}
-use Rattle.ppc_pack.specs.Pack.{IsConf, HasOneConf}
 use Rattle.run_text.specs.EventValue.{EventValue}
 use Rattle.pace_core.specs.EventValue.{PaceValue}
 use Rattle.pace_core.specs.PaceText.{ArePaced as AreAsksAndTicks}
 use Rattle.pace_core.specs.Pace.{PacerValue}
 use Rattle.cmd_stations.specs.declared.source.Source.{Source}
 use Rattle.cmd_stations.specs.Mapped.{template_header}
-use Rattle.cmd_stations.specs.SourceCircuit.{shape_of, AreInits}
-use Rattle.cmd_stations.specs.Tunable.{IsTunable}
+use Rattle.cmd_stations.specs.Machine.{IsSourceStart}
 
 -- the source circuit, the word that names the script, and how many bits the configuration port takes a tick
 pub record PaceWords : Type 0 where
@@ -34,9 +31,8 @@ abbrev pub rate_of : List ℕ → Option ℕ
 rate_of word = option_and_then in_rate (decimal_of word)
 
 abbrev pub pace_words : Option SourceWords → List ℕ → Option ℕ → Option PaceWords
-pace_words None script rate = None
-pace_words (Some source) script None = None
 pace_words (Some source) script (Some rate) = Some (record { source = source; script = script; rate = rate })
+pace_words source script rate = None
 
 -- the words `pace K NETLIST PARAMS SCRIPT RATE`, where cuts are chosen by a rule
 abbrev pub pace_of : Rule → List (List ℕ) → Option PaceWords
@@ -69,15 +65,12 @@ pub record IsPaceJob (files : Files) (words : PaceWords) (job : PaceJob) : Type 
   pub is : HasScripted files (scripted_of words) job.source job.template read
   pub events : AreAsksAndTicks read job.events
 
--- the machine at the start: under any values of the parameters there is one configuration; they have their listed values, the device has their configuration, and the latches have their inits
+-- the machine at the start of the source circuit: the device has the configuration of the parameters' listed values
+abbrev pub StartsPace : Source → TemplateValue → PacerValue → Type 0
+StartsPace source template p = IsSourceStart source template p.pack p.params p.config p.sim
+
 pub record IsPaceStart (job : PaceJob) (rate : ℕ) (p : PacerValue) : Type 0 where
-  pub pack : IsTunable job.source job.template p.pack
-  pub one_config : (given : List Bool) → length given ≡ length p.pack.params → HasOneConf p.pack given
-  pub params : p.params ≡ param_inits job.source.params.list
-  pub config : IsConf p.pack (param_inits job.source.params.list) p.config
-  pub template : p.sim.template ≡ job.template
-  pub shape : p.sim.shape ≡ shape_of job.source
-  pub states : AreInits job.source p.sim.states
+  pub start : StartsPace job.source job.template p
   pub rate_is : p.rate ≡ rate
 
 -- its header line: the numbers of the template

@@ -7,7 +7,7 @@ ghost use Rattle.cmd_base.specs.Walk.{Told, Explains, KeepsFiles};
 ghost use Rattle.cmd_stations.specs.Script.{scripted_reading};
 ghost use Rattle.cmd_stations.specs.Tables.{IsReadSource, AreMade};
 ghost use Rattle.cmd_pace.specs.Job.{pace_seen, scripted_of, IsInRange};
-ghost use Rattle.cmd_pace.specs.Ready.{CanPace, StartsPace, IsReadyFor};
+ghost use Rattle.cmd_pace.specs.Ready.{CanPace, StartsAt, IsReadyFor};
 
 use crate::words::{PaceWords, scripted};
 use cmd_base::Outcome;
@@ -33,7 +33,7 @@ fn start_pacer(
     requires read { IsReadSource source.now }
     requires tables { AreMade source.now tables }
     requires rate { 1 ≤ rate }
-    ensures { IfOk result (StartsPace source.now tables.template rate) }
+    ensures { IfOk result (StartsAt source.now tables.template rate) }
 {
     let states = latch_inits(alloc, source)?;
     let pacer = Pacer::make(
@@ -52,7 +52,7 @@ fn make_ready(alloc: Global, scripted: Scripted, rate: u32) -> Result<Ready, All
     requires read { IsReadSource scripted.mapped.source }
     requires tables { AreMade scripted.mapped.source scripted.mapped.tables }
     requires rate { 1 ≤ rate }
-    ensures start { IfOk result (λ r. StartsPace scripted.mapped.source scripted.mapped.tables.template rate r.pacer) }
+    ensures start { IfOk result (λ r. StartsAt scripted.mapped.source scripted.mapped.tables.template rate r.pacer) }
     ensures events { IfOk result (λ r. pace_values r.events.items ≡ asks_and_ticks (event_values scripted.events.items)) }
 {
     let Scripted { mapped, events } = scripted;

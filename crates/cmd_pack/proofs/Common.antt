@@ -7,7 +7,7 @@ pub use Rattle.cmd_base.proofs.EndLemmas.{Rose_from, only_read, IsPart, Explains
 pub use Rattle.cmd_base.specs.Walk.{Told, IsBegun, IsBegunFrom, Ends, Explains, Outside, outside, KeepsFiles}
 pub use Rattle.cmd_base.specs.Writing.{writing_outcome, FileText, HasPrefix, AreWritten, IsCut}
 pub use Rattle.cmd_base.specs.declared.outcome.Outcome.{Outcome}
-pub use Rattle.cmd_stations.proofs.EventLemmas.{put_then, one_line, then_host_step, split_by, more_by, value_has}
+pub use Rattle.cmd_stations.proofs.EventLemmas.{then_host_step, split_by, more_by, value_has}
 pub use Rattle.cmd_stations.proofs.PackLemmas.{pack_or_not, pack_refused_once, pack_once, same_names}
 pub use Rattle.cmd_stations.proofs.WriteLemmas.{cut_in_file, cut_cause, line_ends}
 pub use Rattle.cmd_stations.specs.Host.{IsHostStep, AreHostSteps, none}
@@ -23,5 +23,5 @@ pub use Rattle.tl_io.specs.Content.{extended}
 pub use Rattle.tl_io.specs.Port.{PortSeen}
 pub use Rattle.tl_io.specs.Shelf.{Files, ShelfSeen}
 pub use Rattle.tl_io.specs.Sink.{SinkSeen}
-pub use Rattle.cmd_pack.specs.Bits.{IsBitsRefused, IsBitsSettled, IsOfBits, bits_word, ReachesBits, bits_reading, pack_header, AreLinesPut, AreLinesCut, HasBits, bits_walk, HasBitsJob, BitsWords, bits_seen, PutTheSame, ReplaysFile}
+pub use Rattle.cmd_pack.specs.Bits.{IsBitsRefused, IsBitsSettled, IsOfBits, bits_word, ReachesBits, bits_reading, pack_header, PutsHostStep, AreLinesPut, AreLinesCut, HasBits, bits_walk, HasBitsJob, BitsWords, bits_seen, PutTheSame, ReplaysFile}
 pub use Rattle.cmd_pack.specs.Repack.{repack_walk, HasRepack, RepackWords, repack_seen}

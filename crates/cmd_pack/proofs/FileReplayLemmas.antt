@@ -29,13 +29,13 @@ module _ (files others : Files) (words other_words : BitsWords) (pack : PackValu
         let second : AreSame pack b.pack = file_same (present_bytes pack) pack b.pack (repacked here.bytes pack here.is) (pack_at others other_words.pack (present_bytes pack) b.pack there b.is_job.pack) in
         let same : AreSame a.pack b.pack = same_both a.pack b.pack pack first second in
         let events : a.events ≡ b.events = same_events files others words.script other_words.script a.pack b.pack a.events b.events same script a.is_job.script b.is_job.script in
-        let lines : a.ends.lines ≡ b.ends.lines =
-        (same_packs_replay a.pack b.pack same).are a.host b.host a.start b.start a.events a.ends.lines b.ends.lines a.ends.end b.ends.end a.ends.steps
-        (subst (λ es. AreHostSteps b.host es b.ends.lines b.ends.end) (sym events) b.ends.steps) in
-        b.ends.bytes
-        ∙ (ap (λ o. extended o (concat (pack_header b.host.pack ∷ b.ends.lines))) start
-        ∙ (ap (λ (l : List ℕ). extended old.bytes (concat (l ∷ b.ends.lines))) (same_header a.host b.host a.pack b.pack same a.start.pack b.start.pack)
-        ∙ (ap (λ (ls : List (List ℕ)). extended old.bytes (concat (pack_header a.host.pack ∷ ls))) (sym lines) ∙ sym a.ends.bytes)));
+        let lines : a.ends.put.lines ≡ b.ends.put.lines =
+        (same_packs_replay a.pack b.pack same).are a.host b.host a.start b.start a.events a.ends.put.lines b.ends.put.lines a.ends.end b.ends.end a.ends.put.come
+        (subst (λ es. AreHostSteps b.host es b.ends.put.lines b.ends.end) (sym events) b.ends.put.come) in
+        b.ends.put.bytes
+        ∙ (ap (λ o. extended o (concat (pack_header b.host.pack ∷ b.ends.put.lines))) start
+        ∙ (ap (λ (l : List ℕ). extended old.bytes (concat (l ∷ b.ends.put.lines))) (same_header a.host b.host a.pack b.pack same a.start.pack b.start.pack)
+        ∙ (ap (λ (ls : List (List ℕ)). extended old.bytes (concat (pack_header a.host.pack ∷ ls))) (sym lines) ∙ sym a.ends.put.bytes)));
   }
 
 pub replays_file : (pack : PackValue) → ReplaysFile pack

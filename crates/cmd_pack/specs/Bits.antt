@@ -1,5 +1,5 @@
 -- The command `bits`: a script of the host is played on a pack alone.
-use Rattle.std.specs.Prelude.{ℕ, if◌then◌else◌, List, [], ◌∷◌, codes, bytes_eq, Option, Some, None, ◌≡◌, ◌<◌, ◌⊎◌, ◌++◌, length, take}
+use Rattle.std.specs.Prelude.{ℕ, if◌then◌else◌, List, [], ◌∷◌, codes, bytes_eq, Option, Some, None, ◌≡◌, ◌⊎◌, length}
 use Rattle.cmd_pack.specs.declared.bits.words.BitsWords.{BitsWords as BitsWordsRead}
 use Rattle.tl_fault.specs.RefusalValue.{RefusalValue}
 use Rattle.tl_io.specs.Shelf.{Files}
@@ -10,10 +10,9 @@ use Rattle.cmd_base.specs.Refusals.{most_bytes}
 use Rattle.cmd_base.specs.declared.outcome.File.{File}
 use Rattle.cmd_base.specs.declared.outcome.File.TheVariants.{Netlist, Params, Script, Pack, Cert}
 use Rattle.cmd_stations.specs.Packs.{HasPack, IsPackRefused, IsPackSettled, pack_names, present_bytes}
-use Rattle.cmd_stations.specs.Script.{HasScript, IsScriptRefused, IsScriptSettled, IsSplit}
-use Rattle.std.specs.List.{concat}
+use Rattle.cmd_stations.specs.Playing.{AreAllPut, IsCutInFront, IsCutInLine}
+use Rattle.cmd_stations.specs.Script.{HasScript, IsScriptRefused, IsScriptSettled}
 use Rattle.tl_io.specs.Causes.{Rose}
-use Rattle.tl_io.specs.Content.{extended}
 use Rattle.run_text.specs.Lines.{bits_header_line}
 use Rattle.run_core.specs.Events.{host_line}
 use Rattle.spec_core.specs.Specialiser.{SpecialiserValue}
@@ -78,45 +77,25 @@ bits_reading words = shelf_reading IsOfBits (bits_word words) Script (λ files. 
 abbrev pub pack_header : PackValue → List ℕ
 pack_header given = bits_header_line (length given.bits)
 
+-- an event was played on a host, and this is its line
+abbrev pub PutsHostStep : EventValue → SpecialiserValue → List ℕ → SpecialiserValue → Type 0
+PutsHostStep event old line new = IsHostStep event old new × (line ≡ host_line event new)
+
 -- What a playing leaves outside, seen from the host at the start: of the bytes of the output alone.
 module _ (h : SpecialiserValue) (events : List EventValue) (old new : Outside) where
   -- each event was played, and the output grew by the header and a line an event
   pub record AreLinesPut : Type 0 where
-    pub lines : List (List ℕ)
     pub end : SpecialiserValue
-    pub steps : AreHostSteps h events lines end
-    pub bytes : new.bytes ≡ extended old.bytes (concat (pack_header h.pack ∷ lines))
+    pub put : AreAllPut (AreHostSteps h) (pack_header h.pack) events old.bytes end new.bytes
     pub files : new.files ≡ old.files
     pub ports : new.ports ≡ old.ports
 
-  -- a fault of writing in the header: a prefix of it stands
-  pub record IsCutInHeader : Type 0 where
-    pub part : ℕ
-    pub within : part < length (pack_header h.pack)
-    pub bytes : new.bytes ≡ extended old.bytes (take part (pack_header h.pack))
+  -- a fault of writing, in the header or in an event's line
+  pub record AreLinesCut : Type 0 where
+    pub cut : IsCutInFront (pack_header h.pack) old.bytes new.bytes ⊎ IsCutInLine (AreHostSteps h) PutsHostStep (pack_header h.pack) events old.bytes new.bytes
     pub cause : Rose old.put_faults new.put_faults
     pub files : new.files ≡ old.files
     pub ports : new.ports ≡ old.ports
-
-  -- a fault of writing in an event's line: the lines before it stand whole, and a prefix of it
-  pub record IsCutInLine : Type 0 where
-    pub before : List EventValue
-    pub event : EventValue
-    pub split : IsSplit events before event
-    pub lines : List (List ℕ)
-    pub mid : SpecialiserValue
-    pub steps : AreHostSteps h before lines mid
-    pub end : SpecialiserValue
-    pub step : IsHostStep event mid end
-    pub part : ℕ
-    pub within : part < length (host_line event end)
-    pub bytes : new.bytes ≡ extended old.bytes (concat (pack_header h.pack ∷ lines) ++ take part (host_line event end))
-    pub cause : Rose old.put_faults new.put_faults
-    pub files : new.files ≡ old.files
-    pub ports : new.ports ≡ old.ports
-
-  abbrev pub AreLinesCut : Type 0
-  AreLinesCut = IsCutInHeader ⊎ IsCutInLine
 
 -- the files hold a job, its host stands at the start, and this is so of its playing
 pub record HasBits (files : Files) (words : BitsWords) (Ends : SpecialiserValue → List EventValue → Type 0) : Type 0 where

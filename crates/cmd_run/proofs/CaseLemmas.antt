@@ -1,11 +1,11 @@
 -- The texts of a case as files: what they are read as, and what stops their walk.
-use Rattle.cmd_run.proofs.Common.{◌≡◌, ℕ, ◌<◌, ◌≤◌, List, length, Some, Result, Ok, Err, codes, refl, sym, ap, ◌∙◌, subst, arith, same_Some, MOST_BYTES, Files, ShelfSeen, CaseValue, IsShort, text_of, NamesValue, Stops, outcome_at, Told, Explains, Outcome, GenWords, Ready, Source, IsUnmapped, script_reading, IsTextSettled, IsMappingSettled, source_reading, ToTables, ComesFrom, ComesWith, IsRefused, IsSettled, run_reading, IsReadyFor, case_words, case_files, shelf_of, HaveSource, HaveCase, gen_reading, text_settles, list_settles, netlist_explains, params_explains, made_explains, script_explains, HasText, IsNetlistText, NetlistRefusal, IsParamsRefusal, IsScriptRefusal}
+use Rattle.cmd_run.proofs.Common.{◌≡◌, ℕ, ◌<◌, ◌≤◌, List, length, Some, Result, Ok, Err, codes, refl, sym, ap, ◌∙◌, subst, arith, same_Some, MOST_BYTES, Files, ShelfSeen, CaseValue, IsShort, text_of, NamesValue, Stops, outcome_at, Told, Explains, Outcome, GenWords, Ready, Source, IsUnmapped, script_reading, IsTextSettled, IsMappingSettled, source_reading, ToTables, ComesFrom, ComesWith, IsRefused, IsSettled, run_reading, IsReadyFor, case_words, case_files, shelf_of, HaveSource, HaveCase, gen_reading, text_settles, netlist_explains, params_explains, made_explains, script_explains, HasText, IsNetlistText, NetlistRefusal, IsParamsRefusal, IsScriptRefusal}
 use Rattle.gen_case.specs.Netlist.{netlist_lines}
 use Rattle.std.specs.Cmp.Lexicographic.{nat_list_cmp_total}
 use Rattle.std.specs.FinMap.{get, insert, empty, get-insert}
 use Rattle.std.specs.Prelude.{IfOk, IfErr}
 use Rattle.gen_case.specs.Script.{all_params, script_lines}
-use Rattle.param_list.specs.ParamsText.{IsParamsText, HasOneReading}
+use Rattle.param_list.specs.ParamsText.{HasOneReading}
 use Rattle.run_text.specs.ScriptText as script_text
 use Rattle.cover_pick.specs.declared.rule.Rule.{Rule}
 use Rattle.cmd_base.specs.Refusals.{most_bytes}
@@ -49,17 +49,6 @@ module _ (rule : Rule) (files : Files) where
   params_stop netlist params n s o at have is settled one refused =
       params_explains ToTables (case_words rule).source (shelf_of files) (shelf_of files) n (told_of files (λ fs. ComesFrom fs (case_words rule).source n) (netlist_comes netlist params n have is settled)) params s o at
       (nothing_given files (most_bytes file.Params)) (told_of files (λ fs. HasText fs (case_words rule).source.params params) have.has_params) one refused
-
-  -- the walk comes past both
-  pub source_comes : (netlist params : List ℕ) (source : Source) → HaveSource files netlist params → IsNetlistText netlist source.netlist → IsTextSettled netlist → IsParamsText source.netlist.flat params source.params.list
-      → HasOneReading source.netlist.flat params → ComesWith files (case_words rule).source source
-  source_comes netlist params source have is settled listed one =
-      let past = netlist_comes netlist params source.netlist have is settled in
-      record {
-        has = record { netlist = past.netlist; params = record { text = params; there = have.has_params; is = listed } };
-        netlist = past.settled;
-        params = list_settles files (case_words rule).source source.netlist params have.has_params one;
-      }
 
   -- a mapping that stops it
   pub mapping_stops : (source : Source) (s : Stop) (o : Outcome) → o ≡ outcome_at file.Netlist s → ComesWith files (case_words rule).source source → Stops (IsUnmapped rule source (case_words rule).source.k) s → Stops (λ _. IsMappingSettled rule source (case_words rule).source.k) s

@@ -10,10 +10,11 @@ pub use Rattle.aig_core.specs.Value.{value_of}
 pub use Rattle.aig_core.specs.declared.lit.Lit.{Lit}
 pub use Rattle.blif_read.specs.Denotes.{Denotes}
 pub use Rattle.cmd_base.proofs.EndLemmas.{only_read, explained_ends, unbegun_ends}
+pub use Rattle.cmd_base.specs.Writing.{AreWritten, IsCutInLine}
 pub use Rattle.cmd_base.specs.Walk.{Told, Explains, IsBegun, IsBegunFrom, Ends, Outside, outside, KeepsFiles, HasLaws}
 pub use Rattle.cmd_base.specs.declared.outcome.Outcome.{Outcome}
-pub use Rattle.cmd_stations.proofs.EventLemmas.{put_then, one_line, then_step, split_by, more_by, value_has}
-pub use Rattle.cmd_stations.proofs.InitLemmas.{init_count, init_params, cycle_count, param_count, inits_are}
+pub use Rattle.cmd_stations.proofs.EventLemmas.{then_step, split_by, more_by, value_has}
+pub use Rattle.cmd_stations.proofs.InitLemmas.{init_count, init_params, cycle_count, param_count}
 pub use Rattle.cmd_stations.proofs.RefusedLemmas.{least_mapped}
 pub use Rattle.cmd_stations.proofs.ScriptedLemmas.{scripted_or_not, scripted_refused_once, source_to_scripted, script_to_scripted, comes_scripted}
 pub use Rattle.cmd_stations.proofs.StationLemmas.{text_settles, list_settles, netlist_explains, params_explains, made_explains, script_explains, making_settles}
@@ -62,11 +63,11 @@ pub use Rattle.cmd_stations.specs.Texts.{HasText, IsNetlistText, NetlistRefusal,
 pub use Rattle.cmd_run.specs.GenCommand.Case.{case_words, case_files, HasDigits}
 pub use Rattle.cmd_run.specs.GenCommand.Texts.{shelf_of, HaveSource, HaveCase}
 pub use Rattle.cmd_run.specs.GenCommand.Totals.{IsSmall, none, writes_of, output_of, Totals, more}
-pub use Rattle.cmd_run.specs.GenCommand.Verdict.{gen_reading, first_line, last_line, gen_text, HasGen, gen_walk, IsTold, IsPartTold}
+pub use Rattle.cmd_run.specs.GenCommand.Verdict.{gen_reading, first_line, last_line, gen_text, HasGen, gen_walk}
 pub use Rattle.cmd_run.specs.Run.Job.{bank_of, IsRefused, IsSettled, run_reading, IsJob, scripted_of, RunWords, run_seen}
-pub use Rattle.cmd_run.specs.Run.Ends.{HasRun, IsPlayEnd, HaveFailed}
+pub use Rattle.cmd_run.specs.Run.Ends.{HasRun, IsPlayEnd, RunEnd, HaveFailed}
 pub use Rattle.cmd_run.specs.Run.Headline.{IsNoUpset, ShowsSource, HasHeadline}
-pub use Rattle.cmd_run.specs.Run.Ready.{IsReadyFor, AreAllStepped, EventsEnd, RunEnd, IsServed, CanPlay, StartsOn, played_outcome}
+pub use Rattle.cmd_run.specs.Run.Ready.{IsReadyFor, EventsEnd, IsServed, CanPlay, StartsOn, played_outcome}
 pub use Rattle.cmd_run.specs.Run.Verdict.{run_walk}
 pub use Rattle.cmd_run.specs.declared.gen_command.words.GenWords.{GenWords}
 pub use Rattle.cmd_run.specs.declared.run.prepare.Ready.{Ready}

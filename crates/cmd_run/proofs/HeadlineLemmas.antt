@@ -1,5 +1,5 @@
 -- A job that is done shows its source circuit, mapped with the least depth; and the laws of the walk of `run`.
-use Rattle.cmd_run.proofs.Common.{◌≡◌, ℕ, Bool, List, ◌∷◌, length, Ok, refl, sym, ap, ◌∙◌, subst, concat, In, extended, Files, TemplateValue, IsConf, BankSeen, EventValue, template_header, MachineValue, FitsShape, Source, Outside, names_of, HasScript, shape_of, RunWords, Job, IsJob, IsStart, Stage, HasCome, bank_of, HasRun, IsNoUpset, ShowsSource, HasHeadline, init_count, init_params, scripted_of, run_walk, scripted_or_not, scripted_refused_once, HasLaws}
+use Rattle.cmd_run.proofs.Common.{◌≡◌, ℕ, Bool, List, ◌∷◌, length, Ok, refl, sym, ap, ◌∙◌, subst, concat, In, extended, Files, TemplateValue, IsConf, BankSeen, all_ports, EventValue, template_header, MachineValue, FitsShape, Source, Outside, names_of, HasScript, shape_of, RunWords, Job, IsJob, IsStart, Stage, HasCome, bank_of, HasRun, IsNoUpset, ShowsSource, HasHeadline, init_count, init_params, scripted_of, run_walk, scripted_or_not, scripted_refused_once, HasLaws}
 use Rattle.aig_core.specs.Aig.{Aig}
 use Rattle.run_text.proofs.FitLemmas.{events_fit}
 use Rattle.cmd_stations.proofs.GraphLemmas.{same_graph}
@@ -46,19 +46,19 @@ run_headline files run old new done =
     let job = done.job in
     let mapped = done.is_job.mapped.mapped in
     let start = done.start in
-    let end = done.ends in
+    let end = done.ends.end in
     let graph : start.pack.graph ≡ mapped.graph = same_graph job.source start.pack.one_graph start.pack.graph mapped.graph start.pack.roots mapped.roots start.pack.is_graph mapped.is_graph in
     record {
       job = job;
       is_job = done.is_job;
       sound = done.law.sound;
       least = done.law.least;
-      lines = end.lines;
-      bytes = end.bytes ∙ ap (λ (t : TemplateValue). extended old.bytes (concat (template_header t ∷ end.lines))) start.template;
+      lines = end.put.lines;
+      bytes = end.put.bytes ∙ ap (λ (t : TemplateValue). extended old.bytes (concat (template_header t ∷ end.put.lines))) start.template;
       last = end.stage.bank;
-      ports = end.ports;
-      shows = λ calm. subst (λ (g : Aig). ShowsSource job.source g job.template job.events end.lines (bank_of run.ports old.ports) end.stage.bank) graph
-          (shows_source files run job done.machine (bank_of run.ports old.ports) end.lines end.stage done.is_job start end.come calm);
+      ports = done.ends.ports ∙ ap all_ports end.bank;
+      shows = λ calm. subst (λ (g : Aig). ShowsSource job.source g job.template job.events end.put.lines (bank_of run.ports old.ports) end.stage.bank) graph
+          (shows_source files run job done.machine (bank_of run.ports old.ports) end.put.lines end.stage done.is_job start end.put.come calm);
     }
 
 -- The laws of the walk of `run`.

@@ -1,7 +1,7 @@
 -- The ports after a job: those that serve and stand by were called, and spares took the places of those that failed.
-use Rattle.cmd_run.proofs.Common.{◌≡◌, ℕ, ◌+◌, ◌≤◌, List, length, take, drop, Option, Result, Ok, Err, Bool, sym, subst, ◌∙◌, arith, inl, inr, refl, length-drop, length-take-le, PortSeen, EventValue, BankSeen, all_ports, StepErr, WriteFault, PortFault, MachineValue, PortCounts, bank_of, HaveFailed, RunEnd, IsServed}
+use Rattle.cmd_run.proofs.Common.{◌≡◌, ℕ, ◌+◌, ◌≤◌, List, length, take, drop, Option, Result, Ok, Err, sym, subst, ◌∙◌, arith, inl, inr, refl, length-drop, length-take-le, PortSeen, EventValue, BankSeen, all_ports, StepErr, WriteFault, PortFault, MachineValue, PortCounts, HasCome, bank_of, HaveFailed, RunEnd, IsServed}
 use Rattle.port_bank.specs.Moves.{Becomes, start, accepted, replaced, FallsShort, LosesPlace}
-use Rattle.cmd_stations.specs.Machine.{Stage, IsLoaded, AreSteps, none, more}
+use Rattle.cmd_stations.specs.Machine.{Stage, AreSteps, none, more}
 
 -- calls one after the other
 becomes_on : {old mid new : BankSeen} → Becomes old mid → Becomes mid new → Becomes old new
@@ -25,8 +25,8 @@ steps_come : {old : Stage} {events : List EventValue} {lines : List (List ℕ)} 
 steps_come {old = old} none = comes_here old.bank
 steps_come {old = old} {new = new} (more event mid step rest) = comes_on old.bank mid.bank new.bank (record { becomes = step.becomes; used = step.places.used }) (steps_come rest)
 
-load_comes : (config : List Bool) (old new : BankSeen) → IsLoaded config old new → Comes old new
-load_comes config old new load = record { becomes = load.becomes; used = load.places.used }
+has_comes : {m : MachineValue} {old : BankSeen} {events : List EventValue} {lines : List (List ℕ)} {stage : Stage} → HasCome m old events lines stage → Comes old stage.bank
+has_comes {m = m} {old = old} {stage = stage} come = comes_on old come.loaded stage.bank (record { becomes = come.load.becomes; used = come.load.places.used }) (steps_come come.steps)
 
 -- a region lost its port behind some sends
 have_failed : (counts : PortCounts) (old new : List PortSeen) (mid bank : BankSeen) → counts.serving + counts.spares ≤ length old → Comes (bank_of counts old) mid → FallsShort mid bank → LosesPlace mid bank → new ≡ all_ports bank
@@ -45,23 +45,16 @@ have_failed counts old new mid bank within comes short place are =
 pub run_failed : (counts : PortCounts) (m : MachineValue) (events : List EventValue) (before after : Option (List ℕ)) (old new : List PortSeen) (bank : BankSeen) → counts.serving + counts.spares ≤ length old →
     RunEnd m events (bank_of counts old) before after bank (Err PortFault) → new ≡ all_ports bank → HaveFailed counts old new
 run_failed counts m events before after old new bank within (inl lost) are = have_failed counts old new (bank_of counts old) bank within (comes_here (bank_of counts old)) lost.short lost.place are
-run_failed counts m events before after old new bank within (inr lost) are =
-    let mid = lost.rest.mid.bank in
-    have_failed counts old new mid bank within (comes_on (bank_of counts old) lost.loaded mid (load_comes m.host.state.config (bank_of counts old) lost.loaded lost.load) (steps_come lost.rest.steps))
-    lost.rest.short lost.rest.place are
+run_failed counts m events before after old new bank within (inr lost) are = have_failed counts old new lost.mid.bank bank within (has_comes lost.put.come) lost.short lost.place are
 
 -- and at any other end no region lost its port
 pub run_served : (counts : PortCounts) (m : MachineValue) (events : List EventValue) (before after : Option (List ℕ)) (old new : List PortSeen) (bank : BankSeen) (result : Result Unit StepErr) → RunEnd m events (bank_of counts old) before after bank result
     → new ≡ all_ports bank → IsServed counts old new result
-run_served counts m events before after old new bank (Ok done) end are = record {
-  bank = bank;
-  becomes = subst (λ b. Becomes (bank_of counts old) b) (sym end.rest.bank) (becomes_on end.load.becomes (steps_come end.rest.steps).becomes);
-  are = are;
-}
+run_served counts m events before after old new bank (Ok done) end are = record { bank = bank; becomes = subst (λ b. Becomes (bank_of counts old) b) (sym end.bank) (has_comes end.put.come).becomes; are = are }
 run_served counts m events before after old new bank (Err WriteFault) (inl cut) are = record { bank = bank; becomes = subst (λ b. Becomes (bank_of counts old) b) (sym cut.bank) start; are = are }
-run_served counts m events before after old new bank (Err WriteFault) (inr cut) are = record {
+run_served counts m events before after old new bank (Err WriteFault) (inr end) are = record {
   bank = bank;
-  becomes = subst (λ b. Becomes (bank_of counts old) b) (sym cut.rest.bank) (becomes_on (becomes_on cut.load.becomes (steps_come cut.rest.steps).becomes) cut.rest.step.becomes);
+  becomes = subst (λ b. Becomes (bank_of counts old) b) (sym end.bank) (becomes_on (has_comes end.cut.put.come).becomes end.cut.step.0.becomes);
   are = are;
 }
 run_served counts m events before after old new bank (Err PortFault) lost are = tt

@@ -1,27 +1,9 @@
--- The machine at the start: its latches have the inits of a source circuit that was read, and it can play each event that its script may name; and what a job of `run` is made ready for.
-use Rattle.cmd_run.proofs.Common.{◌≡◌, ℕ, ◌<◌, Bool, List, length, sym, ap, ◌∙◌, subst, length-map, In, AreAssigned, EventValue, Set, Upset, Fits, Lit, lits_of, value_of, bits_of, Shape, PackValue, IsConf, MachineValue, FitsPack, FitsShape, Source, names_of, IsReadSource, AreMade, IsTunable, Job, IsStart, CanPlay, StartsOn, inits_are, Files, Event, event_values, Scripted, ComesScripted, Ready, RunWords, scripted_of, IsReadyFor}
-use Rattle.netlist.specs.FlatCycle.{flat_inits}
+-- The machine at the start: it can play each event that its script may name; and what a job of `run` is made ready for.
+use Rattle.cmd_run.proofs.Common.{◌≡◌, ℕ, ◌<◌, Bool, List, length, sym, ap, ◌∙◌, subst, length-map, In, AreAssigned, EventValue, Set, Upset, Fits, Lit, lits_of, value_of, bits_of, Shape, PackValue, MachineValue, FitsPack, FitsShape, Source, names_of, Job, IsStart, CanPlay, StartsOn, Files, Event, event_values, Scripted, ComesScripted, Ready, RunWords, scripted_of, IsReadyFor}
 use Rattle.param_list.specs.declared.params.Param.{Param}
 use Rattle.param_list.specs.Parameters.{param_inits}
-use Rattle.ppc_pack.specs.Pack as pack
 use Rattle.bit_fun.specs.PackOf.{pack_param}
-use Rattle.cmd_stations.specs.declared.tables.Tables.{Tables}
 use Rattle.cmd_run.proofs.KeptLemmas.{shape_fits}
-
--- a machine of a source circuit's tables, as it is made
-pub starts_on : (source : Source) (tables : Tables) (m : MachineValue) → IsReadSource source → AreMade source tables → ((given : List Bool) → length given ≡ length tables.pack.params → pack.HasOneConf tables.pack given) → m.host.pack ≡ tables.pack → m.host.state.params ≡ pack.inits_of tables.pack.params
-    → IsConf tables.pack (pack.inits_of tables.pack.params) m.host.state.config → m.sim.template ≡ tables.template → m.sim.shape ≡ tables.shape → m.sim.states ≡ flat_inits source.netlist.flat → StartsOn source tables.template m
-starts_on source tables m read made one is_pack params config template shape states = record {
-  start = λ events. record {
-    pack = subst (λ (p : PackValue). IsTunable source tables.template p) (sym is_pack) made.tunable;
-    one_config = subst (λ (p : PackValue). (given : List Bool) → length given ≡ length p.params → pack.HasOneConf p given) (sym is_pack) one;
-    params = params ∙ made.inits;
-    config = subst (λ (p : PackValue). IsConf p (param_inits source.params.list) m.host.state.config) (sym is_pack) (subst (λ (vs : List Bool). IsConf tables.pack vs m.host.state.config) made.inits config);
-    template = template;
-    shape = shape ∙ made.shape;
-    states = inits_are source m.sim.states read.netlist states;
-  };
-}
 
 -- what a script may name, the pack and the shape have
 fits_pack : (source : Source) (bits : ℕ) (p : PackValue) (event : EventValue) → length p.params ≡ length source.params.list → length p.bits ≡ bits → Fits (names_of source bits) event → FitsPack p event
@@ -54,7 +36,7 @@ module _ (s : Scripted) (ready : Ready) (starts : StartsOn s.mapped.source s.map
   ready_for files words comes = record {
     job = record { source = s.mapped.source; template = s.mapped.tables.template; events = event_values s.events.items };
     is_job = comes.has;
-    start = starts.start (event_values s.events.items);
+    start = starts;
     events = ap event_values (sym same);
     settled = comes.settled;
   }
@@ -63,4 +45,4 @@ module _ (s : Scripted) (ready : Ready) (starts : StartsOn s.mapped.source s.map
       → CanPlay (event_values ready.events.items) ready.machine
   can_play_ready sum fit =
       subst (λ (es : List Event). CanPlay (event_values es) ready.machine) (sym same)
-      (can_play (record { source = s.mapped.source; template = s.mapped.tables.template; events = event_values s.events.items }) ready.machine (starts.start (event_values s.events.items)) sum fit)
+      (can_play (record { source = s.mapped.source; template = s.mapped.tables.template; events = event_values s.events.items }) ready.machine starts sum fit)

@@ -1,5 +1,8 @@
 -- The inits of a source circuit that was read: those of its latches, and the values of its parameters; and how many states a cycle leaves.
-use Rattle.cmd_stations.proofs.Common.{◌≡◌, ℕ, suc, Bool, List, [], ◌∷◌, length, map, Some, refl, sym, ap, ap₂, ◌∙◌, subst, arith, slice_get, length-map, same_Some, LibraryValue, ModelValue, FlatLatch, Places, IsFlatLatch, IsFlat, flat_inits, Place, is_latch, latch_at, FlatOrder, Param, param_inits, PackValue, pack_param, Source, AreInits, IsTunable, TemplateValue, IsReadNetlist}
+use Rattle.cmd_stations.proofs.Common.{◌≡◌, ℕ, suc, Bool, List, [], ◌∷◌, length, map, Some, refl, sym, ap, ap₂, ◌∙◌, subst, arith, slice_get, length-map, same_Some, LibraryValue, ModelValue, FlatLatch, Places, IsFlatLatch, IsFlat, flat_inits, Place, is_latch, latch_at, FlatOrder, Param, param_inits, PackValue, pack_param, Source, AreInits, IsTunable, TemplateValue, IsReadNetlist, HasOneConf, IsConf, Tables, AreMade, IsReadSource}
+use Rattle.lut_sim.specs.Sim.{SimValue}
+use Rattle.ppc_pack.specs.Pack as pack
+use Rattle.cmd_stations.specs.Machine.{IsSourceStart}
 use Rattle.netlist.specs.Runs.{init_state, inits_of, IsCycle}
 use Rattle.netlist.proofs.OrderLemmas.{order_once}
 use Rattle.netlist.proofs.PlaceLemmas.{latch_at-some}
@@ -46,3 +49,17 @@ module _ (source : Source) (template : TemplateValue) (pack : PackValue) (tunabl
 
   pub init_params : length (param_inits source.params.list) ≡ length pack.params
   init_params = length-map source.params.list (λ (p : Param). p.init) ∙ sym param_count
+
+-- a machine of a source circuit's tables, as it is made
+pub source_starts : (source : Source) (tables : Tables) (own : PackValue) (values bits : List Bool) (sim : SimValue) → IsReadSource source → AreMade source tables → ((given : List Bool) → length given ≡ length tables.pack.params → HasOneConf tables.pack given) → own ≡ tables.pack
+    → values ≡ pack.inits_of tables.pack.params → IsConf tables.pack (pack.inits_of tables.pack.params) bits → sim.template ≡ tables.template → sim.shape ≡ tables.shape → sim.states ≡ flat_inits source.netlist.flat
+    → IsSourceStart source tables.template own values bits sim
+source_starts source tables own values bits sim read made one is_pack params config template shape states = record {
+  pack = subst (λ (p : PackValue). IsTunable source tables.template p) (sym is_pack) made.tunable;
+  one_config = subst (λ (p : PackValue). (given : List Bool) → length given ≡ length p.params → HasOneConf p given) (sym is_pack) one;
+  params = params ∙ made.inits;
+  config = subst (λ (p : PackValue). IsConf p (param_inits source.params.list) bits) (sym is_pack) (subst (λ (vs : List Bool). IsConf tables.pack vs bits) made.inits config);
+  template = template;
+  shape = shape ∙ made.shape;
+  states = inits_are source sim.states read.netlist states;
+}

@@ -20,6 +20,7 @@ mod WrittenTableLemmas
 mod WrittenCycleLemmas
 -- and of packs and their hosts.
 pub mod EventLemmas
+pub mod PlayingLemmas
 pub mod PackLemmas
 mod AlikeLemmas
 pub mod ReplayLemmas

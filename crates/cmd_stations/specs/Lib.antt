@@ -9,9 +9,10 @@ pub mod Packs
 -- what the tables, their bits and the written netlists mean,
 pub mod Tunable
 pub mod Written
--- and what events do to a machine and to its host.
+-- and what events do to a machine and to its host, and put.
 pub mod Machine
 pub mod Host
+pub mod Playing
 -- A walk that several commands have.
 pub mod WritingWalk
 -- What only bodies are compared with.

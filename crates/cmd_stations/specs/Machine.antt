@@ -1,7 +1,8 @@
 -- The machine of a job with its ports: initially, and after events.
 use Rattle.std.specs.Prelude.{◌≡◌, ℕ, Bool, List, [], ◌∷◌, length, Ok}
 use Rattle.tl_io.specs.Writes.{writes_from}
-use Rattle.ppc_pack.specs.Pack.{IsConf, HasOneConf}
+use Rattle.ppc_pack.specs.Pack.{PackValue, IsConf, HasOneConf}
+use Rattle.lut_sim.specs.Sim.{SimValue}
 use Rattle.run_text.specs.EventValue.{EventValue}
 use Rattle.param_list.specs.Parameters.{param_inits}
 use Rattle.port_bank.specs.Bank.{BankSeen}
@@ -22,15 +23,18 @@ pub record Job : Type 0 where
   pub template : TemplateValue
   pub events : List EventValue
 
--- the machine at the start: under any values of the parameters there is one configuration; they have their listed values, with their configuration, and the latches their inits
-pub record IsStart (job : Job) (m : MachineValue) : Type 0 where
-  pub pack : IsTunable job.source job.template m.host.pack
-  pub one_config : (given : List Bool) → length given ≡ length m.host.pack.params → HasOneConf m.host.pack given
-  pub params : m.host.state.params ≡ param_inits job.source.params.list
-  pub config : IsConf m.host.pack (param_inits job.source.params.list) m.host.state.config
-  pub template : m.sim.template ≡ job.template
-  pub shape : m.sim.shape ≡ shape_of job.source
-  pub states : AreInits job.source m.sim.states
+-- A machine at the start of a source circuit by a template, by its pack, its values, its configuration and its circuit: under any values of the parameters there is one configuration; they have their listed values, with their configuration, and the latches their inits.
+pub record IsSourceStart (source : Source) (mapped : TemplateValue) (own : PackValue) (values bits : List Bool) (sim : SimValue) : Type 0 where
+  pub pack : IsTunable source mapped own
+  pub one_config : (given : List Bool) → length given ≡ length own.params → HasOneConf own given
+  pub params : values ≡ param_inits source.params.list
+  pub config : IsConf own (param_inits source.params.list) bits
+  pub template : sim.template ≡ mapped
+  pub shape : sim.shape ≡ shape_of source
+  pub states : AreInits source sim.states
+
+abbrev pub IsStart : Job → MachineValue → Type 0
+IsStart job m = IsSourceStart job.source job.template m.host.pack m.host.state.params m.host.state.config m.sim
 
 -- the header line: the numbers of the template
 abbrev pub machine_header : MachineValue → List ℕ

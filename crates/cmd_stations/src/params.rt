@@ -92,6 +92,7 @@ fn read_params_file<S: Shelf>(
 ///
 /// # Errors
 /// The outcome of the command, which ends here.
+#[tactic(auto, using(cmd_base::proofs::EndLemmas::keeps_past))]
 pub fn read_source<S: Shelf>(
     alloc: Global,
     words: &SourceWords,

@@ -71,6 +71,7 @@ fn read_events<S: Shelf>(
 ///
 /// # Errors
 /// The outcome of the command, which ends here.
+#[tactic(auto, using(cmd_base::proofs::EndLemmas::keeps_past))]
 pub fn read_scripted<S: Shelf>(
     alloc: Global,
     words: &ScriptedWords,

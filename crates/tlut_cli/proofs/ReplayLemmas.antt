@@ -29,16 +29,16 @@ module _ (files : Files) (written : MapWords) (before after : Outside) (done : H
       let start = subst (λ t. IsStart (record { source = done.source; template = t; events = r.job.events }) r.machine) template (subst (λ s. IsStart (record { source = s; template = r.job.template; events = r.job.events }) r.machine) source r.start) in
       let params = ap (λ s. (names_of s r.job.template.bits).params) source ∙ params_same done.source done.template done.pack b.pack done.tunable packs in
       let events = script_same first others run.script bits.script (names_of r.job.source r.job.template.bits) (pack_names b.pack) r.job.events b.events script refl params r.is_job.script b.is_job.script in
-      let come = subst (λ es. HasCome r.machine (bank_of run.ports old.ports) es r.ends.lines r.ends.stage) events r.ends.come in
-      let lines = done.replays.lines others bits.pack b.pack pack b.is_job.pack b.host b.ends.end b.events b.ends.lines b.start b.ends.steps r.job.events r.machine start (bank_of run.ports old.ports) r.ends.lines r.ends.stage come in
+      let come = subst (λ es. HasCome r.machine (bank_of run.ports old.ports) es r.ends.end.put.lines r.ends.end.stage) events r.ends.end.put.come in
+      let lines = done.replays.lines others bits.pack b.pack pack b.is_job.pack b.host b.ends.end b.events b.ends.put.lines b.start b.ends.put.come r.job.events r.machine start (bank_of run.ports old.ports) r.ends.end.put.lines r.ends.end.stage come in
       let header : machine_header r.machine ≡ template_header done.template = ap template_header (r.start.template ∙ template) in
       let other_header : pack_header b.host.pack ≡ pack_header done.pack = ap pack_header b.start.pack ∙ ap (λ bits. bits_header_line (length bits)) packs.bits in
       record {
         same = sym events;
-        lines = r.ends.lines;
-        one_each = one_each r.ends.come.steps;
-        put = subst (λ h. new.bytes ≡ extended old.bytes (concat (h ∷ r.ends.lines))) header r.ends.bytes;
-        other_put = subst₂ (λ h ls. later.bytes ≡ extended other.bytes (concat (h ∷ ls))) other_header lines b.ends.bytes;
+        lines = r.ends.end.put.lines;
+        one_each = one_each r.ends.end.put.come.steps;
+        put = subst (λ h. new.bytes ≡ extended old.bytes (concat (h ∷ r.ends.end.put.lines))) header r.ends.end.put.bytes;
+        other_put = subst₂ (λ h ls. later.bytes ≡ extended other.bytes (concat (h ∷ ls))) other_header lines b.ends.put.bytes;
       }
 
   pub replays_run : ReplaysRun files written before after

@@ -26,6 +26,7 @@ pub struct Audited {
 }
 
 // Reads a source circuit, and a certificate that is valid for its graph.
+#[tactic(auto, using(cmd_base::proofs::EndLemmas::keeps_past))]
 fn read_audited<S: Shelf>(
     alloc: Global,
     words: &CertWords,

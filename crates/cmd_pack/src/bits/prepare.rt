@@ -79,6 +79,7 @@ fn make_ready(alloc: Global, pack: Pack, events: Vec<Event>) -> Result<ReadyScri
 ///
 /// # Errors
 /// The outcome of the command: the first refusal, a read fault, or out of memory.
+#[tactic(auto, using(cmd_base::proofs::EndLemmas::keeps_past))]
 pub fn prepare<S: Shelf>(
     alloc: Global,
     words: &BitsWords,

@@ -23,9 +23,8 @@ case_files words =
 
 -- 1 to 32 digits, and a seed below 2^32
 abbrev pub gen_words : Rule → Option ℕ → Option ℕ → Option GenWords
-gen_words rule None seed = None
-gen_words rule (Some digits) None = None
 gen_words rule (Some digits) (Some seed) = if nat_le 1 digits && nat_le digits 32 && nat_le seed 4294967295 then Some (record { rule = rule; digits = digits; seed = seed }) else None
+gen_words rule digits seed = None
 
 -- the words `gen N SEED`, where cuts are chosen by a rule
 abbrev pub gen_of : Rule → List (List ℕ) → Option GenWords

@@ -1,11 +1,10 @@
 -- The walk of `gen`: that of `run` over the generated texts.
-use Rattle.std.specs.Prelude.{◌≡◌, ◌<◌, ℕ, List, [], ◌∷◌, length, take, codes, decimal}
+use Rattle.std.specs.Prelude.{◌≡◌, ℕ, List, [], ◌∷◌, codes, decimal}
 use Rattle.std.specs.List.{concat}
-use Rattle.tl_io.specs.Causes.{Rose}
-use Rattle.tl_io.specs.Content.{extended}
 use Rattle.run_core.specs.Events.{MachineValue}
 use Rattle.cover_pick.specs.Template.{TemplateValue}
-use Rattle.cmd_base.specs.Walk.{Reading, Walk, portless_walk, Outside}
+use Rattle.cmd_base.specs.Walk.{Reading, Walk, portless_walk}
+use Rattle.cmd_base.specs.Writing.{AreWritten, IsCutInLine}
 use Rattle.cmd_base.specs.declared.outcome.File.TheVariants.{Netlist}
 use Rattle.cmd_run.specs.declared.gen_command.words.GenWords.{GenWords}
 use Rattle.cmd_stations.specs.Mapped.{template_header}
@@ -41,22 +40,6 @@ pub record HasGen (words : GenWords) (Ends : List ℕ → Type 0) : Type 0 where
   pub totals : Totals machine job.events writes total end
   pub ends : Ends (gen_text words job.template writes total)
 
-module _ (old new : Outside) (text : List ℕ) where
-  -- the text was put
-  pub record IsTold : Type 0 where
-    pub bytes : new.bytes ≡ extended old.bytes text
-    pub files : new.files ≡ old.files
-    pub ports : new.ports ≡ old.ports
-
-  -- a fault of writing: a prefix of it stands
-  pub record IsPartTold : Type 0 where
-    pub part : ℕ
-    pub within : part < length text
-    pub bytes : new.bytes ≡ extended old.bytes (take part text)
-    pub cause : Rose old.put_faults new.put_faults
-    pub files : new.files ≡ old.files
-    pub ports : new.ports ≡ old.ports
-
 -- no file is read: what is told of files holds of the generated texts, whatever a shelf has, and a refused one is told as `gen`
 abbrev pub gen_reading : GenWords → Reading
 gen_reading words = record {
@@ -72,5 +55,5 @@ gen_reading words = record {
 
 abbrev pub gen_walk : GenWords → Walk
 gen_walk words =
-    portless_walk (gen_reading words) (λ files. HasJob files (case_words words.rule)) (λ files old new. HasGen words (IsTold old new)) (λ files old new. HasGen words (IsPartTold old new))
+    portless_walk (gen_reading words) (λ files. HasJob files (case_words words.rule)) (λ files old new. HasGen words (λ text. AreWritten [] text old new)) (λ files old new. HasGen words (λ text. IsCutInLine [] text old new))
     (λ files old new. Unit {0}) ⊥

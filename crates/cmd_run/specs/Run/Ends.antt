@@ -1,6 +1,5 @@
 -- How a job of `run` ends: what is in the output and in the ports.
-use Rattle.std.specs.Prelude.{◌≡◌, ◌<◌, ◌⊎◌, ℕ, ◌+◌, List, ◌∷◌, ◌++◌, length, take, Result, Ok, Err}
-use Rattle.std.specs.List.{concat}
+use Rattle.std.specs.Prelude.{◌≡◌, ◌⊎◌, ℕ, ◌+◌, List, length, Option, Result, Ok, Err}
 use Rattle.tl_io.specs.Causes.{Rose}
 use Rattle.tl_io.specs.Content.{extended}
 use Rattle.tl_io.specs.Port.{PortSeen}
@@ -19,69 +18,64 @@ use Rattle.cmd_run.specs.Run.Job.{RunWords, IsJob, bank_of}
 use Rattle.cmd_stations.specs.Machine.{Job}
 use Rattle.cmd_stations.specs.Source.{IsLeastMapped}
 use Rattle.cmd_stations.specs.Machine.{IsStart, machine_header, Stage, IsStep, HasCome}
+use Rattle.cmd_stations.specs.Playing.{AreAllPut, IsCutInFront, IsCutInLine}
 use Rattle.cmd_stations.specs.Script.{IsSplit}
 
-module _ (counts : PortCounts) (m : MachineValue) (events : List EventValue) (old new : Outside) where
-  -- The ports were loaded, each event was played and its writes were sent, and the output grew by the header and a line an event.
+-- an event was played and its writes were sent, and this is its line
+abbrev pub PutsStep : EventValue → Stage → List ℕ → Stage → Type 0
+PutsStep event old line new = IsStep event old new × (line ≡ event_line event new.machine)
+
+-- what is put of some events, seen from a bank
+module _ (Come : List EventValue → List (List ℕ) → Stage → Type 0) (front : List ℕ) (events : List EventValue) (before after : Option (List ℕ)) (new : BankSeen) where
+  -- Each event was played and its writes were sent, and the output grew by the text in front and a line an event.
   pub record IsAllPlayed : Type 0 where
-    pub lines : List (List ℕ)
     pub stage : Stage
-    pub come : HasCome m (bank_of counts old.ports) events lines stage
-    pub bytes : new.bytes ≡ extended old.bytes (concat (machine_header m ∷ lines))
-    pub ports : new.ports ≡ all_ports stage.bank
+    pub put : AreAllPut Come front events before stage after
+    pub bank : new ≡ stage.bank
 
-  -- a fault of writing in the header: a prefix of it stands, and nothing was sent
-  pub record IsCutInHeader : Type 0 where
-    pub part : ℕ
-    pub within : part < length (machine_header m)
-    pub bytes : new.bytes ≡ extended old.bytes (take part (machine_header m))
-    pub cause : Rose old.put_faults new.put_faults
-    pub ports : new.ports ≡ old.ports
-
-  -- a fault of writing in an event's line: the lines before it stand whole, and a prefix of it; its own writes were sent
-  pub record IsCutInLine : Type 0 where
-    pub before : List EventValue
-    pub event : EventValue
-    pub split : IsSplit events before event
-    pub lines : List (List ℕ)
-    pub mid : Stage
-    pub come : HasCome m (bank_of counts old.ports) before lines mid
-    pub stage : Stage
-    pub step : IsStep event mid stage
-    pub part : ℕ
-    pub within : part < length (event_line event stage.machine)
-    pub bytes : new.bytes ≡ extended old.bytes (concat (machine_header m ∷ lines) ++ take part (event_line event stage.machine))
-    pub cause : Rose old.put_faults new.put_faults
-    pub ports : new.ports ≡ all_ports stage.bank
-
-  -- a fault of the ports in the full load: the header stands alone
-  pub record IsLostInLoad : Type 0 where
-    pub bank : BankSeen
-    pub load : LosesRegion m.host.state.config (writes_from 0 m.host.state.config) (bank_of counts old.ports) bank
-    pub place : LosesPlace (bank_of counts old.ports) bank
-    pub bytes : new.bytes ≡ extended old.bytes (machine_header m)
-    pub ports : new.ports ≡ all_ports bank
+  -- a fault of writing in an event's line, whose own writes were sent
+  pub record IsCutPlaying : Type 0 where
+    pub cut : IsCutInLine Come PutsStep front events before after
+    pub bank : new ≡ cut.end.bank
 
   -- a fault of the ports in the send of an event, which was played: the lines before it stand, and no byte of its own
   pub record IsLostInEvent : Type 0 where
-    pub before : List EventValue
+    pub first : List EventValue
     pub event : EventValue
-    pub split : IsSplit events before event
-    pub lines : List (List ℕ)
+    pub split : IsSplit events first event
     pub mid : Stage
-    pub come : HasCome m (bank_of counts old.ports) before lines mid
+    pub put : AreAllPut Come front first before mid after
     pub next : MachineValue
     pub played : IsPlayed event mid.machine next
-    pub bank : BankSeen
-    pub lost : HasLost event next.host mid.bank bank
-    pub place : LosesPlace mid.bank bank
-    pub bytes : new.bytes ≡ extended old.bytes (concat (machine_header m ∷ lines))
-    pub ports : new.ports ≡ all_ports bank
+    pub lost : HasLost event next.host mid.bank new
+    pub short : FallsShort mid.bank new
+    pub place : LosesPlace mid.bank new
 
-  abbrev pub IsPlayEnd : Result Unit StepErr → Type 0
-  IsPlayEnd (Ok done) = IsAllPlayed
-  IsPlayEnd (Err WriteFault) = IsCutInHeader ⊎ IsCutInLine
-  IsPlayEnd (Err PortFault) = IsLostInLoad ⊎ IsLostInEvent
+module _ (m : MachineValue) (events : List EventValue) (old : BankSeen) (before after : Option (List ℕ)) (new : BankSeen) where
+  -- a fault of writing in the header: a prefix of it stands, and nothing was sent
+  pub record IsCutInHeader : Type 0 where
+    pub cut : IsCutInFront (machine_header m) before after
+    pub bank : new ≡ old
+
+  -- a fault of the ports in the full load: the header stands alone
+  pub record IsLostInLoad : Type 0 where
+    pub load : LosesRegion m.host.state.config (writes_from 0 m.host.state.config) old new
+    pub short : FallsShort old new
+    pub place : LosesPlace old new
+    pub bytes : after ≡ extended before (machine_header m)
+
+  -- how a job ends behind its header and the full load of its ports, seen from its bank
+  abbrev pub RunEnd : Result Unit StepErr → Type 0
+  RunEnd (Ok done) = IsAllPlayed (HasCome m old) (machine_header m) events before after new
+  RunEnd (Err WriteFault) = IsCutInHeader ⊎ IsCutPlaying (HasCome m old) (machine_header m) events before after new
+  RunEnd (Err PortFault) = IsLostInLoad ⊎ IsLostInEvent (HasCome m old) (machine_header m) events before after new
+
+-- seen from the ports that were handed in
+pub record IsPlayEnd (counts : PortCounts) (m : MachineValue) (events : List EventValue) (old new : Outside) (result : Result Unit StepErr) : Type 0 where
+  pub bank : BankSeen
+  pub end : RunEnd m events (bank_of counts old.ports) old.bytes new.bytes bank result
+  pub ports : new.ports ≡ all_ports bank
+  pub cause : result ≡ Err WriteFault → Rose old.put_faults new.put_faults
 
 -- the files hold a job, whose source circuit is sound and mapped with the least depth, its machine stands at the start, and this is so of its playing
 pub record HasRun (files : Files) (words : RunWords) (old new : Outside) (result : Result Unit StepErr) : Type 0 where

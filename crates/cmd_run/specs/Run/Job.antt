@@ -24,14 +24,12 @@ pub record RunWords : Type 0 where
 
 -- two numbers of ports, not more in all than are handed in
 abbrev pub counts_of : ℕ → Option ℕ → Option ℕ → Option PortCounts
-counts_of ports None spares = None
-counts_of ports (Some serving) None = None
 counts_of ports (Some serving) (Some spares) = if nat_le (serving + spares) ports then Some (record { serving = serving; spares = spares }) else None
+counts_of ports serving spares = None
 
 abbrev pub run_words : Rule → List ℕ → List ℕ → List ℕ → Option ℕ → Option PortCounts → Option RunWords
-run_words rule netlist params script None counts = None
-run_words rule netlist params script (Some k) None = None
 run_words rule netlist params script (Some k) (Some counts) = Some (record { source = record { rule = rule; k = k; netlist = netlist; params = params }; script = script; ports = counts })
+run_words rule netlist params script k counts = None
 
 -- the words `run K NETLIST PARAMS SCRIPT PORTS SPARES`, where cuts are chosen by a rule
 abbrev pub run_of : Rule → ℕ → List (List ℕ) → Option RunWords

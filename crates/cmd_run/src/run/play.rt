@@ -6,8 +6,8 @@ ghost use Rattle.run_text.specs.EventValue.{event_values};
 ghost use Rattle.port_bank.specs.Image.{Holds};
 ghost use Rattle.port_bank.specs.Seen.{bank_seen};
 ghost use Rattle.cmd_base.specs.Walk.{outside};
-ghost use Rattle.cmd_run.specs.Run.Ends.{IsPlayEnd, HaveFailed};
-ghost use Rattle.cmd_run.specs.Run.Ready.{CanPlay, EventsEnd, RunEnd, IsServed};
+ghost use Rattle.cmd_run.specs.Run.Ends.{IsPlayEnd, RunEnd, HaveFailed};
+ghost use Rattle.cmd_run.specs.Run.Ready.{CanPlay, EventsEnd, IsServed};
 
 use crate::run::prepare::Ready;
 use crate::run::words::PortCounts;

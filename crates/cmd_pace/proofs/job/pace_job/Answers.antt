@@ -1,6 +1,6 @@
-use Rattle.cmd_pace.proofs.Common.{refl, inl, pace_values, Outside, outside, IsAllPaced, IsPaceCut, pace_walk, pace_seen}
+use Rattle.cmd_pace.proofs.Common.{refl, inl, Outside, outside, IsAllPaced, IsPaceCut, pace_walk, pace_seen}
 use Rattle.cmd_base.proofs.EndLemmas.{unbegun_ends}
-use Rattle.cmd_pace.proofs.PlayLemmas.{ready_begun, ready_pace, all_paced, cut_paced}
+use Rattle.cmd_pace.proofs.PlayLemmas.{ready_begun, ready_pace}
 use Rattle.cmd_pace.proofs.HeadlineLemmas.{pace_laws}
 use Rattle.cmd_pace.proofs.job.pace_job.Goals as goal
 
@@ -16,7 +16,7 @@ returns-in-Ok-played-clause-ends g c ports =
     let after : Outside = outside (g.S.Shelf.seen c.prepare.new.shelf) (g.O.Sink.seen c.play-played.new.out) ports in (
       record { given = c.in-Ok.ensures.given; begun = λ files told. ready_begun files words ready (c.in-Ok.ensures.prepared files told) },
       λ files told. ready_pace files words ready (c.in-Ok.ensures.prepared files told) IsAllPaced before after c.prepare.ensures.keeps.files (refl {a = ports})
-          (all_paced ready.pacer (pace_values ready.events.items) before after c.in-Ok-played.ensures.ends),
+          (record { end = c.in-Ok-played.ensures.ends.0; put = c.in-Ok-played.ensures.ends.1 }),
       refl {a = ports},
     )
 
@@ -29,7 +29,7 @@ returns-in-Err-played-clause-ends g c ports =
     let rose = c.in-Err-played.ensures.cause.failed in (
       record { given = c.in-Ok.ensures.given; begun = λ files told. ready_begun files words ready (c.in-Ok.ensures.prepared files told) },
       λ files told. ready_pace files words ready (c.in-Ok.ensures.prepared files told) IsPaceCut before after c.prepare.ensures.keeps.files (refl {a = ports})
-          (cut_paced ready.pacer (pace_values ready.events.items) before after c.in-Err-played.ensures.ends rose),
+          (record { cut = c.in-Err-played.ensures.ends; cause = rose }),
       refl {a = ports},
       inl rose,
     )

@@ -1,13 +1,15 @@
-use Rattle.cmd_pace.proofs.Common.{◌≡◌, ◌≤◌, List, take, refl, sym, ◌∙◌, subst, arith, take_all, pace_value, pace_values, split_by, more_by, value_has, FitsPacer}
+use Rattle.cmd_pace.proofs.Common.{◌≤◌, List, [], take, refl, sym, ◌∙◌, subst, inr, arith, take_all, pace_value, pace_values, split_by, more_by, value_has, FitsPacer, HaveShown, shown_line}
 use Rattle.std.proofs.lemmas.Result.{err_from_is_err_and}
 use Rattle.pace_core.specs.declared.event.PaceEvent.{PaceEvent}
-use Rattle.cmd_pace.proofs.PlayLemmas.{paced_form, fits_form, HaveCome, come_none, come_more, come_all, events_cut}
+use Rattle.cmd_stations.specs.Playing.{AreAllPut}
+use Rattle.cmd_stations.proofs.PlayingLemmas.{put_none, put_more}
+use Rattle.cmd_pace.proofs.PlayLemmas.{paced_form, fits_form, then_shown}
 use Rattle.cmd_pace.proofs.play.play_with.Goals as goal
 
 pub loop-event-init : goal.loop-event-init
 loop-event-init g c = record {
   form = record { pack = refl; shape = refl };
-  come = come_none c.args.pacer.now (g.O.Sink.seen c.args.out.now).bytes;
+  come = put_none (g.O.Sink.seen c.args.out.now).bytes (record { shown = []; are = refl; lines_are = refl });
   later = omega arith;
 }
 
@@ -22,7 +24,6 @@ loop-event-preserved g c =
     let i = c.loop-event.event-index in
     let item = c.event-item.result in
     let first = (g.O.Sink.seen c.args.out.now).bytes in
-    let before = (g.O.Sink.seen c.loop-event.out).bytes in
     let after = (g.O.Sink.seen c.step.new.out).bytes in
     let step = c.in_ok-step.ensures.paced in
     let form = paced_form (pace_value item) c.loop-event.pacer c.step.new.self step.0 step.1 in
@@ -30,8 +31,8 @@ loop-event-preserved g c =
     let last : (g.O.Sink.seen c.loop-event.out).faults ≤ (g.O.Sink.seen c.step.new.out).faults = step.2.cause.later in
     record {
       form = record { pack = form.pack ∙ c.loop-event.invariant.form.pack; shape = form.shape ∙ c.loop-event.invariant.form.shape };
-      come = subst (λ es. HaveCome c.args.pacer.now es first c.step.new.self after) (sym (more_by pace_value events i item c.loop-event-test.true c.event-item.is))
-          (come_more c.args.pacer.now c.loop-event.pacer c.step.new.self (pace_values (take i events)) (pace_value item) step.0 first before after c.loop-event.invariant.come step.1 step.2.grown);
+      come = subst (λ es. AreAllPut (HaveShown c.args.pacer.now) [] es first c.step.new.self after) (sym (more_by pace_value events i item c.loop-event-test.true c.event-item.is))
+          (put_more (shown_line step.0) (λ lines come. then_shown c.args.pacer.now c.loop-event.pacer c.step.new.self (pace_values (take i events)) lines (pace_value item) step.0 come step.1) c.loop-event.invariant.come step.2.grown);
       later = omega (arith, later, last);
     }
 
@@ -40,16 +41,24 @@ returns-in_err-step-clause-ends g c =
     let p = err_from_is_err_and c.from_residual.result c.from_residual.ensures.1 in
     let events = c.args.events.now in
     let i = c.loop-event.event-index in
-    let item = c.event-item.result in
     let step = c.in_err-step.ensures.paced in
-    let put = step.2.grown in
-    rw (p.1) (events_cut c.args.pacer.now c.loop-event.pacer c.step.new.self (pace_values events) (pace_values (take i events)) (pace_value item) step.0 (g.O.Sink.seen c.args.out.now).bytes (g.O.Sink.seen c.loop-event.out).bytes
-    (g.O.Sink.seen c.step.new.out).bytes put.0 (split_by pace_value events i item c.loop-event-test.true c.event-item.is) c.loop-event.invariant.come step.1 put.1 put.2)
+    rw (p.1) (inr (record {
+      first = pace_values (take i events);
+      event = pace_value c.event-item.result;
+      split = split_by pace_value events i c.event-item.result c.loop-event-test.true c.event-item.is;
+      mid = c.loop-event.pacer;
+      whole = (g.O.Sink.seen c.loop-event.out).bytes;
+      put = c.loop-event.invariant.come;
+      line = shown_line step.0;
+      end = c.step.new.self;
+      step = record { one = step.0; paced = step.1; line_is = refl };
+      part = step.2.grown.0;
+      within = step.2.grown.1;
+      bytes = step.2.grown.2;
+    }))
 
 pub returns-clause-ends : goal.returns-clause-ends
 returns-clause-ends g c =
-    let events = c.args.events.now in
-    let first = (g.O.Sink.seen c.args.out.now).bytes in
-    let after = (g.O.Sink.seen c.loop-event.out).bytes in
-    let whole : take c.loop-event.event-index events ≡ events = take_all c.loop-event.event-index events c.loop-event-test.false in
-    come_all c.args.pacer.now c.loop-event.pacer (pace_values events) first after (subst (λ (es : List PaceEvent). HaveCome c.args.pacer.now (pace_values es) first c.loop-event.pacer after) whole c.loop-event.invariant.come)
+    let now = c.loop-event.pacer in
+    let whole = take_all c.loop-event.event-index c.args.events.now c.loop-event-test.false in
+    (now, subst (λ (es : List PaceEvent). AreAllPut (HaveShown c.args.pacer.now) [] (pace_values es) (g.O.Sink.seen c.args.out.now).bytes now (g.O.Sink.seen c.loop-event.out).bytes) whole c.loop-event.invariant.come)

@@ -11,7 +11,7 @@ returns-in-Ok-make_ready-clause-ready g c =
     let mapped = c.in-Ok.read.mapped in
     let ready = c.in-Ok-make_ready.ready in
     let events = pace_values ready.events.items in
-    can_pace (record { source = mapped.source; template = mapped.tables.template; events = events }) c.args.words.now.rate ready.pacer (c.in-Ok-make_ready.ensures.start.start events)
+    can_pace (record { source = mapped.source; template = mapped.tables.template; events = events }) ready.pacer c.in-Ok-make_ready.ensures.start.0
     (event_values c.in-Ok.read.events.items) c.in-Ok.ensures.fit events c.in-Ok-make_ready.ensures.events
 
 pub returns-in-Ok-make_ready-clause-prepared : goal.returns-in-Ok-make_ready-clause-prepared

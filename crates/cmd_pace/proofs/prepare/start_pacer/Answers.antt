@@ -1,11 +1,13 @@
 use Rattle.cmd_pace.proofs.Common.{ap, ◌∙◌}
 use Rattle.lut_sim.specs.Sim.{SimValue}
-use Rattle.cmd_pace.proofs.StartLemmas.{starts_pace}
+use Rattle.cmd_stations.proofs.InitLemmas.{source_starts}
 use Rattle.cmd_pace.proofs.prepare.start_pacer.Goals as goal
 
 pub returns : goal.returns
 returns c =
-    let made = c.in_ok-pacer.ensures in
-    starts_pace c.args.source.now c.args.tables c.args.rate c.in_ok-pacer.pacer c.requires.read c.requires.tables c.make.ensures.one made.pack made.params made.config
-    (ap (λ (s : SimValue). s.template) made.sim) (ap (λ (s : SimValue). s.shape) made.sim)
-    (ap (λ (s : SimValue). s.states) made.sim ∙ c.deref.ensures.value ∙ c.in_ok-states.ensures) made.rate
+    let made = c.in_ok-pacer.ensures in (
+      source_starts c.args.source.now c.args.tables _ _ _ c.in_ok-pacer.pacer.sim c.requires.read c.requires.tables c.make.ensures.one made.pack made.params made.config
+          (ap (λ (s : SimValue). s.template) made.sim) (ap (λ (s : SimValue). s.shape) made.sim)
+          (ap (λ (s : SimValue). s.states) made.sim ∙ c.deref.ensures.value ∙ c.in_ok-states.ensures),
+      made.rate,
+    )

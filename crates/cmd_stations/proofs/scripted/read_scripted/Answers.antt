@@ -1,4 +1,4 @@
-use Rattle.cmd_stations.proofs.Common.{◌∙◌, sym, Explains_from, keeps_past, scripted_seen, scripted_reading}
+use Rattle.cmd_stations.proofs.Common.{◌∙◌, sym, Explains_from, scripted_seen, scripted_reading}
 use Rattle.cmd_stations.proofs.ScriptedLemmas.{source_to_scripted, script_to_scripted, comes_scripted}
 use Rattle.cmd_stations.proofs.scripted.read_scripted.Goals as goal
 
@@ -22,9 +22,3 @@ returns-in-Ok-read_events-clause-comes g c files told =
     let there = c.read_mapped.ensures.keeps.files ∙ told in
     comes_scripted files (scripted_seen c.args.words.now) (record { mapped = c.in-Ok.mapped; events = c.in-Ok-read_events.events }) (c.in-Ok.ensures.comes files told)
     (c.in-Ok-read_events.ensures.script files there) (c.in-Ok-read_events.ensures.settled files there)
-
-pub returns-in-Err-read_events-clause-keeps : goal.returns-in-Err-read_events-clause-keeps
-returns-in-Err-read_events-clause-keeps g c = keeps_past c.read_mapped.ensures.keeps c.read_events.ensures.keeps
-
-pub returns-in-Ok-read_events-clause-keeps : goal.returns-in-Ok-read_events-clause-keeps
-returns-in-Ok-read_events-clause-keeps g c = keeps_past c.read_mapped.ensures.keeps c.read_events.ensures.keeps

@@ -1,4 +1,4 @@
-use Rattle.cmd_cert.proofs.Common.{◌∙◌, sym, Explains_from, keeps_past, cert_seen, audit_reading}
+use Rattle.cmd_cert.proofs.Common.{◌∙◌, sym, Explains_from, cert_seen, audit_reading}
 use Rattle.cmd_cert.proofs.GraphWalkLemmas.{source_to_audit}
 use Rattle.cmd_cert.proofs.audit.job.read_audited.Goals as goal
 
@@ -12,9 +12,3 @@ pub returns-in-Err-read_valid-clause-err : goal.returns-in-Err-read_valid-clause
 returns-in-Err-read_valid-clause-err g c =
     Explains_from (audit_reading (cert_seen c.args.words.now)) (g.S.Shelf.seen c.args.shelf.now) (g.S.Shelf.seen c.read_graph.new.shelf) (g.S.Shelf.seen c.read_valid.new.shelf)
     c.read_graph.ensures.keeps c.in-Err-read_valid.outcome c.in-Err-read_valid.ensures.err
-
-pub returns-in-Err-read_valid-clause-keeps : goal.returns-in-Err-read_valid-clause-keeps
-returns-in-Err-read_valid-clause-keeps g c = keeps_past c.read_graph.ensures.keeps c.read_valid.ensures.keeps
-
-pub returns-in-Ok-read_valid-clause-keeps : goal.returns-in-Ok-read_valid-clause-keeps
-returns-in-Ok-read_valid-clause-keeps g c = keeps_past c.read_graph.ensures.keeps c.read_valid.ensures.keeps

@@ -1,13 +1,15 @@
-use Rattle.cmd_pack.proofs.Common.{◌≡◌, ◌≤◌, List, take, refl, sym, ◌∙◌, subst, arith, take_all, event_value, event_values, PackValue, bank_seen, FitsPack, IsHostStep, Rose_from, split_by, more_by, value_has, IsOfHost}
+use Rattle.cmd_pack.proofs.Common.{◌≤◌, List, [], take, refl, sym, ◌∙◌, subst, inr, arith, take_all, event_value, event_values, PackValue, bank_seen, FitsPack, IsHostStep, Rose_from, split_by, more_by, value_has, IsOfHost, host_line, AreHostSteps, none, then_host_step}
 use Rattle.run_text.specs.declared.event.Event.{Event}
-use Rattle.cmd_pack.proofs.BitsPlayLemmas.{HaveCome, come_none, come_more, come_all, events_cut, fault_rose}
+use Rattle.cmd_stations.specs.Playing.{AreAllPut}
+use Rattle.cmd_stations.proofs.PlayingLemmas.{put_none, put_more}
+use Rattle.cmd_pack.proofs.BitsPlayLemmas.{events_cut, fault_rose}
 use Rattle.cmd_pack.proofs.bits.play.play_with.Goals as goal
 
 pub loop-event-init : goal.loop-event-init
 loop-event-init g c = record {
   pack = refl;
   no_ports = c.requires.no_ports;
-  come = come_none c.args.host.now (g.O.Sink.seen c.args.out.now).bytes;
+  come = put_none (g.O.Sink.seen c.args.out.now).bytes none;
   later = omega arith;
 }
 
@@ -26,9 +28,9 @@ returns-in-Err-clause-ends g c =
     let item = c.event-item.result in
     let ends = c.in-Err.ensures in
     let of_host = value_has event_value events i item c.loop-event-test.true c.event-item.is IsOfHost c.requires.can_play.of_host in
-    events_cut (bank_seen g.P.ConfigPort.port_seen c.loop-event.bank) (bank_seen g.P.ConfigPort.port_seen c.step.new.bank) c.loop-event.invariant.no_ports c.args.host.now c.loop-event.host c.step.new.self (event_values events)
+    inr (events_cut (bank_seen g.P.ConfigPort.port_seen c.loop-event.bank) (bank_seen g.P.ConfigPort.port_seen c.step.new.bank) c.loop-event.invariant.no_ports c.args.host.now c.loop-event.host c.step.new.self (event_values events)
     (event_values (take i events)) (event_value item) (g.O.Sink.seen c.args.out.now).bytes (g.O.Sink.seen c.loop-event.out).bytes (g.O.Sink.seen c.step.new.out).bytes c.in-Err.field-0 (split_by event_value events i item c.loop-event-test.true c.event-item.is)
-    c.loop-event.invariant.come (record { of_host = of_host; played = ends.played; steady = ends.steady }) ends.put.grown ends.places
+    c.loop-event.invariant.come (record { of_host = of_host; played = ends.played; steady = ends.steady }) ends.put.grown ends.places)
 
 pub returns-in-Err-clause-cause : goal.returns-in-Err-clause-cause
 returns-in-Err-clause-cause g c =
@@ -46,7 +48,6 @@ loop-event-preserved g c =
     let i = c.loop-event.event-index in
     let item = c.event-item.result in
     let first = (g.O.Sink.seen c.args.out.now).bytes in
-    let before = (g.O.Sink.seen c.loop-event.out).bytes in
     let after = (g.O.Sink.seen c.step.new.out).bytes in
     let ends = c.in-Ok.ensures in
     let of_host = value_has event_value events i item c.loop-event-test.true c.event-item.is IsOfHost c.requires.can_play.of_host in
@@ -56,15 +57,13 @@ loop-event-preserved g c =
     record {
       pack = ends.played.pack ∙ c.loop-event.invariant.pack;
       no_ports = ends.places.serving ∙ c.loop-event.invariant.no_ports;
-      come = subst (λ es. HaveCome c.args.host.now es first c.step.new.self after) (sym (more_by event_value events i item c.loop-event-test.true c.event-item.is))
-          (come_more c.args.host.now c.loop-event.host c.step.new.self (event_values (take i events)) (event_value item) first before after c.loop-event.invariant.come step ends.put.grown);
+      come = subst (λ es. AreAllPut (AreHostSteps c.args.host.now) [] es first c.step.new.self after) (sym (more_by event_value events i item c.loop-event-test.true c.event-item.is))
+          (put_more (host_line (event_value item) c.step.new.self) (λ lines steps. then_host_step (event_value item) steps step) c.loop-event.invariant.come ends.put.grown);
       later = omega (arith, later, last);
     }
 
 pub returns-clause-ends : goal.returns-clause-ends
 returns-clause-ends g c =
-    let events = c.args.events.now in
-    let first = (g.O.Sink.seen c.args.out.now).bytes in
-    let after = (g.O.Sink.seen c.loop-event.out).bytes in
-    let whole : take c.loop-event.event-index events ≡ events = take_all c.loop-event.event-index events c.loop-event-test.false in
-    come_all c.args.host.now c.loop-event.host (event_values events) first after (subst (λ (es : List Event). HaveCome c.args.host.now (event_values es) first c.loop-event.host after) whole c.loop-event.invariant.come)
+    let now = c.loop-event.host in
+    let whole = take_all c.loop-event.event-index c.args.events.now c.loop-event-test.false in
+    (now, subst (λ (es : List Event). AreAllPut (AreHostSteps c.args.host.now) [] (event_values es) (g.O.Sink.seen c.args.out.now).bytes now (g.O.Sink.seen c.loop-event.out).bytes) whole c.loop-event.invariant.come)

@@ -1,4 +1,4 @@
-use Rattle.cmd_pack.proofs.Common.{◌∙◌, sym, event_values, bits_reading, bits_seen, Explains_from, keeps_past}
+use Rattle.cmd_pack.proofs.Common.{◌∙◌, sym, event_values, bits_reading, bits_seen, Explains_from}
 use Rattle.cmd_pack.proofs.BitsWalkLemmas.{pack_to_bits, script_to_bits}
 use Rattle.cmd_pack.proofs.BitsPlayLemmas.{can_play, ready_for}
 use Rattle.cmd_pack.proofs.bits.prepare.prepare.Goals as goal
@@ -25,12 +25,3 @@ returns-in-Ok-make_ready-clause-prepared g c files told =
     let there = c.read_pack.ensures.keeps.files ∙ told in
     ready_for files (bits_seen c.args.words.now) c.in-Ok.pack (event_values c.in-Ok-read_events.events.items) c.in-Ok-make_ready.ready c.in-Ok-make_ready.ensures (c.in-Ok.ensures.pack files told) (c.in-Ok.ensures.settled files told)
     (c.in-Ok-read_events.ensures.script files there) (c.in-Ok-read_events.ensures.settled files there)
-
-pub returns-in-Err-read_events-clause-keeps : goal.returns-in-Err-read_events-clause-keeps
-returns-in-Err-read_events-clause-keeps g c = keeps_past c.read_pack.ensures.keeps c.read_events.ensures.keeps
-
-pub returns-in-Ok-make_ready-clause-keeps : goal.returns-in-Ok-make_ready-clause-keeps
-returns-in-Ok-make_ready-clause-keeps g c = keeps_past c.read_pack.ensures.keeps c.read_events.ensures.keeps
-
-pub returns-in-Err-make_ready-clause-keeps : goal.returns-in-Err-make_ready-clause-keeps
-returns-in-Err-make_ready-clause-keeps g c = keeps_past c.read_pack.ensures.keeps c.read_events.ensures.keeps

@@ -1,4 +1,4 @@
-use Rattle.cmd_run.proofs.Common.{refl, ◌∙◌, inl, outside, IsTold, IsPartTold}
+use Rattle.cmd_run.proofs.Common.{refl, ◌∙◌, inl, outside, AreWritten, IsCutInLine, []}
 use Rattle.cmd_run.proofs.CaseSizeLemmas.{case_small}
 use Rattle.cmd_run.proofs.GenLemmas.{case_begun, case_told}
 use Rattle.cmd_run.proofs.gen_command.job.play_out.Goals as goal
@@ -22,7 +22,7 @@ returns-in-Ok-put_lines g c old ports =
     let after = outside old (g.O.Sink.seen c.put_lines.new.out) ports in (
       case_begun words ready is old,
       λ files has. case_told words ready is c.play_case-totals.new.ready.machine totals.writes totals.total c.play_case-totals.ensures c.as_str.result.now c.as_str-2.result.now (c.as_str.ensures.value ∙ c.in-Ok.ensures)
-          (c.as_str-2.ensures.value ∙ c.in-Ok-last_line.ensures) (IsTold before after) (record { bytes = c.in-Ok-put_lines.ensures.grown; files = refl; ports = refl }),
+          (c.as_str-2.ensures.value ∙ c.in-Ok-last_line.ensures) (λ text. AreWritten [] text before after) (record { files = refl; bytes = c.in-Ok-put_lines.ensures.grown; ports = refl }),
       refl,
     )
 
@@ -38,7 +38,7 @@ returns g c old ports =
     let after = outside old (g.O.Sink.seen c.put_lines.new.out) ports in (
       case_begun words ready is old,
       λ files has. case_told words ready is c.play_case-totals.new.ready.machine totals.writes totals.total c.play_case-totals.ensures c.as_str.result.now c.as_str-2.result.now (c.as_str.ensures.value ∙ c.in-Ok.ensures)
-          (c.as_str-2.ensures.value ∙ c.in-Ok-last_line.ensures) (IsPartTold before after) (record { part = put.0; within = put.1; bytes = put.2; cause = rose; files = refl; ports = refl }),
+          (c.as_str-2.ensures.value ∙ c.in-Ok-last_line.ensures) (λ text. IsCutInLine [] text before after) (record { part = put.0; within = put.1; bytes = put.2; cause = rose; files = refl; ports = refl }),
       refl,
       inl rose,
     )

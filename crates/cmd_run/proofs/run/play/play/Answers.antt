@@ -1,15 +1,14 @@
 use Rattle.cmd_run.proofs.Common.{map, arith, length-map, event_values, bank_seen}
-use Rattle.cmd_run.proofs.PlayLemmas.{play_end}
 use Rattle.cmd_run.proofs.PortLemmas.{run_served, run_failed}
 use Rattle.cmd_run.proofs.run.play.play.Goals as goal
 
 pub returns-clause-ends : goal.returns-clause-ends
-returns-clause-ends g c =
-    let seen = g.P.ConfigPort.port_seen in
-    let old = map seen c.args.ports.now.items in
-    let ends = rw (c.make-bank.ensures, c.replace-handed_in.ensures.value, c.deref.ensures.value) at c.play_all-result.ensures.ends in
-    play_end c.args.counts c.args.ready.now.machine (event_values c.args.ready.now.events.items) (g.O.Sink.seen c.args.out.now) (g.O.Sink.seen c.play_all-result.new.out) old (map seen c.release.result.items)
-    (bank_seen seen c.play_all-result.new.bank) c.play_all-result.result c.release.ensures ends c.play_all-result.ensures.cause
+returns-clause-ends g c shelf = record {
+  bank = bank_seen g.P.ConfigPort.port_seen c.play_all-result.new.bank;
+  end = rw (c.make-bank.ensures, c.replace-handed_in.ensures.value, c.deref.ensures.value) at c.play_all-result.ensures.ends;
+  ports = c.release.ensures;
+  cause = c.play_all-result.ensures.cause;
+}
 
 pub returns-clause-served : goal.returns-clause-served
 returns-clause-served g c =

@@ -1,6 +1,9 @@
-use Rattle.cmd_run.proofs.Common.{◌≡◌, ◌≤◌, List, take, refl, sym, ◌∙◌, subst, arith, take_all, Event, event_value, event_values, Shape, PackValue, bank_seen, FitsPack, FitsShape, Stage, split_by, more_by, value_has}
+use Rattle.cmd_run.proofs.Common.{◌≤◌, List, [], take, refl, sym, ◌∙◌, subst, arith, take_all, Event, event_value, event_values, Shape, PackValue, bank_seen, FitsPack, FitsShape, Stage, IsStep, split_by, more_by, value_has, event_line, then_step}
 use Rattle.std.proofs.lemmas.Result.{err_from_is_err_and}
-use Rattle.cmd_run.proofs.PlayLemmas.{HaveCome, come_none, come_more, come_all, whole_step, events_end}
+use Rattle.cmd_stations.specs.Machine.{AreSteps, none}
+use Rattle.cmd_stations.specs.Playing.{AreAllPut}
+use Rattle.cmd_stations.proofs.PlayingLemmas.{put_none, put_more}
+use Rattle.cmd_run.proofs.PlayLemmas.{events_end}
 use Rattle.cmd_run.proofs.run.play.play_with.Goals as goal
 
 pub loop-event-init : goal.loop-event-init
@@ -8,7 +11,7 @@ loop-event-init g c = record {
   pack = refl;
   shape = refl;
   holds = c.requires.holds;
-  come = come_none (record { machine = c.args.machine.now; bank = bank_seen g.P.ConfigPort.port_seen c.args.bank.now }) (g.O.Sink.seen c.args.out.now).bytes;
+  come = put_none (g.O.Sink.seen c.args.out.now).bytes none;
   later = omega arith;
 }
 
@@ -45,28 +48,28 @@ loop-event-preserved g c =
     let mid : Stage = record { machine = c.loop-event.machine; bank = bank_seen g.P.ConfigPort.port_seen c.loop-event.bank } in
     let new : Stage = record { machine = c.step.new.self; bank = bank_seen g.P.ConfigPort.port_seen c.step.new.bank } in
     let first = (g.O.Sink.seen c.args.out.now).bytes in
-    let before = (g.O.Sink.seen c.loop-event.out).bytes in
     let after = (g.O.Sink.seen c.step.new.out).bytes in
     let ends = c.in_ok-step.ensures in
-    let step = whole_step (event_value item) mid new before after
-    (record { played = ends.played; steady = ends.steady; sent = ends.sent; put = ends.put.grown; left = ends.left; places = ends.places; held = c.loop-event.invariant.holds; holds = ends.holds }) in
-    let later : (g.O.Sink.seen c.args.out.now).faults ≤ (g.O.Sink.seen c.loop-event.out).faults = c.loop-event.invariant.later in
+    let holds = ends.holds c.loop-event.invariant.holds in
+    let step : IsStep (event_value item) mid new = record { played = ends.played; steady = ends.steady; sent = ends.sent; becomes = ends.left; places = ends.places; holds = holds } in
     let last : (g.O.Sink.seen c.loop-event.out).faults ≤ (g.O.Sink.seen c.step.new.out).faults = ends.put.cause in
     record {
       pack = ends.played.host.pack ∙ c.loop-event.invariant.pack;
       shape = ends.played.shape ∙ c.loop-event.invariant.shape;
-      holds = ends.holds c.loop-event.invariant.holds;
-      come = subst (λ es. HaveCome start es first new after) (sym (more_by event_value events i item c.loop-event-test.true c.event-item.is))
-          (come_more start mid new (event_values (take i events)) (event_value item) first before after c.loop-event.invariant.come step ends.put.grown);
-      later = omega (arith, later, last);
+      holds = holds;
+      come = subst (λ es. AreAllPut (AreSteps start) [] es first new after) (sym (more_by event_value events i item c.loop-event-test.true c.event-item.is))
+          (put_more (event_line (event_value item) new.machine) (λ lines steps. then_step (event_value item) steps step) c.loop-event.invariant.come ends.put.grown);
+      later = omega (arith, c.loop-event.invariant.later, last);
     }
 
 pub returns-clause-ends : goal.returns-clause-ends
 returns-clause-ends g c =
-    let start : Stage = record { machine = c.args.machine.now; bank = bank_seen g.P.ConfigPort.port_seen c.args.bank.now } in
-    let now : Stage = record { machine = c.loop-event.machine; bank = bank_seen g.P.ConfigPort.port_seen c.loop-event.bank } in
-    let events = c.args.events.now in
-    let first = (g.O.Sink.seen c.args.out.now).bytes in
-    let after = (g.O.Sink.seen c.loop-event.out).bytes in
-    let whole : take c.loop-event.event-index events ≡ events = take_all c.loop-event.event-index events c.loop-event-test.false in
-    come_all start now (event_values events) first after (subst (λ (es : List Event). HaveCome start (event_values es) first now after) whole c.loop-event.invariant.come)
+    let seen = g.P.ConfigPort.port_seen in
+    let start : Stage = record { machine = c.args.machine.now; bank = bank_seen seen c.args.bank.now } in
+    let now : Stage = record { machine = c.loop-event.machine; bank = bank_seen seen c.loop-event.bank } in
+    let whole = take_all c.loop-event.event-index c.args.events.now c.loop-event-test.false in
+    record {
+      stage = now;
+      put = subst (λ (es : List Event). AreAllPut (AreSteps start) [] (event_values es) (g.O.Sink.seen c.args.out.now).bytes now (g.O.Sink.seen c.loop-event.out).bytes) whole c.loop-event.invariant.come;
+      bank = refl;
+    }

@@ -1,5 +1,6 @@
-use Rattle.cmd_run.proofs.Common.{◌≡◌, ◌≤◌, take, event_values, Holds, bank_seen}
-use Rattle.cmd_run.proofs.PlayLemmas.{HaveCome}
+use Rattle.cmd_run.proofs.Common.{◌≡◌, ◌≤◌, [], take, event_values, Holds, bank_seen}
+use Rattle.cmd_stations.specs.Machine.{AreSteps}
+use Rattle.cmd_stations.specs.Playing.{AreAllPut}
 use Rattle.cmd_run.proofs.run.play.play_with.Given as goal
 
 abbrev pub invariant-loop-event : goal.invariant-loop-event
@@ -7,7 +8,7 @@ invariant-loop-event g l = record {
   pack : l.machine.host.pack ≡ l.initial.machine.host.pack;
   shape : l.machine.sim.shape ≡ l.initial.machine.sim.shape;
   holds : Holds l.machine.host.state.config (bank_seen g.P.ConfigPort.port_seen l.bank);
-  come : HaveCome (record { machine = l.initial.machine; bank = bank_seen g.P.ConfigPort.port_seen l.initial.bank }) (event_values (take l.event-index l.events)) (g.O.Sink.seen l.initial.out).bytes
+  come : AreAllPut (AreSteps (record { machine = l.initial.machine; bank = bank_seen g.P.ConfigPort.port_seen l.initial.bank })) [] (event_values (take l.event-index l.events)) (g.O.Sink.seen l.initial.out).bytes
       (record { machine = l.machine; bank = bank_seen g.P.ConfigPort.port_seen l.bank }) (g.O.Sink.seen l.out).bytes;
   later : (g.O.Sink.seen l.initial.out).faults ≤ (g.O.Sink.seen l.out).faults;
 }
