@@ -1,5 +1,5 @@
 -- The pairs of a graph only grow, and a product that was made stays made.
-use Rattle.aig_core.proofs.Common.{◌≡◌, ℕ, ◌+◌, ◌/◌, ◌<◌, ◌≤◌, Bool, true, eqb, List, [], ◌∷◌, ◌++◌, length, get_or, Option, Some, None, refl, sym, ap, ◌∙◌, arith, length-append, append_assoc, append-nil, slice_get, position, slice_get-get_or, position-Some, get_or-append, and_from, eq-eqb, Pair, AreNormal, is_pair, Answer, and_in_order, found_or_new, choose_one, choose_both, fails_everywhere, position_is, get_left}
+use Rattle.aig_core.proofs.Common.{◌≡◌, ℕ, ◌+◌, ◌/◌, ◌<◌, ◌≤◌, Bool, true, eqb, List, [], ◌∷◌, ◌++◌, length, get_or, Option, Some, None, refl, sym, ap, ◌∙◌, arith, length-append, append_assoc, append-nil, position, slice_get-get_or, position-Some, get_or-append, and_from, eq-eqb, Pair, is_pair, Answer, and_in_order, found_or_new, choose_one, choose_both, fails_everywhere, position_is}
 use Rattle.std.proofs.Math.Seq.{get_or-append_seam}
 
 -- qs are ps and maybe more
@@ -68,9 +68,3 @@ and_grows first ps x y =
     (choose_one P (eqb x y) _ _ (Extends-refl ps)
     (choose_one P (eqb (x / 2) (y / 2)) _ _ (Extends-refl ps)
     (new_grows first ps x y (position (is_pair x y) ps)))))
-
--- the first of some normal pairs are normal
-pub AreNormal-front : (first : ℕ) (ps qs : List Pair) → Extends ps qs → AreNormal first qs → AreNormal first ps
-AreNormal-front first ps qs e are =
-    let stays : (i : ℕ) (p : Pair) → slice_get ps i ≡ Some p → slice_get qs i ≡ Some p = λ i p h. rw e.is (get_left ps e.more i p h) in
-    record { each = λ i p h. are.each i p (stays i p h); once = λ i j p h k. are.once i j p (stays i p h) (stays j p k) }

@@ -61,15 +61,6 @@ complement-below lit n l =
     choose (λ m. m < 2 * n) (eqb (lit % 2) 0) (lit + 1) (lit - 1)
     (λ t. let e : lit % 2 ≡ 0 = eqb-true (lit % 2) 0 t in omega arith) (λ f. omega arith)
 
--- twice is back again
-pub complement-complement : (lit : ℕ) → complement (complement lit) ≡ lit
-complement-complement lit =
-    choose (λ m. complement m ≡ lit) (eqb (lit % 2) 0) (lit + 1) (lit - 1)
-    (λ t. let e : lit % 2 ≡ 0 = eqb-true (lit % 2) 0 t in
-    choose (λ m. m ≡ lit) (eqb ((lit + 1) % 2) 0) (lit + 1 + 1) (lit + 1 - 1) (λ u. let w : (lit + 1) % 2 ≡ 0 = eqb-true ((lit + 1) % 2) 0 u in absurd (omega arith)) (λ u. omega arith))
-    (λ f. let n : (lit % 2 ≡ 0 → ⊥) = eqb-false (lit % 2) 0 f in
-    choose (λ m. m ≡ lit) (eqb ((lit - 1) % 2) 0) (lit - 1 + 1) (lit - 1 - 1) (λ u. omega arith) (λ u. let w : ((lit - 1) % 2 ≡ 0 → ⊥) = eqb-false ((lit - 1) % 2) 0 u in absurd (omega arith)))
-
 -- What holds of an answer that is made over the pairs `ps`, whose literal is to have the value that `meaning` gives under the values of the nodes.
 pub record Makes (first : ℕ) (ps : List Pair) (meaning : List Bool → Bool) (made : Answer) : Type 0 where
   pub grows : Extends ps made.pairs
@@ -233,10 +224,6 @@ IsProduct-and_of g a b normal la lb =
           ∙ ap (λ v. v && value_of (values_of g sources) b) (value_of-fits g (and_of g a b).pairs sources values a makes.grows fits.given m.1 la)
           ∙ ap (λ v. value_of values a && v) (value_of-fits g (and_of g a b).pairs sources values b makes.grows fits.given m.1 lb);
     }
-
--- its answer is a literal of the new graph
-pub IsLit-and_of : (g : Aig) (a b : ℕ) → AreNormal (first_and g) g.pairs → IsLit g a → IsLit g b → IsLit (with_pairs g (and_of g a b).pairs) (and_of g a b).lit
-IsLit-and_of g a b normal la lb = (Makes-and (first_and g) g.pairs a b normal (omega arith) la lb).below
 
 -- and older literals keep their values
 pub KeepsValues-and_of : (g : Aig) (a b : ℕ) → AreNormal (first_and g) g.pairs → KeepsValues g (with_pairs g (and_of g a b).pairs)

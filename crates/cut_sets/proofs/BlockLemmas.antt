@@ -64,14 +64,13 @@ without (y ∷ ys) x up (inl e) = (
   },
 )
 without (y ∷ ys) x up (inr i) =
-    let r = without ys x up.1 i in
-    let s : suc (length r.0) ≤ length ys = r.1.shorter in (
+    let r = without ys x up.1 i in (
       y ∷ r.0,
       record {
         ascending = ((λ n j. up.0 n (r.1.within n j)), r.1.ascending);
         within = λ n j. elim j [ inl q ↦ inl q | inr k ↦ inr (r.1.within n k) ];
         others = λ n j other. elim j [ inl q ↦ inl q | inr k ↦ inr (r.1.others n k other) ];
-        shorter = omega arith;
+        shorter = omega (arith, r.1.shorter);
       },
     )
 
@@ -116,8 +115,7 @@ module _ (g : Aig) (normal : AreNormal (first_and g) g.pairs) where
     decide_node n (Some p) a e out below =
         let node : IsNode g p n = record { above = a; is = e } in
         let y : p.y.0 / 2 < n = (node_normal g n p normal node).below in
-        let x : p.x.0 / 2 < p.y.0 / 2 = (node_normal g n p normal node).ordered in
-        elim (below (p.x.0 / 2) (omega arith)) [
+        elim (below (p.x.0 / 2) (omega (arith, (node_normal g n p normal node).ordered))) [
           | inr no_x ↦ inr (λ b. elim (blocked_above g c a b) [ inl i ↦ out i | inr f ↦ no_x (subst (λ (q : Pair). Blocks g c (q.x.0 / 2)) (same_pair g f.pair p n f.node node) f.x) ])
           | inl bx ↦ elim (below (p.y.0 / 2) y) [
             | inr no_y ↦ inr (λ b. elim (blocked_above g c a b) [ inl i ↦ out i | inr f ↦ no_y (subst (λ (q : Pair). Blocks g c (q.y.0 / 2)) (same_pair g f.pair p n f.node node) f.y) ])
@@ -182,8 +180,7 @@ module _ (g : Aig) (normal : AreNormal (first_and g) g.pairs) where
     shrink zero c l cut = absurd (omega arith)
     shrink (suc f) c l cut = elim (droppable c cut.ascending c (λ m i. i)) [
       | inl x ↦ (
-          let s : suc (length x.1) ≤ length c = x.2.shorter in
-          let r = shrink f x.1 (omega arith) (part_cut c x.1 cut x.2.ascending x.2.within x.3) in
+          let r = shrink f x.1 (omega (arith, x.2.shorter)) (part_cut c x.1 cut x.2.ascending x.2.within x.3) in
           (r.0, r.1, (λ m i. x.2.within m (r.2 m i))))
       | inr tight ↦ (c, tight_minimal c cut tight, (λ m i. i))
     ]

@@ -18,8 +18,6 @@ lex_tail : (x y : ℕ) (xs ys : List ℕ) → x ≡ y → lex xs ys ≡ true →
 lex_tail x y xs ys h t = lex_at (λ b. b ≡ true) x y xs ys (λ a. refl) (λ e. t) (λ a. absurd (omega arith))
 
 pub lex_trans : (a b c : List ℕ) → lex a b ≡ true → lex b c ≡ true → lex a c ≡ true
-lex_trans [] b c h k = absurd (false≢true h)
-lex_trans (x ∷ xs) [] c h k = absurd (false≢true h)
 lex_trans (x ∷ xs) (y ∷ ys) [] h k = absurd (false≢true k)
 lex_trans (x ∷ xs) (y ∷ ys) (z ∷ zs) h0 k0 =
     lex_at (λ b. b ≡ true → lex (y ∷ ys) (z ∷ zs) ≡ true → lex (x ∷ xs) (z ∷ zs) ≡ true) x y xs ys
@@ -28,6 +26,7 @@ lex_trans (x ∷ xs) (y ∷ ys) (z ∷ zs) h0 k0 =
     (λ a h. lex_at (λ b. b ≡ true → lex (x ∷ xs) (z ∷ zs) ≡ true) y z ys zs
     (λ b k. lex_head x z xs zs (omega arith)) (λ b k. lex_tail x z xs zs (omega arith) (lex_trans xs ys zs h k)) (λ b k. absurd (false≢true k)))
     (λ a h k. absurd (false≢true h)) h0 k0
+lex_trans a b c h k = absurd (false≢true h)
 
 before_at : (P : Bool → Type 0) (a b : List ℕ) → (length a < length b → P true) → (length a ≡ length b → P (lex a b)) → (length b < length a → P false) → P (before a b)
 before_at P a b less same more =
@@ -44,14 +43,13 @@ before_lex a b h t = before_at (λ t. t ≡ true) a b (λ _. refl) (λ e. t) (λ
 -- two lists of one length, neither of which is before the other, are equal
 lex_none : (a b : List ℕ) → length a ≡ length b → lex a b ≡ false → lex b a ≡ false → a ≡ b
 lex_none [] [] l h k = refl
-lex_none [] (y ∷ ys) l h k = absurd (omega arith)
-lex_none (x ∷ xs) [] l h k = absurd (omega arith)
 lex_none (x ∷ xs) (y ∷ ys) l h0 k0 =
     lex_at (λ b. b ≡ false → lex (y ∷ ys) (x ∷ xs) ≡ false → x ∷ xs ≡ y ∷ ys) x y xs ys (λ a h k. absurd (false≢true (sym h)))
     (λ e h k. (
     let t : lex ys xs ≡ false = lex_at (λ b. b ≡ false → lex ys xs ≡ false) y x ys xs (λ a. absurd (omega arith)) (λ q m. m) (λ a. absurd (omega arith)) k in
     ap (λ m. m ∷ xs) e ∙ ap (λ m. y ∷ m) (lex_none xs ys (omega arith) h t)))
     (λ a h k. absurd (false≢true (sym k ∙ lex_head y x ys xs a))) h0 k0
+lex_none a b l h k = absurd (omega arith)
 
 -- and so are two lists
 pub before_none : (a b : List ℕ) → before a b ≡ false → before b a ≡ false → a ≡ b

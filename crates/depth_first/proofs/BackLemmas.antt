@@ -1,5 +1,5 @@
 -- A walk that comes on, and what is taken back where memory runs out.
-use Rattle.depth_first.proofs.Common.{◌≡◌, ℕ, suc, ◌-◌, ◌<◌, ◌≤◌, Option, List, [], ◌∷◌, ◌++◌, length, take, drop, reverse, Some, None, refl, sym, ap, ◌∙◌, subst, subst₂, append_assoc, length-append, take-append-drop, inl, inr, arith, slice_get, slice_set, take-append_seam, drop-append_seam, length-drop, length-reverse, reverse-append, none-some, same_Some, In, at_within, set_other, set_length, Edge, Frame, Mark, New, OnPath, Done, End, WalkValue, Followed, passes, stops_at, enters, hits, skips_over, seen, FramesValue, path_of, entered, first_of, others_of, advanced, finished, without_begun, renewed, forgotten, renewed_since, taken_back, AreMarks, AreKept, HasGrown}
+use Rattle.depth_first.proofs.Common.{◌≡◌, ℕ, suc, ◌-◌, ◌<◌, ◌≤◌, Option, List, [], ◌∷◌, ◌++◌, length, take, drop, reverse, Some, refl, sym, ap, ◌∙◌, subst, subst₂, append_assoc, length-append, take-append-drop, inl, inr, arith, slice_get, slice_set, take-append_seam, drop-append_seam, length-drop, length-reverse, reverse-append, same_Some, In, at_within, set_other, set_length, Edge, Frame, Mark, New, OnPath, Done, End, WalkValue, Followed, passes, stops_at, enters, hits, skips_over, seen, FramesValue, path_of, entered, first_of, advanced, finished, without_begun, renewed, forgotten, renewed_since, taken_back, AreMarks, AreKept, HasGrown, rules}
 use Rattle.list_laws.proofs.Members.{In-append, In-right}
 use Rattle.depth_first.proofs.ClearLemmas.{forgotten-length, forgotten-get, first_others}
 
@@ -15,10 +15,7 @@ shortened k v = record { marks = v.marks; begun = v.begun; order = drop (length 
 
 pub shorten : (v : FramesValue) (items left : List ℕ) (stack : List Frame) (k : ℕ) → v.order ≡ reverse items → left ≡ take k items → stack ≡ []
     → record { marks = v.marks; begun = v.begun; order = reverse left; stack = reverse stack } ≡ shortened k v
-shorten v items left stack k q p r =
-    let o : reverse left ≡ drop (length v.order - k) v.order = ap reverse p ∙ reverse_take items k ∙ ap (λ n. drop (n - k) (reverse items)) (sym (length-reverse items)) ∙ ap (λ x. drop (length x - k) x) (sym q) in
-    ap (λ x. record { marks = v.marks; begun = v.begun; order = x; stack = reverse stack }) o
-    ∙ ap (λ s. record { marks = v.marks; begun = v.begun; order = drop (length v.order - k) v.order; stack = reverse s }) r
+shorten v items left stack k q p r = grind (arith, reverse_take, length-reverse)
 
 pub take_back_is : (begun k : ℕ) (w v : FramesValue) → v ≡ renewed_since begun w → shortened k v ≡ taken_back begun k w
 take_back_is begun k w v e = ap (shortened k) e
@@ -37,9 +34,7 @@ module _ (v : FramesValue) (count : ℕ) where
   cut_next n rest l = let q : suc (length rest - count) ≡ length (n ∷ rest) - count = omega (arith, l) in ap (λ k. cut k (n ∷ rest)) q
 
   pub renew_step : (n : ℕ) → first_of v.begun ≡ Some n → count < length v.begun → renewed_since count (renewed (without_begun v) n) ≡ renewed_since count v
-  renew_step n e l =
-      let q = first_others v.begun n e in
-      cut_next n (others_of v.begun) (subst (λ b. count < length b) q l) ∙ ap (λ b. cut (length b - count) b) (sym q)
+  renew_step n e l = grind (arith, first_others, cut_next, cut)
 
   cut_none : (k : ℕ) (begun : List ℕ) → k ≡ 0 → record { marks = v.marks; begun = begun; order = v.order; stack = v.stack } ≡ cut k begun
   cut_none k [] e = subst (λ j. record { marks = v.marks; begun = []; order = v.order; stack = v.stack } ≡ cut j []) (sym e) refl
@@ -47,10 +42,6 @@ module _ (v : FramesValue) (count : ℕ) where
 
   pub renew_end : length v.begun ≤ count → v ≡ renewed_since count v
   renew_end l = cut_none (length v.begun - count) v.begun (omega (arith, l))
-
-pub some_first : {A : Type 0} (xs : List A) (count : ℕ) → first_of xs ≡ None → count < length xs → ⊥
-some_first [] count e l = omega (arith, l)
-some_first (x ∷ xs) count e l = none-some x (sym e)
 
 -- a walk comes on step by step
 pub grown_none : (w : FramesValue) → HasGrown w w
@@ -67,8 +58,7 @@ grown_on w v u g h = record {
 
 pub grown_entered : (w : FramesValue) (path : List ℕ) (n : ℕ) → AreMarks w.marks w.begun w.order path → slice_get w.marks n ≡ Some New → HasGrown w (entered w n)
 grown_entered w path n fit e =
-    let f = fit.fresh n e in
-    let new : In w.begun n → ⊥ = λ i. elim (fit.entered n i) [ inl p ↦ f.0 p | inr o ↦ f.1 o ] in
+    let new : In w.begun n → ⊥ = λ i. elim (fit.entered n i) [ inl p ↦ (fit.fresh n e).0 p | inr o ↦ (fit.fresh n e).1 o ] in
     record { since = n ∷ []; begun = refl; others = λ k i j. elim i [ inl q ↦ new (subst (λ y. In w.begun y) q j) | inr b ↦ b ]; behind = []; order = refl }
 
 pub grown_finished : (w : FramesValue) (n : ℕ) → HasGrown w (finished w n)
@@ -84,10 +74,6 @@ module _ {S : Type 0} (w : FramesValue) (path : List ℕ) (fit : AreMarks w.mark
   grown_followed v found (enters n is z q r) = subst (HasGrown w) (sym q) (grown_entered w path n fit z)
   grown_followed v found (hits n is z q r) = subst (HasGrown w) (sym q) (grown_none w)
   grown_followed v found (skips_over n is z q r) = subst (HasGrown w) (sym q) (grown_none w)
-
--- the nodes that were entered are numbered
-pub begun_within : (v : FramesValue) → AreMarks v.marks v.begun v.order (path_of v.stack) → (n : ℕ) → In v.begun n → n < length v.marks
-begun_within v fit n i = elim (fit.entered n i) [ inl p ↦ fit.below n p | inr o ↦ fit.inside n o ]
 
 -- a node that is done has its mark
 mark_is_done : (marks : List Mark) (begun order path : List ℕ) → AreMarks marks begun order path → (n : ℕ) → In order n → (m : Mark) → slice_get marks n ≡ Some m → m ≡ Done
@@ -129,37 +115,16 @@ module _ (w v : FramesValue) (fit : AreMarks w.marks w.begun w.order (path_of w.
   marks_back = forgotten v.marks grown.since
 
   not_new : (n : ℕ) → slice_get marks_back n ≡ Some New → In w.order n → ⊥
-  not_new n g i =
-      let j = still_done n i in
-      let m = at_within v.marks n (kept.fit.inside n j) in
-      let d : m.0 ≡ Done = mark_is_done v.marks v.begun v.order (path_of v.stack) kept.fit n j m.0 m.1 in
-      let o : In grown.since n → ⊥ = λ a. grown.others n a (fit.walked n (inr i)) in
-      let e : New ≡ Done = same_Some New Done (sym g ∙ forgotten-other v.marks grown.since n o ∙ m.1 ∙ ap Some d) in cc
+  not_new n g i = grind (arith, still_done, at_within, mark_is_done, same_Some, forgotten-other)
 
   not_on_path : (n : ℕ) → slice_get marks_back n ≡ Some OnPath → ⊥
-  not_on_path n g = elim (forgotten-get v.marks grown.since n OnPath g) [
-    | inl e ↦ absurd (let z : OnPath ≡ New = e in cc)
-    | inr p ↦ (let i = kept.fit.on n p.1 in kept.fit.apart n i (still_done n (old_order n (old_begun n p.0 (kept.fit.walked n (inl i))))))
-  ]
+  not_on_path n g = search (rules, forgotten-get, still_done, old_order, old_begun)
 
   was_done : (n : ℕ) → slice_get marks_back n ≡ Some Done → In w.order n
-  was_done n g = elim (forgotten-get v.marks grown.since n Done g) [
-    | inl e ↦ absurd (let z : Done ≡ New = e in cc)
-    | inr p ↦ old_order n (old_begun n p.0 (kept.fit.walked n (inr (kept.fit.off n p.1))))
-  ]
+  was_done n g = search (rules, forgotten-get, old_order, old_begun)
 
   fits_back : AreMarks marks_back w.begun w.order []
-  fits_back = record {
-    below = λ n i. absurd i;
-    inside = λ n i. subst (λ k. n < k) (sym (forgotten-length v.marks grown.since)) (kept.fit.inside n (still_done n i));
-    once = tt;
-    entered = λ n i. inr (old_order n i);
-    walked = λ n i. elim i [ inl b ↦ absurd b | inr o ↦ fit.walked n (inr o) ];
-    apart = λ n i j. i;
-    fresh = λ n g. (λ i. i, not_new n g);
-    on = λ n g. absurd (not_on_path n g);
-    off = was_done;
-  }
+  fits_back = search (rules, forgotten-length, still_done, old_order, not_new, not_on_path, was_done)
 
   abbrev taken : FramesValue
   taken = taken_back (length w.begun) (length w.order) v
@@ -177,16 +142,10 @@ module _ (w v : FramesValue) (fit : AreMarks w.marks w.begun w.order (path_of w.
   count_back = ap length marks_same ∙ forgotten-length v.marks grown.since ∙ kept.long
 
   seen_taken : seen taken ≡ seen w
-  seen_taken = ap (λ c. value c taken.begun taken.order []) count_back
-      ∙ ap (λ b. value (length w.marks) b taken.order []) begun_back
-      ∙ ap (λ o. value (length w.marks) w.begun o []) order_back
-      ∙ ap (λ s. value (length w.marks) w.begun w.order (path_of s)) (sym empty)
+  seen_taken = grind (arith, value, count_back, begun_back, order_back)
 
   kept_taken : AreKept w taken
-  kept_taken = record {
-    long = count_back;
-    fit = subst (λ m. AreMarks m taken.begun taken.order []) (sym marks_same) (subst₂ (λ b o. AreMarks marks_back b o []) (sym begun_back) (sym order_back) fits_back);
-  }
+  kept_taken = search (rules, count_back, marks_same, subst₂, marks_back, begun_back, order_back, fits_back)
 
   -- the state is seen as before, and its marks fit
   module _ (begun order : ℕ) (u : FramesValue) (p : begun ≡ length w.begun) (q : order ≡ length w.order) (e : u ≡ taken_back begun order v) where

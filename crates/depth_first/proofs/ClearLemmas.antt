@@ -1,5 +1,5 @@
 -- The marks once the nodes that were entered are forgotten.
-use Rattle.depth_first.proofs.Common.{◌≡◌, ℕ, ◌<◌, List, [], ◌∷◌, length, Some, refl, sym, ap, ◌∙◌, subst, inl, inr, ◌⊎◌, slice_get, slice_set, none-some, same_Some, slice_get_within, In, set_here, set_other, set_length, same_or, Mark, New, OnPath, Done, WalkValue, seen, FramesValue, path_of, first_of, others_of, without_begun, renewed, forgotten, AreForgettable, AreMarks}
+use Rattle.depth_first.proofs.Common.{◌≡◌, ℕ, ◌<◌, List, [], ◌∷◌, length, Some, refl, sym, ap, ◌∙◌, subst, inl, inr, ◌⊎◌, slice_get, slice_set, none-some, same_Some, slice_get_within, In, set_here, set_other, set_length, same_or, Mark, New, OnPath, Done, WalkValue, seen, FramesValue, path_of, first_of, others_of, without_begun, renewed, forgotten, AreForgettable, AreMarks, arith, rules}
 
 abbrev pub with_count : ℕ → WalkValue
 with_count n = record { count = n; begun = []; order = []; path = [] }
@@ -10,34 +10,15 @@ forgotten-length marks (n ∷ ns) = forgotten-length (slice_set marks n New) ns 
 
 -- a mark is new, or it is as before and not of these nodes
 set_back : (marks : List Mark) (n k : ℕ) (m : Mark) → slice_get (slice_set marks n New) k ≡ Some m → k ≡ n → m ≡ New
-set_back marks n k m g q =
-    let h : slice_get (slice_set marks n New) n ≡ Some m = subst (λ j. slice_get (slice_set marks n New) j ≡ Some m) q g in
-    let l : n < length marks = subst (λ j. n < j) (set_length marks n New) (slice_get_within (slice_set marks n New) n m h) in
-    same_Some m New (sym h ∙ set_here marks n New l)
+set_back marks n k m g q = grind (arith, set_length, slice_get_within, same_Some, set_here)
 
 pub forgotten-get : (marks : List Mark) (ns : List ℕ) (k : ℕ) (m : Mark) → slice_get (forgotten marks ns) k ≡ Some m → (m ≡ New) ⊎ ((In ns k → ⊥) × (slice_get marks k ≡ Some m))
 forgotten-get marks [] k m g = inr (λ i. i, g)
-forgotten-get marks (n ∷ ns) k m g = elim (forgotten-get (slice_set marks n New) ns k m g) as (λ _. (m ≡ New) ⊎ ((In (n ∷ ns) k → ⊥) × (slice_get marks k ≡ Some m))) [
-  | inl e ↦ inl e
-  | inr p ↦ (elim (same_or k n) as (λ _. (m ≡ New) ⊎ ((In (n ∷ ns) k → ⊥) × (slice_get marks k ≡ Some m))) [
-    | inl q ↦ inl (set_back marks n k m p.1 q)
-    | inr o ↦ inr (λ i. elim i [ inl q ↦ o q | inr j ↦ p.0 j ], sym (set_other marks n k New o) ∙ p.1)
-  ])
-]
+forgotten-get marks (n ∷ ns) k m g = search (rules, same_or, set_back, set_other, forgotten-get (slice_set marks n New) ns k m g)
 
 -- marks that are all new
 all_new : (marks : List Mark) → ((k : ℕ) (m : Mark) → slice_get marks k ≡ Some m → m ≡ New) → AreMarks marks [] [] []
-all_new marks h = record {
-  below = λ n i. absurd i;
-  inside = λ n i. absurd i;
-  once = tt;
-  entered = λ n i. absurd i;
-  walked = λ n i. elim i [ inl j ↦ j | inr j ↦ j ];
-  apart = λ n i j. i;
-  fresh = λ n e. (λ i. i, λ i. i);
-  on = λ n e. absurd (let z : OnPath ≡ New = h n OnPath e in cc);
-  off = λ n e. absurd (let z : Done ≡ New = h n Done e in cc);
-}
+all_new marks h = search rules
 
 old_new : (marks : List Mark) (begun order path : List ℕ) → AreMarks marks begun order path → (k : ℕ) (m : Mark) → slice_get marks k ≡ Some m → (In begun k → ⊥) → m ≡ New
 old_new marks begun order path fit k New g o = refl

@@ -1,5 +1,5 @@
 -- What the proofs of this crate cite of other crates, and its own definitions, passed on from one place.
-pub use Rattle.std.proofs.Common.{◌≡◌, ℕ, ◌+◌, ◌<◌, true, false, List, [], ◌∷◌, length, drop, get_or, Option, Some, None, refl, ap, ◌∙◌, suc, ◌-◌, ◌≤◌, ◌++◌, take, reverse, sym, subst, subst₂, append_assoc, length-append, take-append-drop, inl, inr, arith, ◌⊎◌, zero, ◌↔◌, IsTrue, eqb, eqb-true, eq-eqb}
+pub use Rattle.std.proofs.Common.{◌≡◌, ℕ, ◌+◌, ◌<◌, true, false, List, [], ◌∷◌, length, drop, get_or, Option, Some, None, refl, ap, ◌∙◌, suc, ◌-◌, ◌≤◌, ◌++◌, take, reverse, sym, subst, subst₂, append_assoc, length-append, take-append-drop, inl, inr, arith, ◌⊎◌, zero, ◌↔◌, IsTrue, eqb, eqb-true, eq-eqb, rules}
 pub use Rattle.std.proofs.Math.Seq.{take-append_seam, drop-append_seam, take-length}
 pub use Rattle.std.proofs.lemmas.Bool.{true≢false, false≢true, false_from_ne_true}
 pub use Rattle.std.proofs.lemmas.List.{length-drop, length-reverse, reverse-append, take_more}

@@ -1,13 +1,12 @@
 -- One step of a walk: the next edge of the path's last node is followed, or the node is left.
-use Rattle.depth_first.proofs.Common.{◌≡◌, ℕ, zero, suc, ◌<◌, List, [], ◌∷◌, length, Option, Some, None, refl, sym, subst, subst₂, inl, inr, slice_get, none-some, same_Some, In, set_length, Edge, Node, Stop, Pass, End, Frame, OnPath, Done, nodes_of, ways_of, successors, AreNodes, FramesValue, path_of, first_of, others_of, advanced, finished, AreKept, IsEdgeWithin, Followed, passes, stops_at, enters, hits, skips_over, IsGoing, Stepped}
+use Rattle.depth_first.proofs.Common.{◌≡◌, ℕ, zero, suc, ◌<◌, List, [], ◌∷◌, length, Option, Some, None, refl, sym, subst, subst₂, inl, inr, slice_get, none-some, same_Some, In, set_length, Edge, Node, End, Frame, OnPath, Done, nodes_of, ways_of, successors, AreNodes, FramesValue, path_of, first_of, others_of, advanced, finished, AreKept, IsEdgeWithin, Followed, passes, stops_at, enters, hits, skips_over, IsGoing, Stepped}
 use Rattle.depth_first.proofs.MarkLemmas.{marks_entered, marks_finished}
 use Rattle.depth_first.proofs.StepLemmas.{with_top, top_is, left_stop, meets_stop, enters_stop, meets_hit, enters_hit, one_more, end_step, pass_step, done_step, new_step}
 
 -- an edge to a node leads to a successor
 more_in : {S : Type 0} (e : Edge S) (es : List (Edge S)) (m : ℕ) → In (nodes_of (ways_of es)) m → In (nodes_of (ways_of (e ∷ es))) m
 more_in (Node k) es m i = inr i
-more_in (Stop s) es m i = i
-more_in Pass es m i = i
+more_in o es m i = i
 
 edge_in : {S : Type 0} (es : List (Edge S)) (i m : ℕ) → slice_get es i ≡ Some (Node m) → In (nodes_of (ways_of es)) m
 edge_in [] i m e = absurd (none-some (Node m) e)
@@ -31,8 +30,7 @@ module _ {S : Type 0} (edges : ℕ → List (Edge S)) (IsNode : ℕ → Type 0) 
   -- the next edge leads nowhere, or to a node that is numbered
   pub edge_within : (edge : Edge S) → slice_get (edges f.node) f.place ≡ Some edge → IsEdgeWithin edge (length w.marks)
   edge_within (Node m) e = nodes.below m (successor_node m e)
-  edge_within (Stop s) e = tt
-  edge_within Pass e = tt
+  edge_within edge e = tt
 
   pub left_step : slice_get (edges f.node) f.place ≡ None → Stepped edges IsNode w (finished w f.node) None
   left_step e = subst (λ x. Stepped edges IsNode x (finished w f.node) None) (top_is w f top) (end_step edges IsNode w f going_top e)

@@ -16,8 +16,7 @@ path_more fs i d ns l e = ap (λ x. x ++ (get_or fs i d).node ∷ []) e ∙ sym 
 
 pub path_all : (fs stack : List Frame) (i : ℕ) (ns : List ℕ) → i ≤ length fs → length fs ≤ i → ns ≡ path_of (take i fs) → reverse fs ≡ stack → reverse ns ≡ path_of stack
 path_all fs stack i ns a b e r =
-    let q : i ≡ length fs = omega arith in
-    ap reverse (e ∙ ap (λ k. path_of (take k fs)) q ∙ ap path_of (take-length fs)) ∙ sym (path_of-reverse fs) ∙ ap path_of r
+    ap reverse (e ∙ ap (λ k. path_of (take k fs)) (omega arith) ∙ ap path_of (take-length fs)) ∙ sym (path_of-reverse fs) ∙ ap path_of r
 
 -- the same of the path from a node on
 module _ (fs : List Frame) (i : ℕ) (d : Frame) (n : ℕ) (l : i < length fs) where
@@ -29,5 +28,4 @@ module _ (fs : List Frame) (i : ℕ) (d : Frame) (n : ℕ) (l : i < length fs) w
 
   pub from_before : (ns : List ℕ) → (n ≡ (get_or fs i d).node → ⊥) → ns ≡ from_node n (reverse (path_of (take i fs))) → ns ++ (get_or fs i d).node ∷ [] ≡ from_node n (reverse (path_of (take (i + 1) fs)))
   from_before ns o e =
-      let t = false_from_ne_true (eqb n (get_or fs i d).node) (λ y. o (eqb-true n (get_or fs i d).node y)) in
-      ap (λ x. x ++ (get_or fs i d).node ∷ []) e ∙ sym (from_more ∙ rw t refl)
+      ap (λ x. x ++ (get_or fs i d).node ∷ []) e ∙ sym (from_more ∙ rw (false_from_ne_true (eqb n (get_or fs i d).node) (λ y. o (eqb-true n (get_or fs i d).node y))) refl)

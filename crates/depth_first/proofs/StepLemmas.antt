@@ -1,5 +1,5 @@
 -- Steps of a walk with marks and a stack.
-use Rattle.depth_first.proofs.Common.{◌≡◌, ℕ, ◌+◌, ◌<◌, ◌≤◌, List, [], ◌∷◌, length, Option, Some, None, refl, sym, ap, subst, inl, inr, arith, slice_get, slice_set, none-some, same_Some, In, drop_get, drop_past, past_end, set_length, Edge, Node, Stop, Pass, Frame, New, OnPath, Done, LeadsInto, ways_of, ways_from, successors, FramesValue, path_of, first_of, others_of, entered, onward, advanced, finished, left_of, frames_work, new_work, walk_work, MeetsLeft, PostsLeft, EntersLeft, ArePassed, IsGoing, IsLater, Stepped}
+use Rattle.depth_first.proofs.Common.{◌≡◌, ℕ, ◌+◌, ◌<◌, List, [], ◌∷◌, length, Option, Some, None, refl, sym, ap, subst, inl, inr, arith, slice_get, slice_set, none-some, same_Some, In, drop_get, drop_past, past_end, set_length, Edge, Node, Stop, Pass, Frame, New, OnPath, Done, LeadsInto, ways_of, ways_from, successors, FramesValue, path_of, first_of, others_of, entered, onward, advanced, finished, left_of, frames_work, new_work, walk_work, MeetsLeft, PostsLeft, EntersLeft, ArePassed, IsGoing, IsLater, Stepped}
 use Rattle.depth_first.specs.DepthFirst.{Way, leads, stops, Ending, repeats, halts, nodes_of, Meets, met, goes, MeetsAll, stop, first, later, skips, posts, PostsAll, more, Outcome, ends_at, goes_through, Enters, ended, stopped_at, back, again, inside, onward as onward_to}
 use Rattle.depth_first.proofs.DepthLemmas.{done_meets, leads_more}
 use Rattle.depth_first.proofs.MarkLemmas.{marks_entered, marks_finished}
@@ -26,10 +26,7 @@ module _ {S : Type 0} (edges : ℕ → List (Edge S)) where
   pub passed_more : (order wider above upper : List ℕ) (fs : List Frame) → ((k : ℕ) → In order k → In wider k) → ((k : ℕ) → In above k → In upper k)
       → ArePassed edges order above fs → ArePassed edges wider upper fs
   passed_more order wider above upper [] h g p = tt
-  passed_more order wider above upper (f ∷ fs) h g p = (
-    λ way i. elim (p.0 way i) [ inl a ↦ inl (leads_more above upper g way a) | inr b ↦ inr b ],
-    passed_more order wider (f.node ∷ order) (f.node ∷ wider) fs h (λ k i. elim i [ inl q ↦ inl q | inr j ↦ inr (h k j) ]) p.1,
-  )
+  passed_more order wider above upper (f ∷ fs) h g p = grind (arith, leads_more, passed_more order wider (f.node ∷ order) (f.node ∷ wider) fs h (λ k i. elim i [ inl q ↦ inl q | inr j ↦ inr (h k j) ]) p.1)
 
   abbrev begin : ℕ → Frame
   begin n = record { node = n; place = 0 }
@@ -161,15 +158,13 @@ module _ {S : Type 0} (edges : ℕ → List (Edge S)) where
     pub end_step : slice_get (edges f.node) f.place ≡ None → Stepped edges IsNode (with_top w f) (finished w f.node) None
     end_step at = record {
       later = end_later at;
-      fewer = (let a : new_work edges (slice_set w.marks f.node Done) ≤ new_work edges w.marks = finish_less edges w.marks f.node in
-          let b : new_work edges (slice_set w.marks f.node Done) + frames_work edges fs < new_work edges w.marks + (1 + length (left_of edges f) + frames_work edges fs) = omega arith in b);
+      fewer = (let b : new_work edges (slice_set w.marks f.node Done) + frames_work edges fs < new_work edges w.marks + (1 + length (left_of edges f) + frames_work edges fs) = omega (arith, finish_less edges w.marks f.node) in b);
     }
 
     module _ (edge : Edge S) (at : slice_get (edges f.node) f.place ≡ Some edge) where
       fewer_next : walk_work edges (advanced w f) < walk_work edges (with_top w f)
       fewer_next =
-          let a : length (left_of edges f) ≡ 1 + length (left_of edges (onward f)) = left_less f edge at in
-          let b : new_work edges w.marks + (1 + length (left_of edges (onward f)) + frames_work edges fs) < new_work edges w.marks + (1 + length (left_of edges f) + frames_work edges fs) = omega arith in b
+          let b : new_work edges w.marks + (1 + length (left_of edges (onward f)) + frames_work edges fs) < new_work edges w.marks + (1 + length (left_of edges f) + frames_work edges fs) = omega (arith, left_less f edge at) in b
 
       -- an edge without anything to see is passed
       pub pass_step : edge ≡ Pass → Stepped edges IsNode (with_top w f) (advanced w f) None
@@ -242,8 +237,6 @@ module _ {S : Type 0} (edges : ℕ → List (Edge S)) where
         pub new_step : IsNode m → slice_get w.marks m ≡ Some New → Stepped edges IsNode (with_top w f) (entered (advanced w f) m) None
         new_step node z = record {
           later = new_later node z;
-          fewer = (let a : length (left_of edges f) ≡ 1 + length (left_of edges (onward f)) = left_less f edge at in
-              let b : new_work edges (slice_set w.marks m OnPath) + (1 + length (edges m)) ≡ new_work edges w.marks = enter_less edges w.marks m z in
-              let d : new_work edges (slice_set w.marks m OnPath) + (1 + length (edges m) + (1 + length (left_of edges (onward f)) + frames_work edges fs))
-              < new_work edges w.marks + (1 + length (left_of edges f) + frames_work edges fs) = omega arith in d);
+          fewer = (let d : new_work edges (slice_set w.marks m OnPath) + (1 + length (edges m) + (1 + length (left_of edges (onward f)) + frames_work edges fs))
+              < new_work edges w.marks + (1 + length (left_of edges f) + frames_work edges fs) = omega (arith, left_less f edge at, enter_less edges w.marks m z) in d);
         }

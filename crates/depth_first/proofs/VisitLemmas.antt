@@ -1,5 +1,5 @@
 -- The walk to the end of its stack, and the visit of a start.
-use Rattle.depth_first.proofs.Common.{◌≡◌, ℕ, ◌<◌, true, false, List, [], ◌∷◌, length, Option, Some, None, refl, sym, ap, ◌∙◌, subst, inl, inr, slice_get, is_some, true≢false, false≢true, none-some, In, set_length, Edge, End, Frame, New, OnPath, Done, IsSettled, ways_from, successors, Visited, ending_of, FramesValue, path_of, first_of, entered, AreMarks, AreKept, walk_work, MeetsLeft, PostsLeft, EntersLeft, ArePassed, IsGoing, IsLater, Stepped, Ran, seen}
+use Rattle.depth_first.proofs.Common.{◌≡◌, ℕ, ◌<◌, true, false, List, [], ◌∷◌, length, Option, Some, None, refl, sym, ap, ◌∙◌, subst, inl, inr, slice_get, is_some, true≢false, false≢true, none-some, In, set_length, Edge, End, Frame, New, OnPath, Done, IsSettled, ways_from, successors, Visited, ending_of, FramesValue, path_of, first_of, entered, AreMarks, AreKept, walk_work, MeetsLeft, PostsLeft, EntersLeft, ArePassed, IsGoing, IsLater, Stepped, Ran, seen, arith}
 use Rattle.depth_first.specs.DepthFirst.{leads, Ending, Meets, goes, MeetsAll, Posts, skips, posts, Outcome, ends_at, goes_through, Enters, ended, again, inside, onward}
 use Rattle.depth_first.proofs.DepthLemmas.{done_meets, settled_after}
 use Rattle.depth_first.proofs.PostLemmas.{adds_one}
@@ -26,8 +26,7 @@ module _ {S : Type 0} (edges : ℕ → List (Edge S)) (IsNode : ℕ → Type 0) 
   pub later_step : (w v u : FramesValue) (found : Option (End S)) → is_some found ≡ false → IsLater edges IsNode w v → Stepped edges IsNode v u found
       → IsLater edges IsNode w u × (walk_work edges u < walk_work edges v)
   later_step w v u (Some c) t l s = absurd (true≢false t)
-  later_step w v u None t l s =
-      (record { long = s.later.long ∙ l.long; going = s.later.going; meets = λ r h. l.meets r (s.later.meets r h); posts = λ r h. l.posts r (s.later.posts r h); enters = λ r h. l.enters r (s.later.enters r h) }, s.fewer)
+  later_step w v u None t l s = grind arith
 
   pub later_found : (w v u : FramesValue) (found : Option (End S)) → is_some found ≡ true → IsLater edges IsNode w v → Stepped edges IsNode v u found → Ran edges IsNode w u found
   later_found w v u None t l s = absurd (false≢true t)

@@ -1,15 +1,11 @@
 -- The work that is left grows less.
-use Rattle.depth_first.proofs.Common.{◌≡◌, ℕ, zero, suc, ◌+◌, ◌≤◌, List, [], ◌∷◌, length, Some, refl, arith, slice_get, slice_set, none-some, same_Some, Edge, Mark, New, OnPath, Done, new_work}
+use Rattle.depth_first.proofs.Common.{◌≡◌, ℕ, zero, suc, ◌+◌, ◌≤◌, List, [], ◌∷◌, length, Some, refl, arith, slice_get, slice_set, none-some, Edge, Mark, New, OnPath, Done, new_work}
 
 pub enter_less : {S : Type 0} (edges : ℕ → List (Edge S)) (ms : List Mark) (n : ℕ) → slice_get ms n ≡ Some New
     → new_work edges (slice_set ms n OnPath) + (1 + length (edges n)) ≡ new_work edges ms
 enter_less edges [] n e = absurd (none-some New e)
-enter_less edges (m ∷ ms) zero e =
-    let z : m ≡ New = same_Some m New e in
-    let a : new_work edges (m ∷ ms) ≡ 1 + length (edges zero) + new_work (λ k. edges (suc k)) ms = rw z refl in
-    let b : new_work edges (OnPath ∷ ms) ≡ 0 + new_work (λ k. edges (suc k)) ms = refl in omega arith
-enter_less edges (m ∷ ms) (suc n) e =
-    let r : new_work (λ k. edges (suc k)) (slice_set ms n OnPath) + (1 + length (edges (suc n))) ≡ new_work (λ k. edges (suc k)) ms = enter_less (λ k. edges (suc k)) ms n e in omega arith
+enter_less edges (m ∷ ms) zero e = grind arith
+enter_less edges (m ∷ ms) (suc n) e = omega (arith, enter_less (λ k. edges (suc k)) ms n e)
 
 pub finish_less : {S : Type 0} (edges : ℕ → List (Edge S)) (ms : List Mark) (n : ℕ) → new_work edges (slice_set ms n Done) ≤ new_work edges ms
 finish_less edges [] n = omega arith

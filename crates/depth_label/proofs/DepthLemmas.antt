@@ -31,15 +31,13 @@ module _ (g : Aig) (normal : AreNormal (first_and g) g.pairs) (k : ℕ) (roots :
   table_le n d c at low =
       let both = is.cuts n c at in
       let r : Covers (cuts n) c = minimal_part g normal k n (cuts n) c (minimal n both.0) both.1 in
-      let h : height label r.by ≤ suc d = height_le label r.by d (λ m i. low m (r.part m i)) in
-      let l : label n ≤ height label r.by = labels.least n r.by both.0 r.in' in omega arith
+      omega (arith, height_le label r.by d (λ m i. low m (r.part m i)), labels.least n r.by both.0 r.in')
 
   free_le : (n d : ℕ) → cover n ≡ Some [] → label n ≤ d
   free_le n d at =
       let both = is.cuts n [] at in
       let r : Covers (cuts n) [] = minimal_part g normal k n (cuts n) [] (minimal n both.0) both.1 in
-      let e : height label r.by ≡ 0 = ap (λ c. height label c) (within_none r.by r.part) in
-      let l : label n ≤ height label r.by = labels.least n r.by both.0 r.in' in omega arith
+      omega (arith, ap (λ c. height label c) (within_none r.by r.part), labels.least n r.by both.0 r.in')
 
   -- The label of a node is at most its depth in every cover.
   pub label_le_depth : {n d : ℕ} → HasDepth g cover n d → label n ≤ d

@@ -1,5 +1,5 @@
 -- The labels of the nodes are the least heights of their cuts, node by node.
-use Rattle.depth_label.proofs.Common.{◌≡◌, ℕ, ◌+◌, ◌-◌, ◌/◌, ◌^◌, ◌<◌, ◌≤◌, List, [], ◌∷◌, ◌++◌, length, Some, None, refl, sym, ap, ◌∙◌, subst, inl, inr, ◌⊎◌, arith, get_or, length-append, get_or_push, get_or_past, slice_get-get_or, cases_lt, cases_order, Aig, first_and, node_count, IsAnd, IsNormal, AreNormal, IsNode, In, AreMinimal, member, fan_ins, Covers, AreRows, row_at, contains_one, greatest, height, LabelsValue, label_at, label_of, best_of, IsCutTable, IsBestCut, AreLabelled, AreLeastDepths, AreSmall, lowest, lowest_cut, AreLabelledTo}
+use Rattle.depth_label.proofs.Common.{◌≡◌, ℕ, ◌+◌, ◌-◌, ◌/◌, ◌<◌, ◌≤◌, List, [], ◌∷◌, ◌++◌, length, Some, None, refl, sym, ap, ◌∙◌, subst, inl, inr, ◌⊎◌, arith, get_or, length-append, get_or_push, get_or_past, slice_get-get_or, cases_lt, cases_order, Aig, first_and, node_count, IsAnd, IsNormal, AreNormal, IsNode, In, AreMinimal, member, fan_ins, Covers, AreRows, row_at, contains_one, greatest, height, LabelsValue, label_at, label_of, best_of, IsCutTable, IsBestCut, AreLabelled, AreLeastDepths, lowest, lowest_cut, AreLabelledTo}
 use Rattle.std.specs.List.{slice_get}
 use Rattle.std.proofs.Math.ListN.{get_or-append}
 use Rattle.aig_core.specs.declared.lit.Pair.{Pair}
@@ -122,16 +122,6 @@ labels_push g cuts n labels best b inside below w at_source at_node =
       ];
       low = λ m. low_push labels best x b n e f (height_bound (label_at labels) b n leaf w.low) w.low m (cases_order m n);
     }
-
-pub labels_none : (g : Aig) (cuts : ℕ → List (List ℕ)) → AreLabelledTo g cuts 0 (record { labels = []; best = [] })
-labels_none g cuts = record { count = refl; best_count = refl; met = λ m l. absurd (omega arith); at_sources = λ m l. absurd (omega arith); at_nodes = λ m l. absurd (omega arith); low = λ m. omega arith }
-
--- one more than each label fits
-pub labels_small : (g : Aig) (cuts : ℕ → List (List ℕ)) (n : ℕ) (v : LabelsValue) → AreLabelledTo g cuts n v → n < 2 ^ 32 → AreSmall v.labels
-labels_small g cuts n v w l m = elim (cases_lt m (length v.labels)) [
-  | inl b ↦ (let a : label_at v.labels m ≤ m = w.low m in let c : length v.labels ≡ n = w.count in omega arith)
-  | inr b ↦ (let a : label_at v.labels m ≡ 0 = get_or_past v.labels m 0 b in omega arith)
-]
 
 -- all nodes
 pub labels_all : (g : Aig) (rows : List (List (List ℕ))) (v : LabelsValue) → IsCutTable g rows → AreNormal (first_and g) g.pairs → AreLabelledTo g (row_at rows) (node_count g) v → AreLabelled g rows v

@@ -1,5 +1,5 @@
 -- A graph with a table of its cuts has one label and one best cut a node.
-use Rattle.depth_label.proofs.Common.{◌≡◌, ℕ, zero, suc, ◌<◌, ◌≤◌, List, sym, ◌∙◌, subst, inl, inr, arith, cases_lt, false≢true, Aig, first_and, node_count, IsAnd, In, row_at, height, label_of, best_of, AreLabels, IsCutTable, IsAsGood, lower, tie, IsBestCut, HasOneLabelling}
+use Rattle.depth_label.proofs.Common.{◌≡◌, ℕ, zero, suc, ◌<◌, List, sym, ◌∙◌, subst, inl, inr, arith, cases_lt, false≢true, Aig, first_and, node_count, IsAnd, In, row_at, height, label_of, best_of, AreLabels, IsCutTable, IsAsGood, lower, tie, IsBestCut, HasOneLabelling}
 use Rattle.std.proofs.Math.Path.{fun_ext}
 use Rattle.cut_sets.proofs.OrderLemmas.{before_trans, before-same}
 use Rattle.depth_label.proofs.LabelLemmas.{height_same, leaves_below}
@@ -17,12 +17,7 @@ module _ (g : Aig) (rows : List (List (List ℕ))) (table : IsCutTable g rows) (
           (λ c i. height_same f h c (λ m j. let w : m < n = leaves_below g rows n table and c m i j in once_below bound m (omega arith))) in
           let x = a.met n and in
           let y = b.met n and in
-          let p : f n ≡ height f x.0 = x.2 in
-          let q : h n ≡ height h y.0 = y.2 in
-          let u : h n ≤ height h x.0 = b.least n x.0 and x.1 in
-          let v : f n ≤ height f y.0 = a.least n y.0 and y.1 in
-          let s : height f x.0 ≡ height h x.0 = same x.0 x.1 in
-          let t : height f y.0 ≡ height h y.0 = same y.0 y.1 in omega arith)
+          let t : height f y.0 ≡ height h y.0 = same y.0 y.1 in omega (arith, same x.0 x.1, a.least n y.0 and y.1, b.least n x.0 and x.1, y.2, x.2))
       | inr past ↦ a.past n past ∙ sym (b.past n past)
     ]
   ]

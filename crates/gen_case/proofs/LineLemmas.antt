@@ -8,20 +8,15 @@ behind xs ys before first rest a b = b ∙ ap (λ (t : List ℕ). t ++ ys) a ∙
 -- lines behind other lines
 pub lines_behind : (xs ys : List (List (List ℕ))) (before first rest : List ℕ)
     → first ≡ before ++ text_of xs → rest ≡ first ++ text_of ys → rest ≡ before ++ text_of (xs ++ ys)
-lines_behind xs ys before first rest a b =
-    behind (text_of xs) (text_of ys) before first rest a b ∙ ap (λ (t : List ℕ). before ++ t) (sym (flat_map-append line_text xs ys))
+lines_behind xs ys before first rest a b = grind (arith, behind, flat_map-append)
 
 -- one more number
 range_more : (a k : ℕ) → range_with_len a (suc k) ≡ range_with_len a k ++ (a + k) ∷ []
 range_more a zero = let e : a ≡ a + 0 = omega arith in ap (λ (n : ℕ). n ∷ []) e
-range_more a (suc k) =
-    let e : (a + 1) + k ≡ a + suc k = omega arith in
-    ap (λ (ns : List ℕ). a ∷ ns) (range_more (a + 1) k ∙ ap (λ (n : ℕ). range_with_len (a + 1) k ++ n ∷ []) e)
+range_more a (suc k) = grind (arith, range_more (a + 1) k)
 
 range_next : (a k m j : ℕ) → a + k ≡ j → k + 1 ≡ m → range_with_len a m ≡ range_with_len a k ++ j ∷ []
-range_next a k m j e h =
-    let s : m ≡ suc k = omega arith in
-    ap (λ (l : ℕ). range_with_len a l) s ∙ range_more a k ∙ ap (λ (n : ℕ). range_with_len a k ++ n ∷ []) e
+range_next a k m j e h = grind (arith, range_more)
 
 pieces_next : {A : Type 0} (f : ℕ → List A) (a k m j : ℕ) → a + k ≡ j → k + 1 ≡ m → flat_map f (range_with_len a m) ≡ flat_map f (range_with_len a k) ++ f j
 pieces_next f a k m j e h =
@@ -63,13 +58,9 @@ joined word (next ∷ words) = ap (λ (t : List ℕ). word ++ (32 ∷ t)) (joine
 -- a line of a word and others, with its line feed
 pub line_added : (word : List ℕ) (words : List (List ℕ)) (before first rest whole : List ℕ)
     → first ≡ before ++ word → rest ≡ first ++ after_blanks words → whole ≡ rest ++ codes "\n" → whole ≡ before ++ line_text (word ∷ words)
-line_added word words before first rest whole a b c =
-    behind (join_with_byte 32 (word ∷ words)) (codes "\n") before rest whole
-    (behind word (after_blanks words) before first rest a b ∙ ap (λ (t : List ℕ). before ++ t) (sym (joined word words))) c
+line_added word words before first rest whole a b c = grind (arith, behind, codes, joined)
 
 -- words behind other words
 pub words_joined : (xs ys : List (List ℕ)) (before first rest : List ℕ)
     → first ≡ before ++ after_blanks xs → rest ≡ first ++ after_blanks ys → rest ≡ before ++ after_blanks (xs ++ ys)
-words_joined xs ys before first rest a b =
-    behind (after_blanks xs) (after_blanks ys) before first rest a b
-    ∙ ap (λ (t : List ℕ). before ++ t) (sym (flat_map-append (λ (w : List ℕ). 32 ∷ w) xs ys))
+words_joined xs ys before first rest a b = grind (arith, behind, flat_map-append)

@@ -67,6 +67,4 @@ pub apart_short : {A : Type 0} (xs ys : List A) → AreApart xs → ((x : A) →
 apart_short [] ys a h = omega arith
 apart_short (x ∷ xs) ys a h =
     let i : In ys x = h x (inl refl) in
-    let r : length xs ≤ length (removed ys x i) = apart_short xs (removed ys x i) a.1 (λ z j. In-removed ys x i z (λ e. a.0 (subst (In xs) e j)) (h z (inr j))) in
-    let n : length ys ≡ suc (length (removed ys x i)) = length-removed ys x i in
-    omega arith
+    omega (arith, apart_short xs (removed ys x i) a.1 (λ z j. In-removed ys x i z (λ e. a.0 (subst (In xs) e j)) (h z (inr j))), length-removed ys x i)

@@ -1,5 +1,5 @@
 -- The digits of the number of some digits are these digits.
-use Rattle.std.proofs.Common.{◌≡◌, ℕ, zero, suc, ◌+◌, ◌*◌, ◌/◌, ◌%◌, ◌^◌, ◌<◌, ◌≤◌, Bool, true, false, eqb, List, [], ◌∷◌, length, get_or, sym, ap, ◌∙◌, arith}
+use Rattle.std.proofs.Common.{◌≡◌, ℕ, zero, suc, ◌+◌, ◌*◌, ◌/◌, ◌%◌, ◌^◌, ◌<◌, ◌≤◌, Bool, true, false, eqb, List, [], ◌∷◌, length, get_or, sym, ap, arith}
 use Rattle.std.proofs.Math.Nat.{pow-succ', div-div-eq-div-mul}
 use Rattle.list_laws.specs.Digits.{bit_value, number, digit}
 
@@ -10,11 +10,7 @@ bit_value-small false = omega arith
 -- it is below the power of two of their number
 pub number-small : (bs : List Bool) → number bs < 2 ^ length bs
 number-small [] = omega arith
-number-small (b ∷ bs) =
-    let s : bit_value b ≤ 1 = bit_value-small b in
-    let r : number bs < 2 ^ length bs = number-small bs in
-    let p : 2 ^ length (b ∷ bs) ≡ 2 * 2 ^ length bs = pow-succ' 2 (length bs) in
-    omega arith
+number-small (b ∷ bs) = omega (arith, bit_value-small b, number-small bs, pow-succ' 2 (length bs))
 
 -- the lowest digit
 pub lowest : (b : Bool) (n : ℕ) → (eqb ((bit_value b + 2 * n) % 2) 1) ≡ b
@@ -27,13 +23,8 @@ half b n = let s : bit_value b ≤ 1 = bit_value-small b in omega arith
 
 pub digit-number : (bs : List Bool) (j : ℕ) → j < length bs → digit (number bs) j ≡ get_or bs j false
 digit-number [] j h = absurd (omega arith)
-digit-number (b ∷ bs) zero h =
-    let e : (bit_value b + 2 * number bs) / 1 ≡ bit_value b + 2 * number bs = omega arith in
-    ap (λ m. eqb (m % 2) 1) e ∙ lowest b (number bs)
+digit-number (b ∷ bs) zero h = grind arith
 digit-number (b ∷ bs) (suc j) h =
     let p : 2 ^ suc j ≡ 2 * 2 ^ j = pow-succ' 2 j in
     let q : (bit_value b + 2 * number bs) / (2 * 2 ^ j) ≡ (bit_value b + 2 * number bs) / 2 / 2 ^ j = sym (div-div-eq-div-mul (bit_value b + 2 * number bs) 2 (2 ^ j)) in
-    ap (λ m. eqb (((bit_value b + 2 * number bs) / m) % 2) 1) p
-    ∙ ap (λ m. eqb (m % 2) 1) q
-    ∙ ap (λ m. eqb ((m / 2 ^ j) % 2) 1) (half b (number bs))
-    ∙ digit-number bs j (omega arith)
+    grind (arith, eqb, half, digit-number bs j (omega arith))

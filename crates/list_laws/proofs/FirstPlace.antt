@@ -10,8 +10,7 @@ first_place test [] i d w here apart = absurd (omega arith)
 first_place test (x ∷ xs) zero d w here apart = ap (λ b. cond (not b) (1 + position_or_len test xs) 0) here
 first_place test (x ∷ xs) (suc i) d w here apart =
     let e : position_or_len test xs ≡ i = first_place test xs i d (omega arith) here (λ k l. apart (suc k) (omega arith)) in
-    let s : 1 + position_or_len test xs ≡ suc i = omega arith in
-    ap (λ b. cond (not b) (1 + position_or_len test xs) 0) (apart 0 (omega arith)) ∙ s
+    ap (λ b. cond (not b) (1 + position_or_len test xs) 0) (apart 0 (omega arith)) ∙ (omega arith)
 
 pub position_is : {A : Type 0} (test : A → Bool) (xs : List A) (i : ℕ) (d : A) → i < length xs → test (get_or xs i d) ≡ true → ((k : ℕ) → k < i → test (get_or xs k d) ≡ false) → position test xs ≡ Some i
 position_is test xs i d w here apart =
@@ -22,8 +21,7 @@ pub none_pass : {A : Type 0} (test : A → Bool) (xs : List A) → list_any test
 none_pass test [] h = refl
 none_pass test (x ∷ xs) h =
     let p = or_parts (test x) (list_any test xs) h in
-    let rest : position_or_len test xs ≡ length xs = none_pass test xs p.1 in
-    ap (λ b. cond (not b) (1 + position_or_len test xs) 0) p.0 ∙ (let e : 1 + position_or_len test xs ≡ suc (length xs) = omega arith in e)
+    ap (λ b. cond (not b) (1 + position_or_len test xs) 0) p.0 ∙ (let e : 1 + position_or_len test xs ≡ suc (length xs) = omega (arith, none_pass test xs p.1) in e)
 
 pub position_none : {A : Type 0} (test : A → Bool) (xs : List A) → list_any test xs ≡ false → position test xs ≡ None
 position_none test xs h =
@@ -43,6 +41,4 @@ list_any-position_none test xs none = past_all test xs (past_none test xs none)
 -- so no element passes
 pub fails_everywhere : {A : Type 0} (test : A → Bool) (xs : List A) (i : ℕ) (x : A) → position test xs ≡ None → slice_get xs i ≡ Some x → test x ≡ false
 fails_everywhere test xs i x none at =
-    let within : i < length xs = slice_get_within xs i x at in
-    let past : length xs ≤ position_or_len test xs = past_none test xs none in
-    rw (get_or_from_slice_get xs i x x at) at (fails_before_first test xs i x (omega arith))
+    rw (get_or_from_slice_get xs i x x at) at (fails_before_first test xs i x (omega (arith, past_none test xs none, slice_get_within xs i x at)))

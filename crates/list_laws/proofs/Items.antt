@@ -1,5 +1,5 @@
 -- The item of a loop over a list: the element at its place.
-use Rattle.list_laws.proofs.Common.{◌≡◌, ℕ, suc, ◌+◌, ◌<◌, List, ◌∷◌, length, get_or, drop, refl, sym, ap, ◌∙◌, drop-cons, arith, slice_get_read, In}
+use Rattle.list_laws.proofs.Common.{◌≡◌, ℕ, ◌+◌, ◌<◌, List, ◌∷◌, length, get_or, drop, refl, drop-cons, arith, slice_get_read, In}
 use Rattle.list_laws.proofs.Members.{In-get}
 
 -- it is a member
@@ -8,6 +8,4 @@ member_at xs i x h e = In-get xs i x (slice_get_read xs (length xs) i x refl h e
 
 -- and the rest of the list begins with it
 pub drop_at : {A : Type 0} (xs : List A) (i : ℕ) (x : A) → i < length xs → x ≡ get_or xs i x → drop i xs ≡ x ∷ drop (i + 1) xs
-drop_at xs i x h e =
-    let s : suc i ≡ i + 1 = omega arith in
-    drop-cons xs i x h ∙ ap (λ y. y ∷ drop (suc i) xs) (sym e) ∙ ap (λ j. x ∷ drop j xs) s
+drop_at xs i x h e = grind (arith, drop-cons)

@@ -1,5 +1,5 @@
 -- Members of lists: by their places, of joined, of mapped and of filtered lists.
-use Rattle.list_laws.proofs.Common.{◌≡◌, ◌⊎◌, ℕ, zero, suc, ◌<◌, ◌≤◌, Bool, true, cond, List, [], ◌∷◌, ◌++◌, length, get_or, map, Some, refl, sym, ap, ◌∙◌, subst, inl, inr, arith, filter, slice_get, cases_eq, none-some, same_Some, In}
+use Rattle.list_laws.proofs.Common.{◌≡◌, ◌⊎◌, ℕ, zero, suc, ◌<◌, ◌≤◌, Bool, true, cond, List, [], ◌∷◌, ◌++◌, length, get_or, map, Some, refl, sym, ap, ◌∙◌, subst, inl, inr, arith, filter, slice_get, cases_eq, none-some, same_Some, In, rules}
 use Rattle.list_laws.proofs.Choice.{choose, choose_one}
 
 -- the element at a place is a member
@@ -16,10 +16,7 @@ In-get (y ∷ xs) (suc i) x e = inr (In-get xs i x e)
 -- a number is a member, or it is none
 pub in_or : (ns : List ℕ) (n : ℕ) → In ns n ⊎ (In ns n → ⊥)
 in_or [] n = inr (λ i. i)
-in_or (m ∷ ms) n = elim (cases_eq n m) [
-  | inl e ↦ inl (inl e)
-  | inr d ↦ elim (in_or ms n) [ inl i ↦ inl (inr i) | inr o ↦ inr (λ i. elim i [ inl e ↦ d e | inr j ↦ o j ]) ]
-]
+in_or (m ∷ ms) n = search (rules, cases_eq, in_or ms n)
 
 pub In-place : (xs : List ℕ) (m : ℕ) → In xs m → (j : ℕ) × (j < length xs) × (get_or xs j 0 ≡ m)
 In-place [] m i = absurd i
@@ -81,9 +78,7 @@ in_filter test (y ∷ ys) x (inr i) t = choose (λ zs. In zs x) (test y) (y ∷ 
 -- and are no more than those of the list
 pub length-filter_le : {A : Type 0} (test : A → Bool) (xs : List A) → length (filter test xs) ≤ length xs
 length-filter_le test [] = omega arith
-length-filter_le test (x ∷ xs) =
-    let rest : length (filter test xs) ≤ length xs = length-filter_le test xs in
-    choose_one (λ l. length l ≤ suc (length xs)) (test x) (x ∷ filter test xs) (filter test xs) (omega arith) (omega arith)
+length-filter_le test (x ∷ xs) = grind (arith, choose_one, length-filter_le test xs)
 
 -- two functions that agree at each member map a list alike
 pub map_agree : {A B : Type 0} (f g : A → B) (xs : List A) → ((x : A) → In xs x → f x ≡ g x) → map f xs ≡ map g xs

@@ -55,11 +55,9 @@ take_get (y ∷ ys) (suc i) x e = let n : suc i + 1 ≡ suc (i + 1) = omega arit
 -- lists of one length whose elements are the same place by place
 pub same_list : {A : Type 0} (xs ys : List A) → length xs ≡ length ys → ((i : ℕ) (x y : A) → slice_get xs i ≡ Some x → slice_get ys i ≡ Some y → x ≡ y) → xs ≡ ys
 same_list [] [] n h = refl
-same_list [] (y ∷ ys) n h = absurd (omega arith)
-same_list (x ∷ xs) [] n h = absurd (omega arith)
 same_list (x ∷ xs) (y ∷ ys) n h =
-    let m : suc (length xs) ≡ suc (length ys) = n in
     ap (λ z. z ∷ xs) (h 0 x y refl refl) ∙ ap (λ zs. y ∷ zs) (same_list xs ys (omega arith) (λ i a b e f. h (suc i) a b e f))
+same_list xs ys n h = absurd (omega arith)
 
 -- an element of a mapped list
 pub mapped_at : {A B : Type 0} (f : A → B) (xs : List A) (i : ℕ) (y : B) → slice_get (map f xs) i ≡ Some y → (x : A) × (slice_get xs i ≡ Some x) × (y ≡ f x)
@@ -80,16 +78,13 @@ set_here (x ∷ xs) zero y l = refl
 set_here (x ∷ xs) (suc i) y l = set_here xs i y (omega arith)
 
 pub set_other : {A : Type 0} (xs : List A) (i j : ℕ) (y : A) → (j ≡ i → ⊥) → slice_get (slice_set xs i y) j ≡ slice_get xs j
-set_other [] i j y o = refl
 set_other (x ∷ xs) zero zero y o = absurd (o refl)
-set_other (x ∷ xs) zero (suc j) y o = refl
-set_other (x ∷ xs) (suc i) zero y o = refl
 set_other (x ∷ xs) (suc i) (suc j) y o = set_other xs i j y (λ e. o (ap suc e))
+set_other xs i j y o = refl
 
 pub set_length : {A : Type 0} (xs : List A) (i : ℕ) (y : A) → length (slice_set xs i y) ≡ length xs
-set_length [] i y = refl
-set_length (x ∷ xs) zero y = refl
 set_length (x ∷ xs) (suc i) y = ap suc (set_length xs i y)
+set_length xs i y = refl
 
 -- two places are one, or they differ
 pub same_or : (i j : ℕ) → (i ≡ j) ⊎ (i ≡ j → ⊥)

@@ -12,11 +12,7 @@ in_range from zero x a b = absurd (omega arith)
 in_range from (suc count) x a b = elim (same_or x from) [ inl e ↦ inl e | inr d ↦ inr (in_range (from + 1) count x (omega arith) (omega arith)) ]
 
 pub ranges_join : (from first second : ℕ) → range_with_len from (first + second) ≡ range_with_len from first ++ range_with_len (from + first) second
-ranges_join from zero second =
-    let none : zero + second ≡ second = omega arith in
-    let here : from ≡ from + zero = omega arith in
-    ap (range_with_len from) none ∙ ap (λ (k : ℕ). range_with_len k second) here
+ranges_join from zero second = grind arith
 ranges_join from (suc first) second =
     let one : suc first + second ≡ suc (first + second) = omega arith in
-    let here : from + 1 + first ≡ from + suc first = omega arith in
-    ap (range_with_len from) one ∙ ap (λ (t : List ℕ). from ∷ t) (ranges_join (from + 1) first second ∙ ap (λ (k : ℕ). range_with_len (from + 1) first ++ range_with_len k second) here)
+    ap (range_with_len from) one ∙ ap (λ (t : List ℕ). from ∷ t) (ranges_join (from + 1) first second ∙ ap (λ (k : ℕ). range_with_len (from + 1) first ++ range_with_len k second) (omega arith))

@@ -17,7 +17,6 @@ pub pushed_pair : {A B : Type 0} (xs : List A) (ys : List B) (x : A) (y : B) (k 
     → ((slice_get xs k ≡ Some a) × (slice_get ys k ≡ Some b)) ⊎ ((a ≡ x) × (b ≡ y))
 pushed_pair [] [] x y zero a b n e f = inr (sym (same_Some x a e), sym (same_Some y b f))
 pushed_pair [] [] x y (suc k) a b n e f = absurd (none-some a e)
-pushed_pair [] (z ∷ ys) x y k a b n e f = absurd (omega arith)
-pushed_pair (z ∷ xs) [] x y k a b n e f = absurd (omega arith)
 pushed_pair (z ∷ xs) (w ∷ ys) x y zero a b n e f = inl (e, f)
 pushed_pair (z ∷ xs) (w ∷ ys) x y (suc k) a b n e f = let m : suc (length xs) ≡ suc (length ys) = n in pushed_pair xs ys x y k a b (omega arith) e f
+pushed_pair xs ys x y k a b n e f = absurd (omega arith)

@@ -1,8 +1,9 @@
--- A text is one list of parameters at most, or has one refusal at most, and never both.
-use Rattle.param_list.proofs.Common.{◌≡◌, ℕ, Bool, List, Some, sym, ap, ◌∙◌, same_Some, apart_once, place_in, same_list, WordsLine, AreOnce, text_settled, FlatValue, Param, par_err, AreNamed, AreParameters, Entry, refusal_at, IsFirstRefusal, IsParamOf, AreParamsOf, HasOneReading}
+-- A text is one list of parameters at most, or has one refusal at most, and never both. Refusals of lines by their cases ask of the clock nets only which names are among them.
+use Rattle.param_list.proofs.Common.{◌≡◌, ℕ, Bool, List, Some, sym, ap, ◌∙◌, same_Some, apart_once, place_in, same_list, WordsLine, AreOnce, text_settled, FlatValue, Param, par_err, AreNamed, AreParameters, Entry, refusal_at, IsFirstRefusal, IsParamOf, AreParamsOf, HasOneReading, ◌||◌, ◌++◌, Option, None, bytes_eq, refl, slice_get, take, option_and_then, list_any-append, has_name, ParErr, entry_of, names_said, entry_refusal, line_refusal, ◌<◌, ◌≤◌, true, false, not, ltb, leb, length, or_parts, or_left, or_from, ltb-false, leb-false, le-ltb, lt-leb, Parameters, NotInput, IsClock, Repeated}
 use Rattle.list_laws.proofs.TwoLists.{item_there}
 use Rattle.tl_fault.specs.Settled.{IsSettled}
 use Rattle.tl_text.proofs.FirstLemmas.{one_first, none_first}
+use Rattle.list_laws.proofs.Choice.{none_both}
 
 abbrev param : List ℕ → ℕ → Bool → Param
 param name input init = record { name = name; input = input; init = init }
@@ -16,14 +17,14 @@ same_param inputs once line p q a b =
     let places : p.input ≡ q.input = apart_once inputs p.input q.input q.name once (a.input ∙ ap (λ n. Some n) names) b.input in
     ap (λ n. param n p.input p.init) names ∙ ap (λ i. param q.name i p.init) places ∙ ap (λ v. param q.name q.input v) inits
 
-same_params : (inputs clocks : List (List ℕ)) → AreOnce inputs → (lines : List WordsLine) (params others : List Param) → AreParamsOf inputs clocks lines params → AreParamsOf inputs clocks lines others → params ≡ others
-same_params inputs clocks once lines params others a b = same_list params others (a.count ∙ sym b.count) (λ i p q e f.
+one_list : (inputs clocks : List (List ℕ)) → AreOnce inputs → (lines : List WordsLine) (params others : List Param) → AreParamsOf inputs clocks lines params → AreParamsOf inputs clocks lines others → params ≡ others
+one_list inputs clocks once lines params others a b = same_list params others (a.count ∙ sym b.count) (λ i p q e f.
     let l = item_there params lines i p a.count e in
     same_param inputs once l.0 p q (a.each i l.0 p l.1 e) (b.each i l.0 q l.1 f))
 
 lines_settled : (flat : FlatValue) → AreOnce flat.inputs → (lines : List WordsLine) → IsSettled (AreParamsOf flat.inputs flat.clocks lines) (IsFirstRefusal flat.inputs flat.clocks lines)
 lines_settled flat once lines = record {
-  one_value = same_params flat.inputs flat.clocks once lines;
+  one_value = one_list flat.inputs flat.clocks once lines;
   one_fault = one_first (refusal_at flat.inputs flat.clocks lines);
   not_both = λ params e are first. none_first (refusal_at flat.inputs flat.clocks lines) e are.no_refusal first;
 }
@@ -40,3 +41,68 @@ are_parameters flat lines params are named = record {
       let l = item_there params lines a.0 p are.count a.1 in
       (are.each a.0 l.0 p l.1 a.1).input;
 }
+
+same_then : {A B : Type 0} (f g : A → Option B) (o : Option A) → ((x : A) → f x ≡ g x) → option_and_then f o ≡ option_and_then g o
+same_then f g None h = refl
+same_then f g (Some x) h = h x
+
+module _ (inputs clocks others : List (List ℕ)) (same : (name : List ℕ) → has_name clocks name ≡ has_name others name) where
+  joined : (name : List ℕ) → has_name (inputs ++ clocks) name ≡ has_name (inputs ++ others) name
+  joined name = list_any-append (bytes_eq name) inputs clocks ∙ ap (λ b. has_name inputs name || b) (same name) ∙ sym (list_any-append (bytes_eq name) inputs others)
+
+  same_entry : (earlier : List (List ℕ)) (number : ℕ) (o : Option Entry) → entry_refusal inputs clocks earlier number o ≡ entry_refusal inputs others earlier number o
+  same_entry earlier number None = refl
+  same_entry earlier number (Some entry) = rw (joined entry.name, same entry.name) refl
+
+  same_refusal : (lines : List WordsLine) (i : ℕ) → refusal_at inputs clocks lines i ≡ refusal_at inputs others lines i
+  same_refusal lines i = same_then (line_refusal inputs clocks (names_said (take i lines))) (line_refusal inputs others (names_said (take i lines))) (slice_get lines i)
+      (λ line. same_entry (names_said (take i lines)) line.number (entry_of line.words))
+
+  pub same_params : (lines : List WordsLine) (params : List Param) → AreParamsOf inputs clocks lines params → AreParamsOf inputs others lines params
+  same_params lines params are = record { no_refusal = λ i. sym (same_refusal lines i) ∙ are.no_refusal i; count = are.count; each = are.each }
+
+  pub same_first : (lines : List WordsLine) (e : ParErr) → IsFirstRefusal inputs clocks lines e → IsFirstRefusal inputs others lines e
+  same_first lines e first = record {
+    place = first.place;
+    is = sym (same_refusal lines first.place) ∙ first.is;
+    none_before = λ i l. sym (same_refusal lines i) ∙ first.none_before i l;
+  }
+
+module _ (inputs clocks earlier : List (List ℕ)) (number : ℕ) (name : List ℕ) (init : Bool) where
+  abbrev pub is_over : Bool
+  is_over = ltb 65535 (length name) || leb 65535 (length earlier)
+
+  abbrev refusal : Option ParErr
+  refusal = entry_refusal inputs clocks earlier number (Some (record { name = name; init = init }))
+
+  known : has_name (inputs ++ clocks) name ≡ (has_name inputs name || has_name clocks name)
+  known = list_any-append (bytes_eq name) inputs clocks
+
+  within_limits : length name ≤ 65535 → length earlier < 65535 → is_over ≡ false
+  within_limits short few = or_from (ltb 65535 (length name)) (leb 65535 (length earlier)) (le-ltb 65535 (length name) short) (lt-leb 65535 (length earlier) few)
+
+  pub no_input : length name ≤ 65535 → length earlier < 65535 → has_name clocks name ≡ false → has_name inputs name ≡ false → refusal ≡ Some (NotInput number name)
+  no_input short few c i = rw (within_limits short few, known, i, c) refl
+
+  pub stood_earlier : length name ≤ 65535 → length earlier < 65535 → has_name clocks name ≡ false → has_name inputs name ≡ true → has_name earlier name ≡ true → refusal ≡ Some (Repeated number name)
+  stood_earlier short few c i e = rw (within_limits short few, known ∙ or_left (has_name inputs name) (has_name clocks name) i, c, e) refl
+
+  pub no_refusal : length name ≤ 65535 → length earlier < 65535 → has_name clocks name ≡ false → has_name inputs name ≡ true → has_name earlier name ≡ false → refusal ≡ None
+  no_refusal short few c i e = rw (within_limits short few, known ∙ or_left (has_name inputs name) (has_name clocks name) i, c, e) refl
+
+  -- what holds where there is none
+  not_over : refusal ≡ None → is_over ≡ false
+  not_over h = (none_both is_over (Parameters number) _ h).0
+
+  pub is_short : refusal ≡ None → length name ≤ 65535
+  is_short h = ltb-false 65535 (length name) (or_parts (ltb 65535 (length name)) (leb 65535 (length earlier)) (not_over h)).0
+
+  pub are_few : refusal ≡ None → length earlier < 65535
+  are_few h = leb-false 65535 (length earlier) (or_parts (ltb 65535 (length name)) (leb 65535 (length earlier)) (not_over h)).1
+
+  pub is_new : refusal ≡ None → has_name earlier name ≡ false
+  is_new h =
+      let a = (none_both is_over (Parameters number) _ h).1 in
+      let b = (none_both (not (has_name (inputs ++ clocks) name)) (NotInput number name) _ a).1 in
+      let c = (none_both (has_name clocks name) (IsClock number name) _ b).1 in
+      (none_both (has_name earlier name) (Repeated number name) None c).0

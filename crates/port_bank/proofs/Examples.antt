@@ -1,7 +1,7 @@
 -- Worked examples: four bits in two regions, and a send whose second port fails, with a spare and without one.
 use Rattle.port_bank.proofs.Common.{◌≡◌, ℕ, Bool, true, false, List, [], ◌∷◌, None, Some, Ok, zero, suc, ◌/◌, ◌+◌, ◌-◌, ◌^◌, ◌<◌, refl, ap, subst, ◌∙◌, arith, inl, inr, slice_get, none-some, same_Some, PortSeen, Accepts, Fails, Write, width, region_of, region, outside, BankSeen, all_ports, Called, Replaced, Sends, start, accepted, replaced, Loses, Plays, with_port, image, Holds, AreAscending, AreBitsOf, written, MovesWithCause, KeepsPlaces, LosesPlace, in_parts, from_region}
-use Rattle.port_bank.specs.Boxes.{MovesToEnd, TakesPlace}
-use Rattle.port_bank.proofs.MoveLemmas.{keeps_places, loses_place, moves_with_cause}
+use Rattle.port_bank.specs.Steps.{MovesToEnd, TakesPlace}
+use Rattle.port_bank.proofs.SendLemmas.{keeps_places, loses_place, moves_with_cause}
 
 abbrev pub bit : ℕ → Bool → Write
 bit address value = record { address = address; bit = value }

@@ -1,7 +1,6 @@
 -- What a bank shows of a configuration while writes of it are left, and so what it holds at the end of a send.
-use Rattle.port_bank.proofs.Common.{◌≡◌, ◌⊎◌, ℕ, ◌/◌, ◌<◌, ◌==◌, not, Bool, true, false, List, [], ◌∷◌, ◌++◌, map, Some, refl, ap, sym, ◌∙◌, subst, inl, inr, eqb-true, slice_set, slice_get, both_ways, map-append, slice_get_within, same_Some, In, choose, In-left, In-right, In-append, set_here, set_other, same_or, extended, PortSeen, Write, region_of, region, is_outside, outside, BankSeen, Called, Replaced, Sends, start, accepted, replaced, image, ShowsRegions, address_of, AreBitsOf, written, arith, rules}
-use Rattle.port_bank.proofs.ImageLemmas.{image_last, image_elsewhere, told_before}
-use Rattle.port_bank.proofs.RegionLemmas.{region_bits_are, address_in_region}
+use Rattle.port_bank.proofs.Common.{◌≡◌, ◌⊎◌, ℕ, ◌/◌, ◌<◌, ◌==◌, not, Bool, true, false, List, [], ◌∷◌, ◌++◌, map, Some, refl, ap, sym, ◌∙◌, subst, inl, inr, eqb-true, slice_set, slice_get, both_ways, map-append, slice_get_within, same_Some, In, choose, In-left, In-right, In-append, set_here, set_other, same_or, PortSeen, Write, region_of, region, is_outside, outside, BankSeen, Called, Replaced, Sends, start, accepted, replaced, image, ShowsRegions, address_of, AreBitsOf, written, arith, rules}
+use Rattle.port_bank.proofs.RegionLemmas.{image_last, image_elsewhere, told_before, region_bits_are, address_in_region}
 
 -- what is left after those of a region, and what was left before
 outside_in : (w i : ℕ) (writes : List Write) (write : Write) → In (outside w i writes) write → In writes write

@@ -1,9 +1,6 @@
 mod Common
-mod PartLemmas
-mod ImageLemmas
 mod RegionLemmas
 mod HoldLemmas
-mod MoveLemmas
 mod FilterLemmas
 mod SendLemmas
 mod PlayLemmas

@@ -1,10 +1,10 @@
 -- What a send that was played means: the places, the ports that moved, and the configuration that the bank holds.
-use Rattle.port_bank.proofs.Common.{◌≡◌, ℕ, ◌<◌, Bool, List, [], ◌∷◌, length, Some, Result, Ok, Err, OnOk, OnErr, refl, ap, sym, ◌∙◌, arith, subst, inr, slice_get, slice_get_within, none-some, MatchResult-weaker, PortSeen, Write, width, writes_from, BankSeen, bank_width, Sends, start, accepted, replaced, Reaches, Loses, Plays, with_port, Holds, ShowsRegions, AreBitsOf, written, IsLeft, MovesWithCause, KeepsPlaces, LosesPlace, rules}
+use Rattle.port_bank.proofs.Common.{◌≡◌, ℕ, ◌<◌, Bool, List, [], ◌∷◌, length, Result, Ok, Err, OnOk, OnErr, refl, ap, sym, arith, subst, slice_get_within, none-some, MatchResult-weaker, PortSeen, Write, width, writes_from, BankSeen, bank_width, Sends, start, accepted, replaced, Reaches, Loses, Plays, with_port, Holds, AreBitsOf, written, IsLeft, MovesWithCause, KeepsPlaces, LosesPlace, rules}
 use Rattle.tl_io.proofs.BitLemmas.{length-written}
 use Rattle.port_bank.specs.declared.bank.PortFault.{PortFault}
 use Rattle.port_bank.proofs.RegionLemmas.{wide, all_bits_are, all_addresses}
 use Rattle.port_bank.proofs.HoldLemmas.{Pends, pends, pends_at_first, holds_at_end}
-use Rattle.port_bank.proofs.MoveLemmas.{sends_become, loses_short, keeps_places, loses_place, moves_with_cause, loses_with_cause}
+use Rattle.port_bank.proofs.SendLemmas.{sends_become, loses_short, keeps_places, loses_place, moves_with_cause, loses_with_cause}
 
 pub plays_places : (config : List Bool) (writes : List Write) (old new : BankSeen) (result : Result Unit PortFault) → Plays config writes old new result → OnOk result (KeepsPlaces old new)
 plays_places config writes old new result p = MatchResult-weaker result p (λ _ r. keeps_places r.sends) (λ _ _. tt)

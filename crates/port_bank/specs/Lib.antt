@@ -7,4 +7,3 @@ pub mod Moves
 pub mod Seen
 -- What only bodies are compared with.
 pub mod Steps
-pub mod Boxes

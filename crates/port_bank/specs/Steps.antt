@@ -1,5 +1,5 @@
 -- Parts of a send: the load of one region, and one write.
-use Rattle.std.specs.Prelude.{◌≡◌, ◌≤◌, ℕ, Bool, false, nat_le, List, [], ◌∷◌, ◌++◌}
+use Rattle.std.specs.Prelude.{◌≡◌, ◌≤◌, ℕ, Bool, false, nat_le, List, [], ◌∷◌, ◌++◌, remove, slice_index_or, slice_set}
 use Rattle.std.specs.List.{filter}
 use Rattle.list_laws.specs.Members.{In}
 use Rattle.tl_io.specs.declared.Write.{Write}
@@ -53,3 +53,17 @@ pub record Steps (width : ℕ) (config : List Bool) (passed : ℕ) (write : Writ
 -- its region lost its port
 pub record FailsToStep (width : ℕ) (config : List Bool) (passed : ℕ) (write : Write) (i : ℕ) (old new : BankSeen) : Type 0 where
   pub on : (writes : List Write) (base : BankSeen) (left : List Write) → AreInOrder width (write ∷ left) → Reaches width config writes base (from_region width passed (write ∷ left)) old → Loses width config writes base i new
+
+-- the box of a place stands at the end
+pub record MovesToEnd {B : Type 0} (i : ℕ) (old new : List B) : Type 0 where
+  pub port : B
+  pub was : port ≡ slice_index_or old i port
+  pub now : new ≡ remove old i ++ port ∷ []
+
+-- a box took the place of another one, which stands at the end
+pub record TakesPlace {B : Type 0} (from i : ℕ) (old new : List B) : Type 0 where
+  pub spare : B
+  pub port : B
+  pub was : spare ≡ slice_index_or old from spare
+  pub there : port ≡ slice_index_or (remove old from) i port
+  pub now : new ≡ slice_set (remove old from) i spare ++ port ∷ []

@@ -1,6 +1,6 @@
 //! Moves of boxes within a list.
 ghost use Rattle.std.specs.Prelude.{◌≡◌, ◌<◌, ◌+◌, vec_len};
-ghost use Rattle.port_bank.specs.Boxes.{MovesToEnd, TakesPlace};
+ghost use Rattle.port_bank.specs.Steps.{MovesToEnd, TakesPlace};
 
 use std::mem;
 

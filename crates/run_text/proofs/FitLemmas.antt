@@ -1,5 +1,5 @@
 -- The events of a script fit what it may name.
-use Rattle.run_text.proofs.Common.{◌≡◌, ℕ, zero, suc, ◌||◌, Bool, true, false, not, eqb, ltb, leb, List, [], ◌∷◌, ◌++◌, length, Option, Some, None, bytes_eq, refl, sym, ap, ◌∙◌, subst, slice_get, option_map, option_and_then, or_parts, eqb-true, ltb-true, none-some, same_Some, slice_get_within, In, place_in, Assign, WordsLine, place_of, has_name, place_is, has_one_more, each_of, EventValue, Set, Cycle, Upset, Scrub, Image, Fits, NamesValue, Saying, sets, cycles, upsets, scrubs, images, said_of, settings_refusal, cycle_refusal, saying_refusal, line_refusal, assigned, assign_of, event_of, line_event, AreEventsOf, Setting, NotParameter, RepeatedInSet, Width, Address, Events, arith}
+use Rattle.run_text.proofs.Common.{◌≡◌, ℕ, zero, suc, Bool, true, false, eqb, ltb, leb, List, [], ◌∷◌, ◌++◌, length, Option, Some, None, bytes_eq, refl, sym, ap, ◌∙◌, slice_get, option_map, option_and_then, or_parts, eqb-true, ltb-true, none-some, same_Some, slice_get_within, In, place_in, Assign, WordsLine, place_of, has_name, place_is, has_one_more, each_of, EventValue, Set, Fits, NamesValue, Saying, said_of, settings_refusal, cycle_refusal, saying_refusal, line_refusal, assigned, assign_of, event_of, line_event, AreEventsOf, Setting, Events, arith}
 use Rattle.list_laws.proofs.Choice.{none_both, none_else}
 use Rattle.tl_io.specs.Assigns.{AreAssigned}
 use Rattle.run_text.proofs.EachLemmas.{each_at}

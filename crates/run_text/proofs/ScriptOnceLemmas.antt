@@ -1,5 +1,5 @@
 -- A text is one script at most, or has one refusal at most, and never both.
-use Rattle.run_text.proofs.Common.{List, ℕ, WordsLine, text_settled, NamesValue, refusal_at, line_event, script_err, IsFirstRefusal, AreEventsOf, HasOneReading, rules}
+use Rattle.run_text.proofs.Common.{List, ℕ, WordsLine, text_settled, NamesValue, script_err, IsFirstRefusal, AreEventsOf, HasOneReading, rules}
 use Rattle.tl_fault.specs.Settled.{IsSettled}
 use Rattle.tl_text.proofs.FirstLemmas.{one_first, none_first}
 use Rattle.run_text.proofs.EachLemmas.{each_once}

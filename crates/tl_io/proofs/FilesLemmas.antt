@@ -1,7 +1,7 @@
 -- Files as a finite map: what a write to one of them leaves.
 use Rattle.tl_io.proofs.Common.{◌≡◌, ℕ, List, Bool, true, false, cond, None, Some, refl, sym, ap, ◌∙◌, nat_cmp, is_eq, eq_by_cmp, slice_cmp, nat_list_cmp_total, tied_itself, get, insert, remove, get-insert, get-remove, same_map, IsAntisymmetric, slice_cmp-IsAntisymmetric, nat_cmp-IsAntisymmetric, Files}
 use Rattle.std.specs.declared.cmp.Ordering.{Ordering}
-use Rattle.std.specs.declared.cmp.Ordering.TheVariants.{Less, Equal, Greater}
+use Rattle.std.specs.declared.cmp.Ordering.TheVariants.{Equal}
 
 -- the two names tie
 abbrev pub is_same_name : List ℕ → List ℕ → Bool
@@ -11,9 +11,8 @@ pub antisymmetric : IsAntisymmetric (slice_cmp nat_cmp)
 antisymmetric = slice_cmp-IsAntisymmetric nat_cmp-IsAntisymmetric
 
 pub is_tied : (o : Ordering) → is_eq o ≡ true → o ≡ Equal
-is_tied Less e = cc
 is_tied Equal e = refl
-is_tied Greater e = cc
+is_tied o e = cc
 
 is_same_itself : (name : List ℕ) → is_same_name name name ≡ true
 is_same_itself name = ap is_eq (tied_itself nat_list_cmp_total name)
@@ -26,7 +25,7 @@ pub get-inserted_other : (files : Files) (name bytes other : List ℕ) → is_sa
 get-inserted_other files name bytes other e = get-insert nat_list_cmp_total files name bytes other ∙ ap (λ b. cond b (Some bytes) (get files other)) e
 
 -- a test that is repeated
-first_branch : {X : Type 0} (b : Bool) (x y z : X) → cond b x (cond b y z) ≡ cond b x z
+pub first_branch : {X : Type 0} (b : Bool) (x y z : X) → cond b x (cond b y z) ≡ cond b x z
 first_branch true x y z = refl
 first_branch false x y z = refl
 

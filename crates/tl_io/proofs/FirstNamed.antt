@@ -5,7 +5,7 @@ use Rattle.std.proofs.lemmas.List.Folds.{position_or_len-set}
 use Rattle.std.proofs.lemmas.List.Sums.{fails_before_first}
 use Rattle.std.proofs.lemmas.Bool.Decides.{nat_tests}
 use Rattle.std.proofs.lemmas.List.Quantifiers.{position-Some}
-use Rattle.tl_io.proofs.FilesLemmas.{antisymmetric, is_tied}
+use Rattle.tl_io.proofs.FilesLemmas.{antisymmetric, is_tied, first_branch}
 
 -- this is the first file of the name
 pub record IsFirstNamed (name : List ℕ) (files : List MemFile) (i : ℕ) : Type 0 where
@@ -31,16 +31,10 @@ entries f files = map (λ file. (string_bytes file.name, f file)) files
 abbrev found : {X : Type 0} → (MemFile → X) → List MemFile → List ℕ → Option X
 found f files name = find (slice_cmp nat_cmp) name (entries f files)
 
--- a test that is repeated: the inner branch is never reached
-repeated : {X : Type 0} (b : Bool) (x y z : X) → cond b x z ≡ cond b x (cond b y z)
-repeated true x y z = refl
-repeated false x y z = refl
-
 -- two tests that don't both pass change places
 swapped : {X : Type 0} (a b : Bool) (x y z : X) → (a ≡ true → b ≡ true → ⊥) → cond a x (cond b y z) ≡ cond b y (cond a x z)
 swapped true true x y z apart = absurd (apart refl refl)
-swapped true false x y z apart = refl
-swapped false b x y z apart = refl
+swapped a b x y z apart = refl
 
 -- what stands at the first file of a name is found under it
 pub found_first : {X : Type 0} (f : MemFile → X) (name : List ℕ) (files : List MemFile) (i : ℕ) (d : MemFile) → i < length files
@@ -72,7 +66,7 @@ found-set f name q [] i y d below here before same = absurd (omega arith)
 found-set f name q (x ∷ xs) zero y d below here before same =
     let n : name ≡ string_bytes x.name = same_text name (string_bytes x.name) here in
     ap (λ (m : List ℕ). cond (is_eq (slice_cmp nat_cmp q m)) (Some (f y)) (found f xs q)) same
-    ∙ repeated (is_eq (slice_cmp nat_cmp q name)) (Some (f y)) (Some (f x)) (found f xs q)
+    ∙ sym (first_branch (is_eq (slice_cmp nat_cmp q name)) (Some (f y)) (Some (f x)) (found f xs q))
     ∙ ap (λ (m : List ℕ). cond (is_eq (slice_cmp nat_cmp q name)) (Some (f y)) (cond (is_eq (slice_cmp nat_cmp q m)) (Some (f x)) (found f xs q))) n
 found-set f name q (x ∷ xs) (suc i) y d below here before same =
     let first : is_named name x ≡ false = before 0 (omega arith) in

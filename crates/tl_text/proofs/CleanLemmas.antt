@@ -10,22 +10,19 @@ pub record IsPart (at : ℕ) (part whole : List ℕ) : Type 0 where
   pub each : (i : ℕ) → i < length part → get_or whole (at + i) 0 ≡ get_or part i 0
 
 take_part : (n : ℕ) (xs : List ℕ) → IsPart 0 (take n xs) xs
-take_part n xs =
-    let l : length (take n xs) ≡ min n (length xs) = length-take n xs in record {
-      short = omega arith;
-      each = λ i h. let e : 0 + i ≡ i = omega arith in ap (λ k. get_or xs k 0) e ∙ sym (get_or-take n xs i 0 (omega arith));
-    }
+take_part n xs = record {
+  short = omega (arith, length-take n xs);
+  each = λ i h. let e : 0 + i ≡ i = omega arith in ap (λ k. get_or xs k 0) e ∙ sym (get_or-take n xs i 0 (omega (arith, length-take n xs)));
+}
 
 part_same : (xs : List ℕ) → IsPart 0 xs xs
 part_same xs = record { short = omega arith; each = λ i h. let e : 0 + i ≡ i = omega arith in ap (λ k. get_or xs k 0) e }
 
 part_twice : (at : ℕ) (a b c : List ℕ) → IsPart 0 a b → IsPart at b c → IsPart at a c
-part_twice at a b c p q =
-    let l : 0 + length a ≤ length b = p.short in
-    let m : at + length b ≤ length c = q.short in record {
-      short = omega arith;
-      each = λ i h. let e : 0 + i ≡ i = omega arith in q.each i (omega arith) ∙ ap (λ k. get_or b k 0) (sym e) ∙ p.each i h;
-    }
+part_twice at a b c p q = record {
+  short = omega (arith, p.short, q.short);
+  each = λ i h. let e : 0 + i ≡ i = omega arith in q.each i (omega (arith, p.short)) ∙ ap (λ k. get_or b k 0) (sym e) ∙ p.each i h;
+}
 
 -- the parts of a line stand at its start
 return_part : (rest : List (List ℕ)) (line : List ℕ) → IsPart 0 (without_return rest line) line
@@ -44,26 +41,22 @@ words_part line = part_twice 0 (words line) (before_comment line) line (words_be
 -- no `#` stands before the comment
 comment_after : (line : List ℕ) (i : ℕ) → i < length (words line) → get_or (words line) i 0 ≡ 35 → ⊥
 comment_after line i h is =
-    let p : IsPart 0 (words line) (before_comment line) = words_before_comment line in
     let q : IsPart 0 (words line) line = words_part line in
-    let s : 0 + length (words line) ≤ length (before_comment line) = p.short in
-    let l : length (before_comment line) ≡ min (position_or_len (λ b. eqb b 35) line) (length line) = length-take (position_or_len (λ b. eqb b 35) line) line in
-    let f : eqb (get_or line i 0) 35 ≡ false = fails_before_first (λ b. eqb b 35) line i 0 (omega arith) in
+    let f : eqb (get_or line i 0) 35 ≡ false =
+    fails_before_first (λ b. eqb b 35) line i 0 (omega (arith, (words_before_comment line).short, length-take (position_or_len (λ b. eqb b 35) line) line)) in
     let e : 0 + i ≡ i = omega arith in
     let g : get_or line i 0 ≡ 35 = ap (λ k. get_or line k 0) (sym e) ∙ q.each i h ∙ is in
-    let t : eqb (get_or line i 0) 35 ≡ true = eq-eqb (get_or line i 0) 35 g in
-    let wrong : ⊥ = cc in wrong
+    let t : eqb (get_or line i 0) 35 ≡ true = eq-eqb (get_or line i 0) 35 g in cc
 
 -- no byte passes a test that none passes
 passes_nowhere : (test : ℕ → Bool) (xs : List ℕ) (i : ℕ) → list_any test xs ≡ false → i < length xs → test (get_or xs i 0) ≡ false
 passes_nowhere test xs i none h = elim (cases_Bool (test (get_or xs i 0))) [ inl t ↦ absurd (let k : list_any test xs ≡ true = list_any_at test xs i 0 h t in let wrong : ⊥ = cc in wrong) | inr f ↦ f ]
 
 slash_ends : (bs : List ℕ) (i : ℕ) → i < length bs → get_or bs i 0 ≡ 92 → (suc i < length bs → is_blank (get_or bs (suc i) 0) ≡ true) → has_slash_end bs ≡ true
-slash_ends [] i h is blank = absurd (omega arith)
 slash_ends (b ∷ []) zero h is blank = eq-eqb b 92 is
-slash_ends (b ∷ []) (suc i) h is blank = absurd (omega arith)
 slash_ends (b ∷ c ∷ cs) zero h is blank = or_left (eqb b 92 && is_blank c) (has_slash_end (c ∷ cs)) (and_from (eqb b 92) (is_blank c) (eq-eqb b 92 is) (blank (omega arith)))
 slash_ends (b ∷ c ∷ cs) (suc i) h is blank = or_right (eqb b 92 && is_blank c) (has_slash_end (c ∷ cs)) (slash_ends (c ∷ cs) i (omega arith) is (λ l. blank (omega arith)))
+slash_ends bs i h is blank = absurd (omega arith)
 
 -- physical lines stand in a text, one behind the other
 abbrev pub Stand : List ℕ → ℕ → List (List ℕ) → Type 0
@@ -71,11 +64,10 @@ Stand text at [] = Unit {0}
 Stand text at (line ∷ rest) = IsPart at line text × Stand text (at + length line + 1) rest
 
 part_behind : (b at : ℕ) (part whole : List ℕ) → IsPart at part whole → IsPart (suc at) part (b ∷ whole)
-part_behind b at part whole p =
-    let s : at + length part ≤ length whole = p.short in record {
-      short = omega arith;
-      each = λ i h. let e : suc at + i ≡ suc (at + i) = omega arith in ap (λ k. get_or (b ∷ whole) k 0) e ∙ p.each i h;
-    }
+part_behind b at part whole p = record {
+  short = omega (arith, p.short);
+  each = λ i h. let e : suc at + i ≡ suc (at + i) = omega arith in ap (λ k. get_or (b ∷ whole) k 0) e ∙ p.each i h;
+}
 
 stand_behind : (b at : ℕ) (text : List ℕ) (lines : List (List ℕ)) → Stand text at lines → Stand (b ∷ text) (suc at) lines
 stand_behind b at text [] h = tt
@@ -89,11 +81,7 @@ longer_each b part whole p (suc i) h =
     let e : 0 + suc i ≡ suc (0 + i) = omega arith in ap (λ k. get_or (b ∷ whole) k 0) e ∙ p.each i (omega arith)
 
 part_longer : (b : ℕ) (part whole : List ℕ) → IsPart 0 part whole → IsPart 0 (b ∷ part) (b ∷ whole)
-part_longer b part whole p =
-    let s : 0 + length part ≤ length whole = p.short in record {
-      short = omega arith;
-      each = longer_each b part whole p;
-    }
+part_longer b part whole p = record { short = omega (arith, p.short); each = longer_each b part whole p }
 
 stand_longer : (b : ℕ) (text : List ℕ) (lines : List (List ℕ)) → Stand text 0 lines → Stand (b ∷ text) 0 (before_first b lines)
 stand_longer b text [] h = (record { short = omega arith; each = λ i l. let z : i ≡ 0 = omega arith in subst (λ k. get_or (b ∷ text) (0 + k) 0 ≡ get_or (b ∷ []) k 0) (sym z) refl }, tt)
@@ -127,11 +115,11 @@ range_byte : (text : List ℕ) (start end b : ℕ) → In (slice_range text star
 range_byte text start end b h =
     let p : (i : ℕ) × (i < length (slice_range text start end)) × (b ≡ get_or (slice_range text start end) i 0) = byte_in (slice_range text start end) b h in
     let l : length (slice_range text start end) ≡ min (end - start) (length (drop start text)) = length-take (end - start) (drop start text) in
-    let m : p.0 < length (slice_range text start end) = p.1 in record {
+    record {
       place = start + p.0;
       from = omega arith;
-      below = omega arith;
-      is = p.2 ∙ get_or-take (end - start) (drop start text) p.0 0 (omega arith) ∙ get_or-drop start text p.0 0;
+      below = omega (arith, p.1);
+      is = p.2 ∙ get_or-take (end - start) (drop start text) p.0 0 (omega (arith, p.1)) ∙ get_or-drop start text p.0 0;
     }
 
 -- a token within the text, with clean bytes
@@ -148,25 +136,13 @@ module _ (text : List ℕ) (at : ℕ) (line : List ℕ) (part : IsPart at line t
       ap (λ k. get_or text k 0) e ∙ p.each (i - at) (omega arith)
 
   module _ (fine : list_any is_bad line ≡ false) (ends : has_slash_end (words line) ≡ false) (token : Token) (r : IsRunAt at (words line) token) where
-    start_is : token.start ≡ at + r.first
-    start_is = r.start
-
-    end_is : token.end ≡ at + r.past
-    end_is = r.end
-
     fits : at + length (words line) ≤ length text
     fits = (part_twice at (words line) line text (words_part line) part).short
 
     bytes_length : length (token_bytes text token) ≡ r.past - r.first
     bytes_length =
-        let a : token.start ≡ at + r.first = r.start in
-        let b : token.end ≡ at + r.past = r.end in
-        let f : at + length (words line) ≤ length text = fits in
-        let w : r.past ≤ length (words line) = r.run.within in
-        let s : r.first < r.past = r.run.some in
         let l : length (token_bytes text token) ≡ min (token.end - token.start) (length (drop token.start text)) = length-take (token.end - token.start) (drop token.start text) in
-        let d : length (drop token.start text) ≡ length text - token.start = length-drop token.start text in
-        omega arith
+        omega (arith, r.start, r.end, r.run.some, r.run.within, fits, length-drop token.start text)
 
     -- where a byte of the token stands in the words
     record IsWordByte (b : ℕ) : Type 0 where
@@ -177,16 +153,11 @@ module _ (text : List ℕ) (at : ℕ) (line : List ℕ) (part : IsPart at line t
 
     word_byte : (b : ℕ) → In (token_bytes text token) b → IsWordByte b
     word_byte b h =
-        let a : token.start ≡ at + r.first = r.start in
-        let e : token.end ≡ at + r.past = r.end in
-        let w : r.past ≤ length (words line) = r.run.within in
-        let o : IsByteOf text token.start token.end b = range_byte text token.start token.end b h in
-        let f : token.start ≤ o.place = o.from in
-        let g : o.place < token.end = o.below in record {
+        let o : IsByteOf text token.start token.end b = range_byte text token.start token.end b h in record {
           place = o.place - at;
-          from = omega arith;
-          below = omega arith;
-          is = o.is ∙ byte_of o.place (omega arith) (omega arith);
+          from = omega (arith, r.start, o.from);
+          below = omega (arith, r.start, r.end, o.from, o.below);
+          is = o.is ∙ byte_of o.place (omega (arith, r.start, o.from)) (omega (arith, r.end, r.run.within, o.below));
         }
 
     blank_not : (b : ℕ) → In (token_bytes text token) b → is_blank b ≡ false
@@ -196,58 +167,42 @@ module _ (text : List ℕ) (at : ℕ) (line : List ℕ) (part : IsPart at line t
     bad_not b h =
         let w : IsWordByte b = word_byte b h in
         let p : IsPart 0 (words line) line = words_part line in
-        let l : 0 + length (words line) ≤ length line = p.short in
-        let m : w.place < r.past = w.below in
-        let n : r.past ≤ length (words line) = r.run.within in
         let e : 0 + w.place ≡ w.place = omega arith in
-        ap is_bad (w.is ∙ sym (p.each w.place (omega arith)) ∙ ap (λ k. get_or line k 0) e) ∙ passes_nowhere is_bad line w.place fine (omega arith)
+        ap is_bad (w.is ∙ sym (p.each w.place (omega (arith, r.run.within, w.below))) ∙ ap (λ k. get_or line k 0) e)
+        ∙ passes_nowhere is_bad line w.place fine (omega (arith, p.short, r.run.within, w.below))
 
     comment_not : (b : ℕ) → In (token_bytes text token) b → b ≡ 35 → ⊥
     comment_not b h is =
-        let w : IsWordByte b = word_byte b h in
-        let m : w.place < r.past = w.below in
-        let n : r.past ≤ length (words line) = r.run.within in
-        comment_after line w.place (omega arith) (sym w.is ∙ is)
+        let w : IsWordByte b = word_byte b h in comment_after line w.place (omega (arith, r.run.within, w.below)) (sym w.is ∙ is)
 
     last_byte : get_or (token_bytes text token) (length (token_bytes text token) - 1) 0 ≡ get_or (words line) (r.past - 1) 0
     last_byte =
-        let a : token.start ≡ at + r.first = r.start in
-        let e : token.end ≡ at + r.past = r.end in
-        let w : r.past ≤ length (words line) = r.run.within in
-        let s : r.first < r.past = r.run.some in
-        let l : length (token_bytes text token) ≡ r.past - r.first = bytes_length in
-        let k : length (token_bytes text token) - 1 ≡ r.past - r.first - 1 = omega arith in
-        let j : token.start + (r.past - r.first - 1) ≡ at + (r.past - 1) = omega arith in
+        let k : length (token_bytes text token) - 1 ≡ r.past - r.first - 1 = omega (arith, bytes_length) in
+        let j : token.start + (r.past - r.first - 1) ≡ at + (r.past - 1) = omega (arith, r.start, r.run.some) in
         let z : at + (r.past - 1) - at ≡ r.past - 1 = omega arith in
         ap (λ i. get_or (token_bytes text token) i 0) k
-        ∙ get_or-take (token.end - token.start) (drop token.start text) (r.past - r.first - 1) 0 (omega arith)
+        ∙ get_or-take (token.end - token.start) (drop token.start text) (r.past - r.first - 1) 0 (omega (arith, r.start, r.end, r.run.some))
         ∙ get_or-drop token.start text (r.past - r.first - 1) 0
-        ∙ ap (λ i. get_or text i 0) j ∙ byte_of (at + (r.past - 1)) (omega arith) (omega arith) ∙ ap (λ i. get_or (words line) i 0) z
+        ∙ ap (λ i. get_or text i 0) j ∙ byte_of (at + (r.past - 1)) (omega arith) (omega (arith, r.run.some, r.run.within)) ∙ ap (λ i. get_or (words line) i 0) z
 
     behind_blank : suc (r.past - 1) < length (words line) → is_blank (get_or (words line) (suc (r.past - 1)) 0) ≡ true
     behind_blank l =
-        let s : r.first < r.past = r.run.some in
-        let e : suc (r.past - 1) ≡ r.past = omega arith in
+        let e : suc (r.past - 1) ≡ r.past = omega (arith, r.run.some) in
         ap (λ i. is_blank (get_or (words line) i 0)) e ∙ r.run.behind (omega arith)
 
     slash_not : ends_in 92 (token_bytes text token) ≡ false
     slash_not = ne_eqb (get_or (token_bytes text token) (length (token_bytes text token) - 1) 0) 92 (λ is.
-        let s : r.first < r.past = r.run.some in
-        let w : r.past ≤ length (words line) = r.run.within in
-        let t : has_slash_end (words line) ≡ true = slash_ends (words line) (r.past - 1) (omega arith) (sym last_byte ∙ is) behind_blank in
-        let wrong : ⊥ = cc in wrong)
+        let t : has_slash_end (words line) ≡ true = slash_ends (words line) (r.past - 1) (omega (arith, r.run.some, r.run.within)) (sym last_byte ∙ is) behind_blank in
+        cc)
 
     good : IsGood text token
-    good =
-        let a : token.start ≡ at + r.first = r.start in
-        let e : token.end ≡ at + r.past = r.end in
-        let w : r.past ≤ length (words line) = r.run.within in
-        let s : r.first < r.past = r.run.some in
-        let f : at + length (words line) ≤ length text = fits in
-        let l : length (token_bytes text token) ≡ r.past - r.first = bytes_length in record {
-          within = record { order = omega arith; end = omega arith };
-          clean = record { bytes = record { some = omega arith; no_blank = blank_not; no_bad = bad_not; no_comment = comment_not }; no_slash = slash_not };
-        }
+    good = record {
+      within = record { order = omega (arith, r.start, r.end, r.run.some); end = omega (arith, r.end, r.run.within, fits) };
+      clean = record {
+        bytes = record { some = omega (arith, bytes_length, r.run.some); no_blank = blank_not; no_bad = bad_not; no_comment = comment_not };
+        no_slash = slash_not;
+      };
+    }
 
 -- The tokens of a line that isn't refused are good.
 pub tokens_good : (text : List ℕ) (at : ℕ) (rest : List (List ℕ)) (line : List ℕ) → IsPart at line text → list_any is_bad (without_return rest line) ≡ false → has_slash_end (words (without_return rest line)) ≡ false

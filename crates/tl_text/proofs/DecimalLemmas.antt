@@ -1,24 +1,15 @@
 -- The number that digits write.
-use Rattle.tl_text.proofs.Common.{◌≡◌, ℕ, ◌+◌, ◌-◌, ◌*◌, ◌<◌, ◌≤◌, Bool, true, false, ◌&&◌, cond, List, [], ◌∷◌, length, get_or, drop, Some, None, refl, sym, ap, ◌∙◌, arith, ltb, le-ltb, and_right, true≢false, drop_more, is_decimal, number_from, decimal_of}
+use Rattle.tl_text.proofs.Common.{◌≡◌, ℕ, ◌+◌, ◌-◌, ◌*◌, ◌<◌, ◌≤◌, ◌&&◌, List, [], ◌∷◌, length, get_or, drop, Some, None, sym, ap, ◌∙◌, arith, ltb, le-ltb, and_right, cond-false, drop_more, is_decimal, number_from, decimal_of}
 
 -- more digits make no smaller number
 number_from_least : (n : ℕ) (bs : List ℕ) → n ≤ number_from n bs
 number_from_least n [] = omega arith
 number_from_least n (b ∷ bs) = let h : 10 * n + (b - 48) ≤ number_from (10 * n + (b - 48)) bs = number_from_least (10 * n + (b - 48)) bs in omega arith
 
-cond_none : (b : Bool) (n : ℕ) → b ≡ false → cond b (Some n) None ≡ None
-cond_none true n h = absurd (true≢false h)
-cond_none false n h = refl
-
--- a number that is too large
-pub decimal_large : (text : List ℕ) → 18446744073709551616 ≤ number_from 0 text → decimal_of text ≡ None
-decimal_large text large =
-    cond_none (is_decimal text && ltb (number_from 0 text) 18446744073709551616) (number_from 0 text) (and_right (is_decimal text) (ltb (number_from 0 text) 18446744073709551616) (le-ltb (number_from 0 text) 18446744073709551616 large))
-
 -- the number so far with one more digit is too large
 pub decimal_stops : (text : List ℕ) (n i : ℕ) → i < length text → number_from n (drop i text) ≡ number_from 0 text → 18446744073709551616 ≤ 10 * n + (get_or text i 0 - 48) → decimal_of text ≡ None
 decimal_stops text n i within same large =
     let m : ℕ = 10 * n + (get_or text i 0 - 48) in
-    let e : number_from 0 text ≡ number_from m (drop (i + 1) text) = sym same ∙ ap (number_from n) (drop_more text i 0 within) in
-    let h : m ≤ number_from m (drop (i + 1) text) = number_from_least m (drop (i + 1) text) in
-    decimal_large text (omega arith)
+    let e : 18446744073709551616 ≤ number_from 0 text = omega (arith, number_from_least m (drop (i + 1) text), sym same ∙ ap (number_from n) (drop_more text i 0 within)) in
+    cond-false (is_decimal text && ltb (number_from 0 text) 18446744073709551616) (Some (number_from 0 text)) None
+    (and_right (is_decimal text) (ltb (number_from 0 text) 18446744073709551616) (le-ltb (number_from 0 text) 18446744073709551616 e))

@@ -1,5 +1,5 @@
 -- Physical lines are read one by one, and the lines read so far stand before the rest.
-use Rattle.tl_text.proofs.Common.{◌≡◌, ℕ, ◌+◌, ◌-◌, ◌<◌, ◌≤◌, Bool, true, false, cond, eqb, List, [], ◌∷◌, ◌++◌, length, get_or, take, drop, Option, Some, None, Result, Ok, Err, refl, sym, ap, ◌∙◌, arith, length-take, length-drop, get_or-drop, append_assoc, slice_range, list_any, TextErr, BadByte, TrailingSlash, Memory, LineValue, is_bad, has_slash_end, words, goes_on, with_physical, physical_lines, before_first, lines_from, lines_of, closed, put_before, without_return, without_last, ends_in, OrMemory, refusal_of}
+use Rattle.tl_text.proofs.Common.{◌≡◌, ℕ, ◌+◌, ◌-◌, ◌<◌, ◌≤◌, Bool, true, false, cond, eqb, List, [], ◌∷◌, ◌++◌, length, get_or, take, drop, Option, Some, None, Result, Ok, Err, refl, sym, ap, ◌∙◌, arith, length-take, length-drop, get_or-drop, append_assoc, slice_range, list_any, TextErr, BadByte, TrailingSlash, Memory, LineValue, is_bad, has_slash_end, words, goes_on, with_physical, physical_lines, before_first, lines_from, closed, put_before, without_return, without_last, ends_in, OrMemory, refusal_of}
 use Rattle.std.proofs.lemmas.List.{drop_more, drop_all, take_more, append-nil}
 use Rattle.std.proofs.lemmas.Bool.{eq-eqb, ne_eqb, cond-true, cond-false}
 use Rattle.tl_text.specs.Reading.{Reading, line_result, with_line, all_lines}
@@ -38,10 +38,8 @@ all_lines-closed done (Some line) = sym (counted_after (eqb (length line.tokens)
 module _ (number place : ℕ) (s : Reading) (rest : List (List ℕ)) (more : LineValue) where
   read_cases : (bad slash goes : Bool) → prepended s.done (cond bad (Err (BadByte number)) (cond slash (Err (TrailingSlash number)) (cond goes (lines_from (number + 1) place (Some more) rest) (put_before more (lines_from (number + 1) place None rest)))))
       ≡ read_on (number + 1) place rest (cond bad (Err (BadByte number)) (cond slash (Err (TrailingSlash number)) (Ok (cond goes (record { done = s.done; unfinished = Some more }) (record { done = with_line s.done more; unfinished = None })))))
-  read_cases true slash goes = refl
-  read_cases false true goes = refl
-  read_cases false false true = refl
   read_cases false false false = sym (with_line-prepended s.done more (lines_from (number + 1) place None rest))
+  read_cases bad slash goes = refl
 
 -- the first physical line is read, and then the others
 pub line_read : (number at : ℕ) (s : Reading) (line : List ℕ) (rest : List (List ℕ))
@@ -66,9 +64,8 @@ begun-before_first bytes b [] = refl
 begun-before_first bytes b (line ∷ lines) = ap (λ (l : List ℕ). l ∷ lines) (sym (append_assoc bytes (b ∷ []) line))
 
 begun_same : (b : Bool) (byte : ℕ) (lines : List (List ℕ)) → begun [] (cond b ([] ∷ lines) (before_first byte lines)) ≡ cond b ([] ∷ lines) (before_first byte lines)
-begun_same true byte lines = refl
-begun_same false byte [] = refl
 begun_same false byte (line ∷ lines) = refl
+begun_same b byte lines = refl
 
 -- no bytes before the physical lines, of which there is one at least
 pub begun_none : (text : List ℕ) → begun [] (physical_lines text) ≡ physical_lines text
@@ -97,9 +94,6 @@ prepended_none : (r : Result (List LineValue) TextErr) → prepended [] r ≡ r
 prepended_none (Ok lines) = refl
 prepended_none (Err e) = refl
 
-pub reads_start : (text : List ℕ) → reads text 0 1 0 (record { done = []; unfinished = None }) ≡ lines_of text
-reads_start text = prepended_none (lines_from 1 0 None (begun [] (physical_lines text))) ∙ ap (lines_from 1 0 None) (begun_none text)
-
 -- it stays the same over a byte that is no line feed
 pub reads_other : (text : List ℕ) (i number start : ℕ) (s : Reading) → start ≤ i → i < length text → (get_or text i 0 ≡ 10 → ⊥) → reads text i number start s ≡ reads text (i + 1) number start s
 reads_other text i number start s le within other =
@@ -112,9 +106,8 @@ abbrev pub chomped : List ℕ → List ℕ
 chomped line = cond (ends_in 13 line) (without_last line) line
 
 return_before : (b : Bool) (byte : ℕ) (lines : List (List ℕ)) (line : List ℕ) → without_return (cond b ([] ∷ lines) (before_first byte lines)) line ≡ chomped line
-return_before true byte lines line = refl
-return_before false byte [] line = refl
 return_before false byte (next ∷ lines) line = refl
+return_before b byte lines line = refl
 
 return_dropped : (text line : List ℕ) → without_return (physical_lines text) line ≡ chomped line
 return_dropped [] line = refl
@@ -151,6 +144,5 @@ reads_end text i number start s end =
 -- a refused line refuses the text
 pub read_refused : (number at : ℕ) (rest : List (List ℕ)) (r : Result Reading TextErr) (lines : Result (List LineValue) TextErr) (e : TextErr)
     → OrMemory refusal_of (λ f. r ≡ Err f) e → lines ≡ read_on number at rest r → OrMemory refusal_of (λ f. lines ≡ Err f) e
-read_refused number at rest r lines (BadByte n) gives is = is ∙ ap (read_on number at rest) gives
-read_refused number at rest r lines (TrailingSlash n) gives is = is ∙ ap (read_on number at rest) gives
 read_refused number at rest r lines Memory gives is = tt
+read_refused number at rest r lines e gives is = is ∙ ap (read_on number at rest) gives

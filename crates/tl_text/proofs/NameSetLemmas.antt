@@ -1,6 +1,7 @@
 -- Names as sets: whether a name is among them, its place, and names added one by one.
 use Rattle.tl_text.proofs.Common.{◌≡◌, ℕ, ◌+◌, ◌<◌, ◌≤◌, Bool, true, false, not, ◌||◌, ltb, List, [], ◌∷◌, ◌++◌, length, is_some, Option, Some, None, refl, sym, ap, ◌∙◌, subst, inl, inr, arith, append_assoc, append-nil, length-append, filter, slice_get, bytes_eq, position_or_len, find, cases_Bool, or_cases, or_left, or_right, cond-true, cond-false, ltb-true, false≢true, none-some, same_Some, cond_some, find_at, list_any-append, In, position_none, list_any-position_none, place_of, has_name, with_name, with_names, AreOnce}
 use lib.Pointwise.{bytes_decides}
+use Rattle.std.proofs.Math.Bool.{or-false, or_assoc}
 use Rattle.list_laws.proofs.Places.{at_within}
 
 -- the test of names says whether a name is a member
@@ -54,10 +55,6 @@ pub or_nothing : (b c : Bool) → c ≡ false → b || (c || false) ≡ b
 or_nothing true c h = refl
 or_nothing false c h = ap (λ d. d || false) h
 
-or_false : (b : Bool) → b || false ≡ b
-or_false true = refl
-or_false false = refl
-
 -- one more name
 pub has_one_more : (names : List (List ℕ)) (n x : List ℕ) → has_name (names ++ n ∷ []) x ≡ (has_name names x || (bytes_eq x n || false))
 has_one_more names n x = list_any-append (bytes_eq x) names (n ∷ [])
@@ -84,23 +81,18 @@ more_names index names once = once_names index index names once (λ x i. refl)
 
 -- what is among names and more of them
 or_same : (a b : Bool) → (b ≡ true → a ≡ true) → a ≡ (a || b)
-or_same true b h = refl
 or_same false true h = h refl
-or_same false false h = refl
+or_same a b h = refl
 
 has_with_name : (names : List (List ℕ)) (n x : List ℕ) → has_name (with_name names n) x ≡ (has_name names x || bytes_eq x n)
 has_with_name names n x = elim (cases_Bool (has_name names n)) [
   | inl t ↦ ap (λ ms. has_name ms x) (cond-true (has_name names n) names (names ++ n ∷ []) t) ∙ or_same (has_name names x) (bytes_eq x n) (λ e. ap (has_name names) ((bytes_decides x n).0 e) ∙ t)
-  | inr f ↦ ap (λ ms. has_name ms x) (cond-false (has_name names n) names (names ++ n ∷ []) f) ∙ has_one_more names n x ∙ ap (λ b. has_name names x || b) (or_false (bytes_eq x n))
+  | inr f ↦ ap (λ ms. has_name ms x) (cond-false (has_name names n) names (names ++ n ∷ []) f) ∙ has_one_more names n x ∙ ap (λ b. has_name names x || b) (or-false (bytes_eq x n))
 ]
 
-or_or : (a b c : Bool) → ((a || b) || c) ≡ (a || (b || c))
-or_or true b c = refl
-or_or false b c = refl
-
 pub has_with_names : (names more : List (List ℕ)) (x : List ℕ) → has_name (with_names names more) x ≡ (has_name names x || has_name more x)
-has_with_names names [] x = sym (or_false (has_name names x))
-has_with_names names (n ∷ more) x = has_with_names (with_name names n) more x ∙ ap (λ b. b || has_name more x) (has_with_name names n x) ∙ or_or (has_name names x) (bytes_eq x n) (has_name more x)
+has_with_names names [] x = sym (or-false (has_name names x))
+has_with_names names (n ∷ more) x = has_with_names (with_name names n) more x ∙ ap (λ b. b || has_name more x) (has_with_name names n x) ∙ or_assoc (has_name names x) (bytes_eq x n) (has_name more x)
 
 -- names are added in turn
 pub with_names-append : (names some more : List (List ℕ)) → with_names names (some ++ more) ≡ with_names (with_names names some) more

@@ -27,15 +27,11 @@ word_small text token = simp length-take (omega arith)
 
 words_small : (text : List ℕ) (tokens : List Token) → words_size (map (token_bytes text) tokens) ≤ tokens_size tokens
 words_small text [] = omega arith
-words_small text (token ∷ tokens) =
-    let h : length (token_bytes text token) ≤ token.end - token.start = word_small text token in
-    let r : words_size (map (token_bytes text) tokens) ≤ tokens_size tokens = words_small text tokens in omega arith
+words_small text (token ∷ tokens) = omega (arith, word_small text token, words_small text tokens)
 
 lines_by_places : (text : List ℕ) (lines : List LineValue) → lines_size text lines ≤ places_size lines
 lines_by_places text [] = omega arith
-lines_by_places text (line ∷ lines) =
-    let h : words_size (map (token_bytes text) line.tokens) ≤ tokens_size line.tokens = words_small text line.tokens in
-    let r : lines_size text lines ≤ places_size lines = lines_by_places text lines in omega arith
+lines_by_places text (line ∷ lines) = omega (arith, words_small text line.tokens, lines_by_places text lines)
 
 tokens-append : (xs ys : List Token) → tokens_size (xs ++ ys) ≡ tokens_size xs + tokens_size ys
 tokens-append [] ys = omega arith
@@ -50,13 +46,11 @@ spans_short : (bs : List ℕ) → AreShort bs
 spans_short [] = record { outside = λ at. omega arith; inside = λ at start h. omega arith }
 spans_short (b ∷ bs) = record {
   outside = λ at.
-      let o : tokens_size (spans (at + 1) None bs) ≤ length bs + 1 = (spans_short bs).outside (at + 1) in
-      let i : tokens_size (spans (at + 1) (Some at) bs) ≤ (at + 1 - at) + length bs + 1 = (spans_short bs).inside (at + 1) at (omega arith) in
-      choose_one (λ ts. tokens_size ts ≤ length (b ∷ bs) + 1) (is_blank b) (spans (at + 1) None bs) (spans (at + 1) (Some at) bs) (omega arith) (omega arith);
+      choose_one (λ ts. tokens_size ts ≤ length (b ∷ bs) + 1) (is_blank b) (spans (at + 1) None bs) (spans (at + 1) (Some at) bs)
+      (omega (arith, (spans_short bs).outside (at + 1))) (omega (arith, (spans_short bs).inside (at + 1) at (omega arith)));
   inside = λ at start h.
-      let o : tokens_size (spans (at + 1) None bs) ≤ length bs + 1 = (spans_short bs).outside (at + 1) in
-      let i : tokens_size (spans (at + 1) (Some start) bs) ≤ (at + 1 - start) + length bs + 1 = (spans_short bs).inside (at + 1) start (omega arith) in
-      choose_one (λ ts. tokens_size ts ≤ (at - start) + length (b ∷ bs) + 1) (is_blank b) (record { start = start; end = at } ∷ spans (at + 1) None bs) (spans (at + 1) (Some start) bs) (omega arith) (omega arith);
+      choose_one (λ ts. tokens_size ts ≤ (at - start) + length (b ∷ bs) + 1) (is_blank b) (record { start = start; end = at } ∷ spans (at + 1) None bs) (spans (at + 1) (Some start) bs)
+      (omega (arith, (spans_short bs).outside (at + 1))) (omega (arith, (spans_short bs).inside (at + 1) start (omega arith)));
 }
 
 tokens_short : (at : ℕ) (bs : List ℕ) → tokens_size (tokens_at at bs) ≤ length bs + 1
@@ -77,9 +71,8 @@ content_short line =
 
 words_short : (line : List ℕ) → length (words line) ≤ length line
 words_short line =
-    let c : length (content line) ≤ length line = content_short line in
-    let w : length (without_last (content line)) ≤ length (content line) = take_short (length (content line) - 1) (content line) in
-    choose_one (λ xs. length xs ≤ length line) (goes_on line) (without_last (content line)) (content line) (omega arith) (omega arith)
+    choose_one (λ xs. length xs ≤ length line) (goes_on line) (without_last (content line)) (content line)
+    (omega (arith, content_short line, take_short (length (content line) - 1) (content line))) (content_short line)
 
 -- a line that goes on, and what follows
 abbrev unfinished_size : Option LineValue → ℕ
@@ -93,10 +86,7 @@ extended_size number (Some line) tokens = tokens-append line.tokens tokens
 physical_size : (number at : ℕ) (unfinished : Option LineValue) (rest : List (List ℕ)) (line : List ℕ) → tokens_size (with_physical number at unfinished (without_return rest line)).tokens ≤ unfinished_size unfinished + (length line + 1)
 physical_size number at unfinished rest line =
     let kept : List ℕ = without_return rest line in
-    let e : tokens_size (with_physical number at unfinished kept).tokens ≡ unfinished_size unfinished + tokens_size (tokens_at at (words kept)) = extended_size number unfinished (tokens_at at (words kept)) in
-    let s : tokens_size (tokens_at at (words kept)) ≤ length (words kept) + 1 = tokens_short at (words kept) in
-    let w : length (words kept) ≤ length kept = words_short kept in
-    let r : length kept ≤ length line = return_short rest line in omega arith
+    omega (arith, extended_size number unfinished (tokens_at at (words kept)), tokens_short at (words kept), words_short kept, return_short rest line)
 
 counted_size : (line : LineValue) (lines : List LineValue) → places_size (counted line lines) ≤ tokens_size line.tokens + places_size lines
 counted_size line lines = choose_one (λ ls. places_size ls ≤ tokens_size line.tokens + places_size lines) (eqb (length line.tokens) 0) lines (line ∷ lines) (omega arith) (omega arith)
@@ -122,17 +112,14 @@ within_put most here later line (Err e) h m w = within_err most e
 within_put most here later line (Ok lines) h m w = record {
   each = λ ls e.
       let same : counted line lines ≡ ls = cc in
-      let c : places_size (counted line lines) ≤ tokens_size line.tokens + places_size lines = counted_size line lines in
-      let l : places_size lines ≤ later = w.each lines refl in
-      subst (λ xs. places_size xs ≤ most) same (omega arith);
+      subst (λ xs. places_size xs ≤ most) same (omega (arith, w.each lines refl, counted_size line lines));
 }
 
 lines_within : (number at : ℕ) (unfinished : Option LineValue) (ps : List (List ℕ)) (most : ℕ) → unfinished_size unfinished + bytes_size ps ≤ most → AreWithin most (lines_from number at unfinished ps)
 lines_within number at unfinished [] most h = record {
   each = λ lines e.
       let same : closed unfinished ≡ lines = cc in
-      let c : places_size (closed unfinished) ≤ unfinished_size unfinished = closed_size unfinished in
-      subst (λ xs. places_size xs ≤ most) same (omega arith);
+      subst (λ xs. places_size xs ≤ most) same (omega (arith, closed_size unfinished));
 }
 lines_within number at unfinished (line ∷ rest) most h =
     let kept : List ℕ = without_return rest line in
@@ -163,5 +150,4 @@ physical_lines_size (b ∷ bs) =
 pub lines_small : (text : List ℕ) (lines : List LineValue) → lines_of text ≡ Ok lines → lines_size text lines ≤ length text + 1
 lines_small text lines are =
     let p : bytes_size (physical_lines text) ≡ length text + 1 = physical_lines_size text in
-    let w : places_size lines ≤ length text + 1 = (lines_within 1 0 None (physical_lines text) (length text + 1) (omega arith)).each lines are in
-    let l : lines_size text lines ≤ places_size lines = lines_by_places text lines in omega arith
+    omega (arith, (lines_within 1 0 None (physical_lines text) (length text + 1) (omega arith)).each lines are, lines_by_places text lines)

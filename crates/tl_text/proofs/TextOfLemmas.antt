@@ -1,5 +1,5 @@
 -- A text has one meaning at most, or one refusal at most, and never both, where lines have.
-use Rattle.tl_text.proofs.Common.{◌≡◌, ℕ, List, map, Option, None, Ok, Err, refl, sym, subst, Unless, OrMemory, LineValue, WordsLine, words_line, lines_of, refusal_of, TextErr, BadByte, TrailingSlash, Memory}
+use Rattle.tl_text.proofs.Common.{◌≡◌, ℕ, List, map, Option, None, Ok, Err, refl, sym, subst, Unless, OrMemory, LineValue, WordsLine, words_line, lines_of, refusal_of, TextErr, Memory}
 use Rattle.tl_fault.specs.RefusalValue.{RefusalValue}
 use Rattle.tl_fault.specs.Settled.{IsSettled, IsAfter, IsFaultAfter, passed_on, here}
 use Rattle.tl_fault.proofs.OrMemoryLemmas.{Unless-of}
@@ -36,8 +36,6 @@ module _ {V E : Type 0} (own : TextErr → E) (Is : List WordsLine → V → Typ
 -- the error of a reader that stands for a refusal of the lines
 pub lines_fault : {E : Type 0} (own : TextErr → E) (told : E → Option RefusalValue) (text : List ℕ) (error : TextErr) (e : E) → e ≡ own error → told (own Memory) ≡ None → OrMemory refusal_of (λ x. lines_of text ≡ Err x) error
     → OrMemory told (IsLinesFault own text) e
-lines_fault own told text (BadByte line) e is none said =
-    subst (OrMemory told (IsLinesFault own text)) (sym is) (Unless-of {P = IsLinesFault own text (own (BadByte line))} (told (own (BadByte line))) (record { error = BadByte line; lines_are = said; is = refl }))
-lines_fault own told text (TrailingSlash line) e is none said =
-    subst (OrMemory told (IsLinesFault own text)) (sym is) (Unless-of {P = IsLinesFault own text (own (TrailingSlash line))} (told (own (TrailingSlash line))) (record { error = TrailingSlash line; lines_are = said; is = refl }))
 lines_fault own told text Memory e is none said = subst (OrMemory told (IsLinesFault own text)) (sym is) (subst (λ o. Unless o (IsLinesFault own text (own Memory))) (sym none) tt)
+lines_fault own told text error e is none said =
+    subst (OrMemory told (IsLinesFault own text)) (sym is) (Unless-of {P = IsLinesFault own text (own error)} (told (own error)) (record { error = error; lines_are = said; is = refl }))

@@ -134,12 +134,11 @@ module _ (at b : ℕ) (bs : List ℕ) where
 
   all_one : (tokens : List Token) → is_blank b ≡ false → begins_run bs ≡ false → AreRuns (at + 1) bs tokens
       → (first past : ℕ) → IsRun (b ∷ bs) first past → In (token_of at (at + 1) ∷ tokens) (token_of (at + first) (at + past))
-  all_one tokens dark ends h zero zero r = absurd (omega arith)
   all_one tokens dark ends h zero (suc zero) r = inl (ap (λ n. token_of n (at + 1)) (omega arith))
   all_one tokens dark ends h zero (suc (suc past)) r = true_false (is_blank (get_or bs 0 0)) (stops bs ends (omega arith)) (r.inside 1 (omega arith) (omega arith))
-  all_one tokens dark ends h (suc first) zero r = absurd (omega arith)
   all_one tokens dark ends h (suc first) (suc past) r =
       inr (moved tokens (at + 1 + first) (at + 1 + past) (at + suc first) (at + suc past) (omega arith) (omega arith) (h.all first past (without_byte b bs first past r)))
+  all_one tokens dark ends h first zero r = absurd (omega arith)
 
   above : (tokens : List Token) → AreRuns (at + 1) bs tokens → (token : Token) → In tokens token → at < token.start
   above tokens h token i = let r : IsRunAt (at + 1) bs token = h.only token i in omega (arith, r.start)
@@ -164,15 +163,13 @@ module _ (at b : ℕ) (bs : List ℕ) where
       }
   only_longer t ts here dark h token (inr i) =
       let r : IsRunAt (at + 1) bs token = h.only token (inr i) in
-      let less : t.start < token.start = h.ascending.0 token.start (In-map (λ t. t.start) ts token i) in
-      further token r (λ z. absurd (omega (arith, r.start)))
+      further token r (λ z. absurd (omega (arith, h.ascending.0 token.start (In-map (λ t. t.start) ts token i), r.start)))
 
   first_longer : (t : Token) (ts : List Token) (past : ℕ) → t.start ≡ at + 1 → AreRuns (at + 1) bs (t ∷ ts) → In (t ∷ ts) (token_of (at + 1 + 0) (at + 1 + past)) → In (token_of at t.end ∷ ts) (token_of (at + 0) (at + suc past))
   first_longer t ts past here h (inl e) =
       let f : at + 1 + past ≡ t.end = ap (λ t. t.end) e in
       inl (ap (λ n. token_of n (at + suc past)) (omega arith) ∙ ap (λ n. token_of at n) (omega arith))
-  first_longer t ts past here h (inr i) =
-      let less : t.start < at + 1 + 0 = h.ascending.0 (at + 1 + 0) (In-map (λ t. t.start) ts _ i) in absurd (omega arith)
+  first_longer t ts past here h (inr i) = absurd (omega (arith, h.ascending.0 (at + 1 + 0) (In-map (λ t. t.start) ts _ i)))
 
   later_longer : (t : Token) (ts : List Token) (first past : ℕ) → t.start ≡ at + 1 → In (t ∷ ts) (token_of (at + 1 + suc first) (at + 1 + past)) → In (token_of at t.end ∷ ts) (token_of (at + suc (suc first)) (at + suc past))
   later_longer t ts first past here (inl e) = let f : at + 1 + suc first ≡ t.start = ap (λ t. t.start) e in absurd (omega arith)

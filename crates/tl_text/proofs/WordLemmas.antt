@@ -76,18 +76,16 @@ first_of [] d l = absurd (omega arith)
 first_of (b ∷ bs) d l = refl
 
 more_digits : (n : ℕ) (ds : List ℕ) → 10 ≤ n → IsNumeral (n / 10) ds → IsNumeral n (ds ++ ((48 + n % 10) ∷ []))
-more_digits n ds l k =
-    let v : number_from 0 ds ≡ n / 10 = k.value in
-    record {
-      digits = λ b i. elim (In-append ds ((48 + n % 10) ∷ []) b i) [
-        | inl j ↦ k.digits b j
-        | inr j ↦ elim j [ inl e ↦ (let q : b ≡ 48 + n % 10 = e in (omega arith, omega arith)) | inr x ↦ absurd x ]
-      ];
-      some = omega (arith, length-append ds ((48 + n % 10) ∷ []));
-      first = λ p e. k.first (omega arith) (sym (first_of ds (48 + n % 10) k.some) ∙ e);
-      one = λ z. absurd (omega arith);
-      value = number_from-push ds 0 (48 + n % 10) ∙ (let q : 10 * number_from 0 ds + (48 + n % 10 - 48) ≡ n = omega arith in q);
-    }
+more_digits n ds l k = record {
+  digits = λ b i. elim (In-append ds ((48 + n % 10) ∷ []) b i) [
+    | inl j ↦ k.digits b j
+    | inr j ↦ elim j [ inl e ↦ (let q : b ≡ 48 + n % 10 = e in (omega arith, omega arith)) | inr x ↦ absurd x ]
+  ];
+  some = omega (arith, length-append ds ((48 + n % 10) ∷ []));
+  first = λ p e. k.first (omega arith) (sym (first_of ds (48 + n % 10) k.some) ∙ e);
+  one = λ z. absurd (omega arith);
+  value = number_from-push ds 0 (48 + n % 10) ∙ (let q : 10 * number_from 0 ds + (48 + n % 10 - 48) ≡ n = omega (arith, k.value) in q);
+}
 
 numeral : (n : ℕ) → n < 2 ^ 64 → IsNumeral n (decimal n)
 numeral n l = decimal_by_steps IsNumeral one_digit more_digits n l

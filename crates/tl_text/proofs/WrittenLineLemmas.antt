@@ -1,5 +1,5 @@
 -- Lines of clean words are read as these words.
-use Rattle.tl_text.proofs.Common.{◌≡◌, ℕ, suc, ◌+◌, ◌-◌, ◌<◌, Bool, true, false, cond, not, eqb, ◌&&◌, List, [], ◌∷◌, ◌++◌, length, map, take, get_or, Some, None, Result, Ok, Err, refl, sym, ap, subst, ◌∙◌, inl, inr, arith, append_assoc, append-nil, length-append, list_any, suffix_len, slice_range, flat_map, list_any-append, suffix_len-take_no, ne_eqb, or_from, or_parts, In, none_pass, In-get_or, Token, TextErr, BadByte, TrailingSlash, LineValue, WordsLine, words_line, token_bytes, is_bad, has_slash_end, words, content, trimmed, before_comment, ends_in, goes_on, physical_lines, before_first, without_return, put_before, lines_from, lines_of, with_physical, is_blank, begins_run, lengthened, tokens_at, IsClean}
+use Rattle.tl_text.proofs.Common.{◌≡◌, ℕ, suc, ◌+◌, ◌-◌, ◌<◌, Bool, true, false, cond, not, eqb, ◌&&◌, List, [], ◌∷◌, ◌++◌, length, map, take, get_or, Some, None, Result, Ok, Err, refl, sym, ap, subst, ◌∙◌, inl, inr, arith, append_assoc, append-nil, length-append, list_any, suffix_len, slice_range, flat_map, list_any-append, suffix_len-take_no, ne_eqb, or_from, or_parts, and_right, In, none_pass, In-get_or, Token, TextErr, BadByte, TrailingSlash, LineValue, WordsLine, words_line, token_bytes, is_bad, has_slash_end, words, content, trimmed, before_comment, ends_in, goes_on, physical_lines, before_first, without_return, put_before, lines_from, lines_of, with_physical, is_blank, begins_run, lengthened, tokens_at, IsClean}
 use Rattle.std.proofs.Math.Seq.{drop-append_seam, take-append_seam, take-length, get_or-append_right}
 use Rattle.tl_text.specs.WrittenText.{words_text, line_text}
 
@@ -103,9 +103,8 @@ body_free test w ws blank h =
 -- the last byte of a line is its last word's
 pub last_later : (xs ys : List ℕ) → 0 < length ys → get_or (xs ++ ys) (length (xs ++ ys) - 1) 0 ≡ get_or ys (length ys - 1) 0
 last_later xs ys h =
-    let l : length (xs ++ ys) ≡ length xs + length ys = length-append xs ys in
-    let e : length (xs ++ ys) - 1 - length xs ≡ length ys - 1 = omega arith in
-    get_or-append_right xs ys (length (xs ++ ys) - 1) 0 (omega arith) ∙ ap (λ (k : ℕ). get_or ys k 0) e
+    let e : length (xs ++ ys) - 1 - length xs ≡ length ys - 1 = omega (arith, length-append xs ys) in
+    get_or-append_right xs ys (length (xs ++ ys) - 1) 0 (omega (arith, length-append xs ys)) ∙ ap (λ (k : ℕ). get_or ys k 0) e
 
 last_is : (P : ℕ → Type 0) (w : List ℕ) (ws : List (List ℕ)) → ((u : List ℕ) → In (w ∷ ws) u → (0 < length u) × P (get_or u (length u - 1) 0)) → P (get_or (w ++ words_text ws) (length (w ++ words_text ws) - 1) 0)
 last_is P w [] h = subst (λ (t : List ℕ). P (get_or t (length t - 1) 0)) (sym (append-nil w)) (h w (inl refl)).1
@@ -118,10 +117,6 @@ last_is P w (v ∷ vs) h =
     subst P (sym later) rest
 
 -- no word ends in `\`
-and_none : (x : Bool) → (x && false) ≡ false
-and_none true = refl
-and_none false = refl
-
 behind_blank : (bs : List ℕ) → has_slash_end bs ≡ false → has_slash_end (32 ∷ bs) ≡ false
 behind_blank [] h = refl
 behind_blank (b ∷ bs) h = h
@@ -143,7 +138,7 @@ slash_free (b ∷ []) rest some h last r = one_follows b rest last r
 slash_free (b ∷ c ∷ w) rest some h last r =
     let end : eqb (get_or (c ∷ w) (length (c ∷ w) - 1) 0) 92 ≡ false = ap (λ (k : ℕ). eqb k 92) (sym (last_later (b ∷ []) (c ∷ w) (omega arith))) ∙ last in
     let others : has_slash_end ((c ∷ w) ++ rest) ≡ false = slash_free (c ∷ w) rest (omega arith) (λ d i. h d (inr i)) end r in
-    let this : (eqb b 92 && is_blank c) ≡ false = ap (λ (x : Bool). eqb b 92 && x) (h c (inr (inl refl))) ∙ and_none (eqb b 92) in
+    let this : (eqb b 92 && is_blank c) ≡ false = and_right (eqb b 92) (is_blank c) (h c (inr (inl refl))) in
     or_from (eqb b 92 && is_blank c) (has_slash_end ((c ∷ w) ++ rest)) this others
 
 line_slash_free : (w : List ℕ) (ws : List (List ℕ)) → IsCleanLine (w ∷ ws) → has_slash_end (w ++ words_text ws) ≡ false
@@ -170,14 +165,11 @@ member_last w h = In-get_or w (length w - 1) 0 (omega arith)
 bad_return : (b : ℕ) → is_bad b ≡ false → eqb b 13 ≡ false
 bad_return b h = ne_eqb b 13 (λ e. let t : is_bad b ≡ true = ap is_bad e in let wrong : ⊥ = cc in wrong)
 
-not_comment : (b : ℕ) → (b ≡ 35 → ⊥) → eqb b 35 ≡ false
-not_comment b h = ne_eqb b 35 h
-
 clean_line : (w : List ℕ) (ws : List (List ℕ)) → IsCleanLine (w ∷ ws) → IsLine (w ++ words_text ws)
 clean_line w ws h = record {
   some = let s : 0 < length w = (h w (inl refl)).bytes.some in omega (arith, s, length-append w (words_text ws));
   bad = body_free is_bad w ws refl (λ u i. (h u i).bytes.no_bad);
-  comment = body_free (λ b. eqb b 35) w ws refl (λ u i b j. not_comment b ((h u i).bytes.no_comment b j));
+  comment = body_free (λ b. eqb b 35) w ws refl (λ u i b j. ne_eqb b 35 ((h u i).bytes.no_comment b j));
   blank = last_is (λ b. is_blank b ≡ false) w ws (λ u i. ((h u i).bytes.some, (h u i).bytes.no_blank _ (member_last u (h u i).bytes.some)));
   slash = last_is (λ b. eqb b 92 ≡ false) w ws (λ u i. ((h u i).bytes.some, (h u i).no_slash));
   return_ = last_is (λ b. eqb b 13 ≡ false) w ws (λ u i. ((h u i).bytes.some, bad_return _ ((h u i).bytes.no_bad _ (member_last u (h u i).bytes.some))));

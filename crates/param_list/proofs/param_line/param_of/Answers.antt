@@ -1,5 +1,5 @@
-use Rattle.param_list.proofs.Common.{◌≡◌, ℕ, ◌<◌, ◌≤◌, true, false, List, length, is_some, refl, sym, ap, ◌∙◌, arith, has_name, place_is, place_some, place_of}
-use Rattle.param_list.proofs.RefusalLemmas.{no_input, stood_earlier, no_refusal}
+use Rattle.param_list.proofs.Common.{◌≡◌, ℕ, true, false, List, length, is_some, refl, sym, ap, ◌∙◌, arith, has_name, place_is, place_some, place_of}
+use Rattle.param_list.proofs.OnceLemmas.{no_input, stood_earlier, no_refusal}
 use Rattle.param_list.proofs.param_line.param_of.Goals as goal
 
 pub returns-in_default : goal.returns-in_default

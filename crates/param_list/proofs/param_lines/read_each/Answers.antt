@@ -1,6 +1,5 @@
 use Rattle.param_list.proofs.Common.{◌≡◌, List, length, map, Some, subst, arith, length-map, member_at, OrMemory-map, OrMemory, WordsLine, words_line, refusal_of, line_refusal, IsFirstRefusal, passed_err}
-use Rattle.param_list.proofs.LineLemmas.{line_at, new_name, read_next, names_next}
-use Rattle.param_list.proofs.ReadLemmas.{first_refusal, all_read}
+use Rattle.param_list.proofs.LineLemmas.{line_at, new_name, read_next, names_next, first_refusal, all_read}
 use Rattle.param_list.proofs.param_lines.read_each.Goals as goal
 
 pub read_line-requires-clause-within : goal.read_line-requires-clause-within

@@ -1,5 +1,5 @@
 use Rattle.param_list.proofs.Common.{◌≡◌, map, words_line, param_names}
-use Rattle.param_list.proofs.ReadLemmas.{AreRead}
+use Rattle.param_list.proofs.LineLemmas.{AreRead}
 use Rattle.param_list.proofs.param_lines.read_each.Given as goal
 
 abbrev pub invariant-loop-line : goal.invariant-loop-line

@@ -1,6 +1,6 @@
 use Rattle.param_list.proofs.Common.{◌≡◌, ℕ, List, [], length, map, subst, ap, ◌∙◌, arith, OrMemory-map, OrMemory, WordsLine, words_line, FlatValue, has_name, new_names, has_with_names, refusal_of, IsFirstRefusal, AreParamsOf, passed_err}
 use Rattle.tl_text.specs.NameSets.{with_names}
-use Rattle.param_list.proofs.SameLemmas.{same_params, same_first}
+use Rattle.param_list.proofs.OnceLemmas.{same_params, same_first}
 use Rattle.param_list.proofs.param_lines.read_lines.Goals as goal
 
 pub read_each-requires-clause-few : goal.read_each-requires-clause-few

@@ -1,6 +1,6 @@
 use Rattle.param_list.proofs.Common.{◌≡◌, ◌<◌, true, Bool, List, length, take, Some, vec_len, slice_set, refl, sym, ap, ◌∙◌, arith, slice_get, length-map, slice_get_read, slice_get_within, member_at, has_name, marks_of, param_names, take_get}
 use Rattle.param_list.proofs.MarkLemmas.{no_marks, mark_set}
-use Rattle.param_list.proofs.ReadLemmas.{param_names-push}
+use Rattle.param_list.proofs.LineLemmas.{param_names-push}
 use Rattle.param_list.proofs.regular_inputs.marks.Goals as goal
 
 pub loop-param-init : goal.loop-param-init

@@ -1,4 +1,4 @@
-use Rattle.depth_first.proofs.Common.{◌↔◌, IsTrue, refl, sym, ap, subst, subst₂, In, path_of, WalkValue}
+use Rattle.depth_first.proofs.Common.{◌↔◌, IsTrue, refl, sym, ap, subst₂, In, path_of, WalkValue}
 use Rattle.depth_first.proofs.MarkLemmas.{mark_on_path}
 use Rattle.depth_first.proofs.walk.Walk.is_on_path.Goals as goal
 

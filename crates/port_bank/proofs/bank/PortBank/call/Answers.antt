@@ -1,5 +1,5 @@
 use Rattle.std.proofs.Common.{arith, rules, ◌≤◌, ◌+◌, length}
-use Rattle.port_bank.proofs.PartLemmas.{called_ok, called_err}
+use Rattle.port_bank.proofs.FilterLemmas.{called_ok, called_err}
 use Rattle.port_bank.proofs.bank.PortBank.call.Goals as goal
 
 pub returns-clause-ok : goal.returns-clause-ok

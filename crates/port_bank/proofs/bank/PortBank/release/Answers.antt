@@ -1,5 +1,5 @@
 use Rattle.port_bank.proofs.Common.{arith, sym, map, length-map}
-use Rattle.port_bank.proofs.PartLemmas.{parts_joined}
+use Rattle.port_bank.proofs.FilterLemmas.{parts_joined}
 use Rattle.port_bank.proofs.bank.PortBank.release.Goals as goal
 
 pub returns : goal.returns

@@ -1,5 +1,5 @@
 use Rattle.std.proofs.Common.{◌≡◌, ◌-◌, ℕ, zero, suc, arith, refl}
-use Rattle.port_bank.proofs.PartLemmas.{retired, replaced_by}
+use Rattle.port_bank.proofs.FilterLemmas.{retired, replaced_by}
 use Rattle.port_bank.proofs.bank.PortBank.replace.Goals as goal
 
 -- the spares but one are one fewer

@@ -14,8 +14,7 @@ returns-in-Writing-clause-after c =
     sym (ap written_room c.self.view_is) ∙ written_room_in files c.self.inside.activity c.in-Writing.file file c.in-Writing.is c.self.invariant c.index_mut-written.ensures.value in
     let bytes : written_bytes c.args.self.now ≡ file.bytes.items =
     sym (ap written_bytes c.self.view_is) ∙ written_bytes_in files c.self.inside.activity c.in-Writing.file file c.in-Writing.is c.self.invariant c.index_mut-written.ensures.value in
-    let long : vec_len file.bytes ≡ length file.bytes.items = file.bytes.ok.0 in
-    let fits : vec_len file.bytes + length c.args.text.now ≤ vec_capacity file.bytes = omega (arith, c.requires, room, ap length bytes, file.reserved) in
+    let fits : vec_len file.bytes + length c.args.text.now ≤ vec_capacity file.bytes = omega (arith, file.bytes.ok.0, c.requires, room, ap length bytes, file.reserved) in
     let done : IsOk c.extend_from_slice.result = c.extend_from_slice.ensures.succeeds fits in
     let grown : c.extend_from_slice.new.self.items ≡ file.bytes.items ++ c.args.text.now = search rules in
     appended_in files c.self.inside.activity c.in-Writing.file c.args.text.now file _ c.in-Writing.is c.self.invariant c.index_mut-written.ensures.value refl refl grown

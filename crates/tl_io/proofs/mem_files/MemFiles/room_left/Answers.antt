@@ -1,4 +1,4 @@
-use Rattle.tl_io.proofs.Common.{◌≡◌, ◌∙◌, ap, sym, arith, length, vec_len, written_bytes, written_room}
+use Rattle.tl_io.proofs.Common.{◌≡◌, ◌∙◌, ap, sym, arith, length, written_bytes, written_room}
 use Rattle.tl_io.proofs.StoreLemmas.{written_bytes_in, written_room_in}
 use Rattle.tl_io.proofs.mem_files.MemFiles.room_left.Goals as goal
 
@@ -10,5 +10,4 @@ returns-in-Writing c =
     sym (ap written_room c.self.view_is) ∙ written_room_in files c.self.inside.activity c.in-Writing.file file c.in-Writing.is c.self.invariant c.index-written.ensures in
     let bytes : written_bytes c.args.self.now ≡ file.bytes.items =
     sym (ap written_bytes c.self.view_is) ∙ written_bytes_in files c.self.inside.activity c.in-Writing.file file c.in-Writing.is c.self.invariant c.index-written.ensures in
-    let long : vec_len file.bytes ≡ length file.bytes.items = file.bytes.ok.0 in
-    omega (arith, room, ap length bytes)
+    omega (arith, file.bytes.ok.0, room, ap length bytes)
