@@ -75,9 +75,7 @@ AreBelow-more first ps qs lits e below = All-weaker (IsBelow first ps) (IsBelow 
 pub all_true-more : (first : ℕ) (ps qs : List Pair) (lits : List Lit) (vs : List Bool) → Extends ps qs → AreBelow first ps lits → AreBase first vs → all_true lits (values_from vs qs) ≡ all_true lits (values_from vs ps)
 all_true-more first ps qs [] vs e below base = refl
 all_true-more first ps qs (lit ∷ lits) vs e below base =
-    let l : lit.0 < 2 * (first + length ps) = All-head (IsBelow first ps) lit lits below in
-    let n : length vs ≡ first = base.count in
-    ap (λ b. b && all_true lits (values_from vs qs)) (value_of-more vs ps qs lit.0 e (omega arith))
+    ap (λ b. b && all_true lits (values_from vs qs)) (value_of-more vs ps qs lit.0 e (omega (arith, base.count, All-head (IsBelow first ps) lit lits below)))
     ∙ ap (λ b. value_of (values_from vs ps) lit.0 && b) (all_true-more first ps qs lits vs e (All-tail (IsBelow first ps) lit lits below) base)
 
 and_true : (b : Bool) → b ≡ (b && true)
@@ -107,9 +105,8 @@ Makes-balanced first (suc depth) ps (a ∷ b ∷ rest) normal some below few =
       normal = m.normal;
       below = m.below;
       value = λ vs base.
-          let c : length vs ≡ first = base.count in
           m.value vs base
-          ∙ ap (λ v. v && value_of (values_from vs y.pairs) y.lit) (value_of-more vs x.pairs y.pairs x.lit my.grows (omega arith) ∙ mx.value vs base)
+          ∙ ap (λ v. v && value_of (values_from vs y.pairs) y.lit) (value_of-more vs x.pairs y.pairs x.lit my.grows (omega (arith, base.count)) ∙ mx.value vs base)
           ∙ ap (λ v. all_true (front_half lits) (values_from vs ps) && v) (my.value vs base ∙ all_true-more first ps x.pairs (back_half lits) vs mx.grows back_below base)
           ∙ sym (all_true-append (front_half lits) (back_half lits) (values_from vs ps))
           ∙ ap (λ ls. all_true ls (values_from vs ps)) (take-append-drop (div_ceil (length lits) 2) lits);
@@ -128,9 +125,8 @@ pub balanced_and-front_length : (first : ℕ) (pairs : List Pair) (lits : List L
 balanced_and-front_length first pairs lits two =
     let x : Answer = balanced_and first pairs (front_half lits) in
     let y : Answer = balanced_and first x.pairs (back_half lits) in
-    let n : length x.pairs ≤ length y.pairs = length-Extends x.pairs y.pairs (balanced-grows first (length (back_half lits)) x.pairs (back_half lits)) in
     let m : length y.pairs ≤ length (product_of first y.pairs x.lit y.lit).pairs = length-Extends y.pairs (product_of first y.pairs x.lit y.lit).pairs (and_grows first y.pairs (min x.lit y.lit) (max x.lit y.lit)) in
-    rw (balanced_and-halves first pairs lits two) (omega arith)
+    rw (balanced_and-halves first pairs lits two) (omega (arith, length-Extends x.pairs y.pairs (balanced-grows first (length (back_half lits)) x.pairs (back_half lits))))
 
 pub balanced_and-back_length : (first : ℕ) (pairs : List Pair) (lits : List Lit) → 2 ≤ length lits → length (balanced_and first (balanced_and first pairs (front_half lits)).pairs (back_half lits)).pairs ≤ length (balanced_and first pairs lits).pairs
 balanced_and-back_length first pairs lits two =

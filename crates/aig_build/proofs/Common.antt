@@ -5,17 +5,10 @@ pub use Rattle.std.proofs.lemmas.List.Elements.{All-head, All-tail, All-take, Al
 pub use Rattle.std.proofs.lemmas.Option.{slice_get_read, none-some, same_Some, slice_get_within, slice_get-map, get_or_from_slice_get, unwrap_or-slice_get}
 pub use Rattle.std.specs.Option.{option_map, option_and_then}
 pub use Rattle.std.specs.Prelude.{slice_get, unwrap_or, IsSome}
+pub use Rattle.aig_build.specs.Words.{Aig, AreNormal, IsLit, first_and, complement, Answer, product_of, and_of, with_pairs, RootsValue, lits_of, roots_of, AreRoots, value_of, FitsGraph, Kind, Regular, Parameter, Lit, Pair, RowValue, CoverValue, allows, matches, some_row, cover_value, cover_behind, net_value, gate_value, evaluated, flat_values, FlatCoverValue, FlatValue, LibraryValue, ModelValue, Cell, Zero, One, Any, FlatLatch, Net, Input, Latch, Cover, OutPort, param_names, regular_names, AreParameters, ParamsValue, Param, MOST_NODES}
 pub use Rattle.aig_core.proofs.GrowthLemmas.{Extends, Extends-trans, and_again, and_grows, Extends-refl, length-Extends}
 pub use Rattle.aig_core.proofs.ProductLemmas.{AreBase, Makes, Makes-and, Makes-literal, Makes-one, value_of-more, product, AreBase-sources, Makes-complement, Makes-weaker, value_of-complement, complement-below, not-not, Makes-fits, value_of-even}
 pub use Rattle.aig_core.proofs.ValueLemmas.{values_from, values_of, values_old}
-pub use Rattle.aig_core.specs.Aig.{Aig, AreNormal, IsLit, first_and}
-pub use Rattle.aig_core.specs.And.{complement, Answer, product_of, and_of, with_pairs}
-pub use Rattle.aig_core.specs.Roots.{RootsValue, lits_of, roots_of, AreRoots}
-pub use Rattle.aig_core.specs.Value.{value_of, FitsGraph}
-pub use Rattle.aig_core.specs.declared.lit.Kind.{Kind}
-pub use Rattle.aig_core.specs.declared.lit.Kind.TheVariants.{Regular, Parameter}
-pub use Rattle.aig_core.specs.declared.lit.Lit.{Lit}
-pub use Rattle.aig_core.specs.declared.lit.Pair.{Pair}
 pub use Rattle.depth_first.specs.DepthFirst.{PostsAll, Posts, skips, posts, none, more}
 pub use Rattle.list_laws.proofs.Apart.{AreApart, apart_once, joined_apart, filtered_apart}
 pub use Rattle.list_laws.proofs.Items.{member_at}
@@ -24,27 +17,13 @@ pub use Rattle.list_laws.proofs.Places.{drop_past, set_length, at_within, get_le
 pub use Rattle.list_laws.proofs.TwoLists.{get_right}
 pub use Rattle.list_laws.specs.Members.{In}
 pub use Rattle.netlist.specs.Bounds.{IsThere, IsWithinBounds}
-pub use Rattle.netlist.specs.CoverValue.{RowValue, CoverValue, allows, matches, some_row, cover_value}
-pub use Rattle.netlist.specs.Evaluation.{cover_behind, net_value, gate_value, evaluated, flat_values}
 pub use Rattle.netlist.specs.Flat.{cover_numbers, reads_at, inputs_at}
-pub use Rattle.netlist.specs.FlatCoverValue.{FlatCoverValue}
 pub use Rattle.netlist.specs.FlatCycle.{input_values, flat_outputs, flat_next, HasCycles}
-pub use Rattle.netlist.specs.FlatValue.{FlatValue}
-pub use Rattle.netlist.specs.LibraryValue.{LibraryValue, ModelValue}
-pub use Rattle.netlist.specs.Models.{body_at, has_name}
+pub use Rattle.netlist.specs.Circuits.{body_at, has_name}
 pub use Rattle.netlist.specs.WellFormed.{IsWellFormedBody, IsWellFormed}
-pub use Rattle.netlist.specs.declared.cell.Cell.{Cell}
-pub use Rattle.netlist.specs.declared.cell.Cell.TheVariants.{Zero, One, Any}
-pub use Rattle.netlist.specs.declared.flat.FlatLatch.{FlatLatch}
-pub use Rattle.netlist.specs.declared.flat.Net.{Net}
-pub use Rattle.netlist.specs.declared.flat.Net.TheVariants.{Input, Latch, Cover}
-pub use Rattle.netlist.specs.declared.flat.OutPort.{OutPort}
-pub use Rattle.param_list.specs.Parameters.{param_names, regular_names, AreParameters, ParamsValue}
-pub use Rattle.param_list.specs.declared.params.Param.{Param}
 pub use Rattle.aig_build.specs.CoverGraph.{row_literals, Literals, flipped, cell_literals}
 pub use Rattle.aig_build.specs.CoverMade.{balanced, balanced_and, row_made, rows_made, rows_onto, cover_made, cover_of}
 pub use Rattle.aig_build.specs.CoverNodes.{front_half, back_half, IsCoverMade}
 pub use Rattle.aig_build.specs.NetlistCycle.{source_values, literal_values, HasSourceCycles}
 pub use Rattle.aig_build.specs.NetlistGraph.{input_names, source_kinds, IsSourceLiteral, an_input, a_latch, MakesAll, IsGraphOf, root_nets, HasTooManyNodes}
 pub use Rattle.aig_build.specs.Walked.{NetLitsValue, net_lit, net_lits, with_cover, Built, behind_made, gate_made, with_gate, walked, gate_of, order_of, IsHeld, HoldsNets, no_lit, marks_of, regular_lits, regular_next, start_nets, source_aig, root_lits, marked, index_behind, with_param_lits}
-pub use Rattle.aig_build.specs.declared.TheConstants.{MOST_NODES}

@@ -46,9 +46,7 @@ Makes-row first ps cells inputs normal some below width =
 values_at-more : (first : ℕ) (ps qs : List Pair) (inputs : List Lit) (vs : List Bool) → Extends ps qs → AreBelow first ps inputs → AreBase first vs → values_at inputs (values_from vs qs) ≡ values_at inputs (values_from vs ps)
 values_at-more first ps qs [] vs e below base = refl
 values_at-more first ps qs (input ∷ inputs) vs e below base =
-    let l : input.0 < 2 * (first + length ps) = All-head (IsBelow first ps) input inputs below in
-    let n : length vs ≡ first = base.count in
-    ap (λ b. b ∷ values_at inputs (values_from vs qs)) (value_of-more vs ps qs input.0 e (omega arith))
+    ap (λ b. b ∷ values_at inputs (values_from vs qs)) (value_of-more vs ps qs input.0 e (omega (arith, base.count, All-head (IsBelow first ps) input inputs below)))
     ∙ ap (λ bs. value_of (values_from vs ps) input.0 ∷ bs) (values_at-more first ps qs inputs vs e (All-tail (IsBelow first ps) input inputs below) base)
 
 -- What holds of literals that are made over the pairs `ps`, all of which are to be 1 exactly where `meaning` is.
@@ -117,7 +115,6 @@ rows_behind first ps lits (row ∷ rows) inputs =
 pub rows_alone : (first : ℕ) (ps : List Pair) (rows : List RowValue) (inputs : List Lit) → rows_onto first ps [] rows inputs ≡ rows_made first ps rows inputs
 rows_alone first ps rows inputs = rows_behind first ps [] rows inputs
 
--- after the last row
 pub rows_done : (first : ℕ) (ps : List Pair) (next : ℕ) (qs : List Pair) (lits : List Lit) (rows : List RowValue) (inputs : List Lit) (i : ℕ) → length rows ≤ i
     → rows_onto next qs lits (drop i rows) inputs ≡ rows_onto first ps [] rows inputs → record { pairs = qs; lits = lits } ≡ rows_made first ps rows inputs
 rows_done first ps next qs lits rows inputs i past e = sym (ap (λ rs. rows_onto next qs lits rs inputs) (drop_past rows i past)) ∙ e ∙ rows_alone first ps rows inputs
@@ -140,7 +137,6 @@ value_of-phase : (vs : List Bool) (value : Bool) (lit : ℕ) → value_of vs (co
 value_of-phase vs true lit = value_of-complement vs lit
 value_of-phase vs false lit = value_of-complement vs (complement lit) ∙ ap not (value_of-complement vs lit)
 
--- a cover's literal has the cover's value
 pub Makes-cover : (first : ℕ) (ps : List Pair) (cover : CoverValue) (inputs : List Lit) → AreNormal first ps → 1 ≤ first → AreBelow first ps inputs → HaveWidth inputs cover.rows → Makes first ps (λ values. cover_value cover (values_at inputs values)) (cover_made first ps cover inputs)
 Makes-cover first ps cover inputs normal some below widths =
     let rows : Literals = rows_made first ps cover.rows inputs in
@@ -220,11 +216,9 @@ balanced-again first (suc depth) ps qs (a ∷ b ∷ rest) e =
     ∙ and_again first y.pairs qs (min x.lit y.lit) (max x.lit y.lit) e
 balanced-again first depth ps qs lits e = refl
 
--- of a row
 pub row_made-again : (first : ℕ) (ps qs : List Pair) (cells : List Cell) (inputs : List Lit) → Extends (row_made first ps cells inputs).pairs qs → row_made first qs cells inputs ≡ record { pairs = qs; lit = (row_made first ps cells inputs).lit }
 row_made-again first ps qs cells inputs e = balanced-again first (length (row_literals cells inputs)) ps qs (row_literals cells inputs) e
 
--- of the rows of a cover
 pub rows_onto-again : (first : ℕ) (ps qs : List Pair) (lits : List Lit) (rows : List RowValue) (inputs : List Lit) → Extends (rows_onto first ps lits rows inputs).pairs qs
     → rows_onto first qs lits rows inputs ≡ record { pairs = qs; lits = (rows_onto first ps lits rows inputs).lits }
 rows_onto-again first ps qs lits [] inputs e = refl
@@ -242,7 +236,6 @@ rows_made-again first ps qs rows inputs e =
     ∙ rows_onto-again first ps qs [] rows inputs (subst (λ (ls : Literals). Extends ls.pairs qs) (sym (rows_alone first ps rows inputs)) e)
     ∙ ap (λ (ls : Literals). record { pairs = qs; lits = ls.lits }) (rows_alone first ps rows inputs)
 
--- of a cover
 pub cover_made-again : (first : ℕ) (ps qs : List Pair) (cover : CoverValue) (inputs : List Lit) → Extends (cover_made first ps cover inputs).pairs qs → cover_made first qs cover inputs ≡ record { pairs = qs; lit = (cover_made first ps cover inputs).lit }
 cover_made-again first ps qs cover inputs e =
     let rows : Literals = rows_made first ps cover.rows inputs in

@@ -1,6 +1,6 @@
 -- Whatever values fit the graph, the literal of each net has the value that evaluating the flat circuit in its order gives the net; and each net has a
 -- literal of the graph, before a cover is made and after it.
-use Rattle.aig_build.proofs.Common.{◌≡◌, ℕ, zero, suc, ◌+◌, ◌*◌, ◌/◌, ◌%◌, ◌<◌, ◌≤◌, Bool, false, List, [], ◌∷◌, ◌++◌, length, map, replicate, get_or, Option, Some, None, refl, sym, ap, ap₂, ◌∙◌, subst, inl, inr, arith, slice_set, slice_get, unwrap_or, option_map, option_and_then, All-nil, All-cons, All-head, All-tail, All-get_or, All-set, All-replicate, none-some, same_Some, slice_get_within, slice_get-map, get_or_from_slice_get, In, In-get, at_within, get_left, get_right, RowValue, CoverValue, cover_value, ModelValue, LibraryValue, IsWellFormedBody, IsWellFormed, Net, Input, Latch, Cover, FlatCoverValue, FlatValue, input_values, body_at, IsThere, IsWithinBounds, cover_behind, net_value, gate_value, evaluated, flat_values, Param, Kind, Lit, Pair, AreNormal, Answer, value_of, Extends, AreBase, Makes, value_of-even, value_of-more, values_from, values_old, cover_made, input_names, source_kinds, IsSourceLiteral, an_input, a_latch, source_values, NetLitsValue, no_lit, net_lit, net_lits, Built, gate_made, with_gate, walked, drop, drop-cons, slice_get_read, set_length, Aig, IsLit, first_and, with_pairs, length-Extends, cover_of, with_cover, behind_made, gate_of, order_of, IsHeld, HoldsNets, length-map, length-replicate, length-append, map-set, All}
+use Rattle.aig_build.proofs.Common.{◌≡◌, ℕ, zero, suc, ◌+◌, ◌*◌, ◌<◌, ◌≤◌, Bool, false, List, [], ◌∷◌, length, map, replicate, get_or, Option, Some, None, refl, sym, ap, ap₂, ◌∙◌, subst, inl, inr, arith, slice_set, slice_get, unwrap_or, option_map, option_and_then, All-nil, All-cons, All-head, All-tail, All-get_or, All-set, All-replicate, none-some, same_Some, slice_get_within, slice_get-map, get_or_from_slice_get, In, In-get, at_within, get_left, get_right, RowValue, CoverValue, cover_value, ModelValue, LibraryValue, IsWellFormedBody, IsWellFormed, Net, Input, Latch, Cover, FlatCoverValue, FlatValue, input_values, body_at, IsThere, IsWithinBounds, cover_behind, net_value, gate_value, evaluated, flat_values, Param, Kind, Lit, Pair, AreNormal, Answer, value_of, Extends, AreBase, Makes, value_of-even, value_of-more, values_from, values_old, cover_made, input_names, source_kinds, IsSourceLiteral, an_input, a_latch, source_values, NetLitsValue, no_lit, net_lit, net_lits, Built, gate_made, with_gate, walked, drop, drop-cons, slice_get_read, set_length, Aig, IsLit, first_and, with_pairs, length-Extends, cover_of, with_cover, behind_made, gate_of, order_of, IsHeld, HoldsNets, length-map, length-replicate, length-append, map-set, All}
 use Rattle.netlist.specs.declared.command.Body.{Body}
 use Rattle.netlist.specs.declared.command.Body.TheVariants.{Cover as CoverBody}
 use Rattle.netlist.specs.declared.command.Command.{Command}
@@ -61,15 +61,13 @@ module _ (library : LibraryValue) (flat : FlatValue) (params : List Param) (form
   -- a source's literal is one of every graph over the sources
   pub source_below : (net : Net) (lit : ℕ) (ps : List Pair) → IsThere flat net → IsSourceLiteral flat params net lit → lit < 2 * (first + length ps)
   source_below net lit ps there (an_input i place name e g h l) =
-      let w : place < length (input_names flat params) = slice_get_within (input_names flat params) place name h in
       let n : length (source_kinds flat params) ≡ length (input_names flat params) + length flat.latches = source_count in
-      omega arith
+      omega (arith, slice_get_within (input_names flat params) place name h)
   source_below net lit ps there (a_latch j e l) =
       let w : j < length flat.latches = subst (IsThere flat) e there in
       let n : length (source_kinds flat params) ≡ length (input_names flat params) + length flat.latches = source_count in
       omega arith
 
-  -- what drives each net is below as well
   pub net_below : (b : Built) → AreSourced flat params b.nets → AreBelow first b.pairs (b.nets).covers → (net : Net) → IsThere flat net → IsBelow first b.pairs (net_lit b.nets net)
   net_below b sourced below (Input i) there = source_below (Input i) (net_lit b.nets (Input i)).0 b.pairs there (sourced.inputs i there)
   net_below b sourced below (Latch j) there = source_below (Latch j) (net_lit b.nets (Latch j)).0 b.pairs there (sourced.latches j)
@@ -97,7 +95,6 @@ module _ (library : LibraryValue) (flat : FlatValue) (params : List Param) (form
         let n : length (source_kinds flat params) ≡ length (input_names flat params) + length flat.latches = source_count in
         record { count = omega arith; constant = refl }
 
-    -- the value of a source's literal
     place_value : (ps : List Pair) (lit place : ℕ) (b : Bool) → lit ≡ 2 * (1 + place) → slice_get given place ≡ Some b → value_of (values_from base ps) lit ≡ b
     place_value ps lit place b e at =
         let w : place < length given = slice_get_within given place b at in
@@ -173,7 +170,6 @@ module _ (library : LibraryValue) (flat : FlatValue) (params : List Param) (form
         walked_right ks (with_gate b k (gate_made library first b (slice_get flat.covers k))) (slice_set values k (gate_value library (slice_get flat.covers k) xs s values)) (λ j i. there j (inr i))
         (gate_right b values k (there k (inl refl)) right)
 
-    -- from no node on
     pub start_right : (nets : NetLitsValue) → AreSourced flat params nets → nets.covers ≡ replicate (length flat.covers) no_lit → IsRight (record { pairs = []; nets = nets }) (replicate (length flat.covers) false)
     start_right nets sourced none = record {
       normal = record { each = λ i p e. absurd (none-some p e); once = λ i j p e f. absurd (none-some p e) };
@@ -201,7 +197,6 @@ module _ (flat : FlatValue) (g : Aig) (nets : NetLitsValue) (holds : HoldsNets f
   held_lits [] there = All-nil (λ (lit : Lit). IsLit g lit.0)
   held_lits (net ∷ ns) there = All-cons (λ (lit : Lit). IsLit g lit.0) (net_lit nets net) (net_lits nets ns) (held_lit net (there net (inl refl))) (held_lits ns (λ n i. there n (inr i)))
 
--- after a cover
 pub holds_next : (flat : FlatValue) (g new : Aig) (nets : NetLitsValue) (ps : List Pair) (k : ℕ) (lit : Lit) → HoldsNets flat g nets → Extends g.pairs ps → new ≡ with_pairs g ps → IsLit new lit.0 → HoldsNets flat new (with_cover nets k lit)
 holds_next flat g new nets ps k lit holds grows same is =
     subst (λ (h : Aig). HoldsNets flat h (with_cover nets k lit)) (sym same) (record {
@@ -217,7 +212,6 @@ holds_next flat g new nets ps k lit holds grows same is =
 pub cover_read : (flat : FlatValue) (items : List FlatCoverValue) (k : ℕ) (c : FlatCoverValue) → items ≡ flat.covers → c ≡ get_or items k c → k < length flat.covers → slice_get flat.covers k ≡ Some c
 cover_read flat items k c same is there = slice_get_read flat.covers (length flat.covers) k c refl there (subst (λ xs. c ≡ get_or xs k c) same is)
 
--- what is made at a place
 pub gate_at : (library : LibraryValue) (flat : FlatValue) (g : Aig) (nets : NetLitsValue) (k : ℕ) (items : List FlatCoverValue) (c : FlatCoverValue) (cover : CoverValue) (lits : List Lit) → items ≡ flat.covers → c ≡ get_or items k c → k < length flat.covers
     → cover_behind library c ≡ Some cover → lits ≡ net_lits nets c.inputs → gate_of library flat g nets k ≡ cover_of g cover lits
 gate_at library flat g nets k items c cover lits read is there behind same =

@@ -53,7 +53,6 @@ module _ (library : LibraryValue) (flat : FlatValue) (params : List Param) (form
   abbrev g0 : Aig
   g0 = source_aig flat params
 
-  -- before a cover is made
   pub start_holds : HoldsNets flat g0 nets0
   start_holds =
       let latches : nets0.latches ≡ 1 + length (input_names flat params) = start_latches flat params bounds.inputs_once are in

@@ -31,7 +31,6 @@ balanced_only first {pairs} {lits} (halves front back two f b m) =
     ∙ ap (λ (x : Answer). product_of first (balanced_and first x.pairs (back_half lits)).pairs x.lit (balanced_and first x.pairs (back_half lits)).lit) ef
     ∙ sym (balanced_and-halves first pairs lits two)
 
--- the rows
 rows_are : (first : ℕ) (inputs : List Lit) (pairs : List Pair) (rows : List RowValue) → AreRows first inputs pairs rows (rows_made first pairs rows inputs)
 rows_are first inputs pairs [] = no_row refl refl
 rows_are first inputs pairs (row ∷ rows) =
@@ -47,7 +46,6 @@ rows_only first inputs {pairs} (a_row row rest this others e b r m) =
     ∙ ap (λ (x : Answer). record { pairs = (rows_made first x.pairs rest inputs).pairs; lits = record { 0 = complement x.lit } ∷ (rows_made first x.pairs rest inputs).lits }) one_row
     ∙ ap (λ (rs : List RowValue). rows_made first pairs rs inputs) (sym e)
 
--- the cover
 pub cover_is : (first : ℕ) (pairs : List Pair) (cover : CoverValue) (inputs : List Lit) → IsCoverMade first pairs cover inputs (cover_made first pairs cover inputs)
 cover_is first pairs cover inputs =
     let rows : Literals = rows_made first pairs cover.rows inputs in

@@ -7,7 +7,6 @@ use Rattle.aig_build.specs.NetlistGraph as graph
 use Rattle.aig_build.proofs.CoverLemmas.{cover_made-grows, cover_made-again}
 use Rattle.aig_build.proofs.OnlyLemmas.{cover_is}
 
--- each step only adds nodes
 behind-grows : (first : ℕ) (ps : List Pair) (o : Option CoverValue) (lits : List Lit) → Extends ps (behind_made first ps o lits).pairs
 behind-grows first ps None lits = Extends-refl ps
 behind-grows first ps (Some cover) lits = cover_made-grows first ps cover lits
@@ -22,7 +21,6 @@ walked-grows library flat first b (k ∷ ks) =
     let made : Answer = gate_made library first b (slice_get flat.covers k) in
     Extends-trans b.pairs made.pairs (walked library flat first b (k ∷ ks)).pairs (gate-grows library first b (slice_get flat.covers k)) (walked-grows library flat first (with_gate b k made) ks)
 
--- two walks, one after the other
 walked-append : (library : LibraryValue) (flat : FlatValue) (first : ℕ) (b : Built) (ks js : List ℕ) → walked library flat first b (ks ++ js) ≡ walked library flat first (walked library flat first b ks) js
 walked-append library flat first b [] js = refl
 walked-append library flat first b (k ∷ ks) js = walked-append library flat first (with_gate b k (gate_made library first b (slice_get flat.covers k))) ks js
@@ -65,45 +63,39 @@ module _ (library : LibraryValue) (flat : FlatValue) (params : List Param) where
   add_net : (ps : List Pair) (b : Built) (net : Net) (nets : List Net) → Makes library flat params ps net (record { pairs = ps; lit = (net_lit b.nets net).0 }) → MadeNets ps b nets → MadeNets ps b (net ∷ nets)
   add_net ps b net nets this others = graph.more net nets (record { pairs = ps; lit = (net_lit b.nets net).0 }) (record { pairs = b.pairs; lits = net_lits b.nets nets }) refl this others refl
 
-  input_made : (ps : List Pair) (b : Built) (i : ℕ) → AreSourced flat params b.nets → i < length flat.inputs → Makes library flat params ps (Input i) (record { pairs = ps; lit = (net_lit b.nets (Input i)).0 })
-  input_made ps b i s l = a_source (net_lit b.nets (Input i)).0 (s.inputs i l) refl
-
-  latch_made : (ps : List Pair) (b : Built) (j : ℕ) → AreSourced flat params b.nets → Makes library flat params ps (Latch j) (record { pairs = ps; lit = (net_lit b.nets (Latch j)).0 })
-  latch_made ps b j s = a_source (net_lit b.nets (Latch j)).0 (s.latches j) refl
+  source_made : (ps : List Pair) (b : Built) (net : Net) → AreSourced flat params b.nets → IsThere flat net → cover_numbers (net ∷ []) ≡ [] → Makes library flat params ps net (record { pairs = ps; lit = (net_lit b.nets net).0 })
+  source_made ps b (Input i) s l e = a_source (net_lit b.nets (Input i)).0 (s.inputs i l) refl
+  source_made ps b (Latch j) s l e = a_source (net_lit b.nets (Latch j)).0 (s.latches j) refl
+  source_made ps b (Cover k) s l e = absurd (cc)
 
   -- nets without a cover
   none_made : (b : Built) → AreSourced flat params b.nets → (nets : List Net) → AreThere nets → cover_numbers nets ≡ [] → MadeNets b.pairs b nets
   none_made b s [] there e = graph.none refl refl
-  none_made b s (Input i ∷ nets) there e = add_net b.pairs b (Input i) nets (input_made b.pairs b i s (there (Input i) (inl refl))) (none_made b s nets (λ net m. there net (inr m)) e)
-  none_made b s (Latch j ∷ nets) there e = add_net b.pairs b (Latch j) nets (latch_made b.pairs b j s) (none_made b s nets (λ net m. there net (inr m)) e)
   none_made b s (Cover k ∷ nets) there e = absurd (cc)
+  none_made b s (net ∷ nets) there e = add_net b.pairs b net nets (source_made b.pairs b net s (there net (inl refl)) refl) (none_made b s nets (λ n m. there n (inr m)) e)
 
   -- nets whose first cover is n
   more_made : (ps qs : List Pair) (b : Built) (n : ℕ) (rest : List ℕ) → AreSourced flat params b.nets → Makes library flat params ps (Cover n) (record { pairs = qs; lit = (net_lit b.nets (Cover n)).0 })
       → ((nets : List Net) → AreThere nets → cover_numbers nets ≡ rest → MadeNets qs b nets) → (nets : List Net) → AreThere nets → cover_numbers nets ≡ n ∷ rest → MadeNets ps b nets
   more_made ps qs b n rest s this others [] there e = absurd (cc)
-  more_made ps qs b n rest s this others (Input i ∷ nets) there e =
-      add_net ps b (Input i) nets (input_made ps b i s (there (Input i) (inl refl))) (more_made ps qs b n rest s this others nets (λ net m. there net (inr m)) e)
-  more_made ps qs b n rest s this others (Latch j ∷ nets) there e = add_net ps b (Latch j) nets (latch_made ps b j s) (more_made ps qs b n rest s this others nets (λ net m. there net (inr m)) e)
   more_made ps qs b n rest s this others (Cover k ∷ nets) there e =
       let same : k ≡ n = cc in
       let tail : cover_numbers nets ≡ rest = cc in
       graph.more (Cover k) nets (record { pairs = qs; lit = (net_lit b.nets (Cover k)).0 }) (record { pairs = b.pairs; lits = net_lits b.nets nets }) refl
       (subst (λ m. Makes library flat params ps (Cover m) (record { pairs = qs; lit = (net_lit b.nets (Cover m)).0 })) (sym same) this)
       (others nets (λ net m. there net (inr m)) tail) refl
+  more_made ps qs b n rest s this others (net ∷ nets) there e =
+      add_net ps b net nets (source_made ps b net s (there net (inl refl)) refl) (more_made ps qs b n rest s this others nets (λ m i. there m (inr i)) e)
 
   -- nets whose covers are done add nothing, over any nodes that extend these
   done_made : (b : Built) (done : List ℕ) → AreKnown b done → (nets : List Net) → AreThere nets → ((k : ℕ) → In (cover_numbers nets) k → In done k) → (qs : List Pair) → Extends b.pairs qs
       → MadeNets qs (record { pairs = qs; nets = b.nets }) nets
   done_made b done known [] there among qs e = graph.none refl refl
-  done_made b done known (Input i ∷ nets) there among qs e =
-      let c : Built = record { pairs = qs; nets = b.nets } in
-      add_net qs c (Input i) nets (input_made qs c i known.sourced (there (Input i) (inl refl))) (done_made b done known nets (λ net m. there net (inr m)) among qs e)
-  done_made b done known (Latch j ∷ nets) there among qs e =
-      let c : Built = record { pairs = qs; nets = b.nets } in
-      add_net qs c (Latch j) nets (latch_made qs c j known.sourced) (done_made b done known nets (λ net m. there net (inr m)) among qs e)
   done_made b done known (Cover k ∷ nets) there among qs e =
       add_net qs (record { pairs = qs; nets = b.nets }) (Cover k) nets ((known.each k (among k (inl refl))).makes qs e) (done_made b done known nets (λ net m. there net (inr m)) (λ j i. among j (inr i)) qs e)
+  done_made b done known (net ∷ nets) there among qs e =
+      let c : Built = record { pairs = qs; nets = b.nets } in
+      add_net qs c net nets (source_made qs c net known.sourced (there net (inl refl)) refl) (done_made b done known nets (λ m i. there m (inr i)) among qs e)
 
   module _ (bounds : IsWithinBounds library flat) where
     abbrev Walked : Built → List ℕ → Built
@@ -173,7 +165,6 @@ module _ (library : LibraryValue) (flat : FlatValue) (params : List Param) where
         } in
         subst (λ (a : Answer). HasSignal a.pairs (Cover k) a.lit) (sym (gate_is b k i)) signal
 
-    -- one more cover is known
     gate_known : (b : Built) (below : List ℕ) (k : ℕ) → k < length flat.covers → AreKnown b below → ((m : ℕ) → In (reads_at flat k) m → In below m)
         → AreKnown (with_gate b k (gate_made library first_node b (slice_get flat.covers k))) (k ∷ below)
     gate_known b below k l known among =

@@ -123,7 +123,6 @@ module _ (flat : FlatValue) (params : List Param) (once : AreOnce flat.inputs) (
       let same : name ≡ p.name = same_Some name p.name (sym e ∙ subst (λ j. slice_get flat.inputs j ≡ Some p.name) q (are.inputs p m)) in
       both_ways (is_param name) u (in_has (param_names params) name (subst (In (param_names params)) (sym same) (In-map (λ (r : Param). r.name) params p m)))
 
-  -- the marks are at the parameters
   pub marks_are : marked (replicate (length flat.inputs) false) params ≡ map is_param flat.inputs
   marks_are = same_list (marked none params) (map is_param flat.inputs) (length-marked none params ∙ length-replicate (length flat.inputs) false ∙ sym (length-map flat.inputs is_param))
       (λ i a b here there. same_Some a b (sym here ∙ each i b there))
@@ -185,7 +184,6 @@ module _ (flat : FlatValue) (params : List Param) (once : AreOnce flat.inputs) (
             let name = at_within flat.inputs i l in
             elim (cases_Bool (is_param name.0)) [ inl t ↦ param_source i name.0 name.1 l t | inr u ↦ regular_source i name.0 name.1 u ]
 
-  -- at the start
   pub start_next : regular_next 1 (marks_of flat params) ≡ 1 + length (regular_names flat params)
   start_next = next_is (marks_of flat params) marks_are
 

@@ -1,10 +1,6 @@
 -- The literals that a row asks for, and literals with the nodes over which they stand.
 use Rattle.std.specs.Prelude.{List, [], ◌∷◌, ◌++◌}
-use Rattle.netlist.specs.declared.cell.Cell.{Cell}
-use Rattle.netlist.specs.declared.cell.Cell.TheVariants.{Zero, One, Any}
-use Rattle.aig_core.specs.declared.lit.Lit.{Lit}
-use Rattle.aig_core.specs.declared.lit.Pair.{Pair}
-use Rattle.aig_core.specs.And.{complement}
+use Rattle.aig_build.specs.Words.{Cell, Zero, One, Any, Lit, Pair, complement}
 
 -- a literal in the other phase
 abbrev pub flipped : Lit → Lit

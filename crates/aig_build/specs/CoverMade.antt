@@ -1,11 +1,6 @@
 -- The balanced AND of a list, rows and covers as the code makes them.
 use Rattle.std.specs.Prelude.{ℕ, zero, suc, if◌then◌else◌, List, [], ◌∷◌, ◌++◌, length}
-use Rattle.netlist.specs.declared.cell.Cell.{Cell}
-use Rattle.netlist.specs.CoverValue.{RowValue, CoverValue}
-use Rattle.aig_core.specs.declared.lit.Lit.{Lit}
-use Rattle.aig_core.specs.declared.lit.Pair.{Pair}
-use Rattle.aig_core.specs.Aig.{Aig, first_and}
-use Rattle.aig_core.specs.And.{complement, Answer, product_of}
+use Rattle.aig_build.specs.Words.{Cell, RowValue, CoverValue, Lit, Pair, Aig, first_and, complement, Answer, product_of}
 use Rattle.aig_build.specs.CoverGraph.{row_literals, Literals}
 use Rattle.aig_build.specs.CoverNodes.{front_half, back_half}
 

@@ -1,10 +1,7 @@
 -- The AND nodes of products, rows and covers, as relations: nodes that stand become nodes that then stand, and a literal.
 use Rattle.std.specs.Prelude.{◌≡◌, ℕ, ◌≤◌, if◌then◌else◌, List, [], ◌∷◌, length, take, drop}
+use Rattle.aig_build.specs.Words.{RowValue, CoverValue, Lit, Pair, complement, Answer, product_of}
 use Rattle.std.specs.Int.{div_ceil}
-use Rattle.netlist.specs.CoverValue.{RowValue, CoverValue}
-use Rattle.aig_core.specs.declared.lit.Lit.{Lit}
-use Rattle.aig_core.specs.declared.lit.Pair.{Pair}
-use Rattle.aig_core.specs.And.{complement, Answer, product_of}
 use Rattle.aig_build.specs.CoverGraph.{row_literals, Literals}
 
 -- the first half of a list, the longer one where the halves differ, and the rest

@@ -1,4 +1,5 @@
 -- What public clauses say.
+pub mod Words
 pub mod CoverGraph
 pub mod CoverNodes
 pub mod NetlistGraph

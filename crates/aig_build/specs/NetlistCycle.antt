@@ -1,13 +1,7 @@
 -- The cycles of a netlist's graph: under the values of its sources the roots have the outputs and the next states of the source circuit.
 use Rattle.std.specs.Prelude.{◌≡◌, ℕ, Bool, List, ◌++◌, length, map}
-use Rattle.netlist.specs.LibraryValue.{LibraryValue}
-use Rattle.netlist.specs.FlatValue.{FlatValue}
+use Rattle.aig_build.specs.Words.{LibraryValue, FlatValue, Param, Lit, Aig, RootsValue, lits_of, FitsGraph, value_of}
 use Rattle.netlist.specs.Runs.{IsCycle}
-use Rattle.param_list.specs.declared.params.Param.{Param}
-use Rattle.aig_core.specs.declared.lit.Lit.{Lit}
-use Rattle.aig_core.specs.Aig.{Aig}
-use Rattle.aig_core.specs.Roots.{RootsValue, lits_of}
-use Rattle.aig_core.specs.Value.{FitsGraph, value_of}
 use Rattle.aig_build.specs.NetlistGraph.{input_names}
 
 -- the values of the sources, where the inputs have the values x by their names, and the latches the states s

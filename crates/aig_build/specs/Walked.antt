@@ -1,21 +1,6 @@
 -- The covers of a flat circuit as the code makes them: in order, each one once, into a literal for each cover.
 use Rattle.std.specs.Prelude.{◌≡◌, ℕ, ◌+◌, ◌*◌, ◌^◌, ◌<◌, ◌≤◌, Bool, true, false, if◌then◌else◌, List, [], ◌∷◌, length, map, replicate, Option, Some, None, All, unwrap_or, slice_get, slice_set}
-use Rattle.netlist.specs.CoverValue.{CoverValue}
-use Rattle.netlist.specs.LibraryValue.{LibraryValue}
-use Rattle.netlist.specs.declared.flat.Net.{Net}
-use Rattle.netlist.specs.declared.flat.Net.TheVariants.{Input, Latch, Cover}
-use Rattle.netlist.specs.declared.flat.OutPort.{OutPort}
-use Rattle.netlist.specs.declared.flat.FlatLatch.{FlatLatch}
-use Rattle.netlist.specs.FlatCoverValue.{FlatCoverValue}
-use Rattle.netlist.specs.FlatValue.{FlatValue}
-use Rattle.netlist.specs.Evaluation.{cover_behind}
-use Rattle.param_list.specs.declared.params.Param.{Param}
-use Rattle.aig_core.specs.declared.lit.Lit.{Lit}
-use Rattle.aig_core.specs.declared.lit.Pair.{Pair}
-use Rattle.aig_core.specs.Aig.{Aig, IsLit, first_and}
-use Rattle.aig_core.specs.And.{Answer}
-use Rattle.aig_core.specs.Roots.{RootsValue}
-use Rattle.aig_build.specs.declared.TheConstants.{MOST_NODES}
+use Rattle.aig_build.specs.Words.{CoverValue, LibraryValue, Net, Input, Latch, Cover, OutPort, FlatLatch, FlatCoverValue, FlatValue, cover_behind, Param, Lit, Pair, Aig, IsLit, first_and, Answer, RootsValue, MOST_NODES}
 use Rattle.aig_build.specs.CoverMade.{cover_made}
 use Rattle.aig_build.specs.NetlistGraph.{source_kinds}
 

@@ -1,5 +1,5 @@
 -- Values that fit a circuit's library fit its lines, and values that fit the lines give values of all names that fit the library.
-use Rattle.aiger_io.proofs.Common.{◌≡◌, ℕ, zero, suc, ◌+◌, ◌-◌, ◌/◌, ◌%◌, ◌<◌, max, Bool, true, false, cond, not, ◌&&◌, ◌||◌, eqb, List, [], ◌∷◌, ◌++◌, length, map, Option, Some, None, inl, inr, refl, sym, ap, ◌∙◌, subst, arith, append-nil, slice_get, option_map, none-some, same_Some, slice_get-map, slice_get-get_or, In, place_in, In-get, at_within, CoverValue, allows, cover_value, Fits, ModelValue, IsClock, listed, controls, Place, is_latch, own_places, flat, none, AreLatches, state_of, Cell, One, Command, in_has, Circuit, mark_of, variable_name, next_name, cell_of, cover_command, zero_command, literal_command, latch_command, port_name, item_commands, commands_from, model_of, library_of, kind_at, literal_value, FitsLines, Header, Item, Input, Latch, Output, And, lit<, ◌*◌, ◌^◌, ◌≤◌, get_or, take, drop, decimal, bytes_eq, replicate, bytes_decides, digits_value, decimal_is_IsNumeral, slice_get_within, take-append_seam, drop-append_seam, In-left, In-right, underscores, most_underscores, few_underscores, many_underscores, AreOnce, has_in, own_name, is_literal, is_variable, output_literal, next_literal, output_literals, next_literals, right_apart, not_in_both, nat_tests, cond-true, cond-false, cases_Bool, or_left, true≢false, and_parts, or_cases, take-append-drop, rules}
+use Rattle.aiger_io.proofs.Common.{◌≡◌, ℕ, zero, suc, ◌+◌, ◌-◌, ◌/◌, ◌%◌, ◌<◌, max, Bool, true, false, cond, not, ◌&&◌, ◌||◌, eqb, List, [], ◌∷◌, ◌++◌, length, map, Option, Some, None, inl, inr, refl, sym, ap, ◌∙◌, subst, arith, append-nil, slice_get, option_map, none-some, same_Some, slice_get-map, slice_get-get_or, In, place_in, In-get, at_within, CoverValue, allows, cover_value, Fits, ModelValue, IsClock, listed, controls, Place, is_latch, own_places, flat, none, AreLatches, state_of, Cell, One, Command, in_has, Circuit, mark_of, variable_name, next_name, cell_of, cover_command, zero_command, literal_command, latch_command, port_name, item_commands, commands_from, model_of, library_of, kind_at, literal_value, FitsLines, Header, Item, Input, Latch, Output, And, lit<, ◌^◌, ◌≤◌, get_or, take, drop, decimal, bytes_eq, replicate, bytes_decides, digits_value, decimal_is_IsNumeral, slice_get_within, take-append_seam, drop-append_seam, In-left, In-right, underscores, most_underscores, few_underscores, many_underscores, AreOnce, has_in, own_name, is_literal, is_variable, output_literal, next_literal, output_literals, next_literals, right_apart, not_in_both, nat_tests, cond-true, cond-false, cases_Bool, or_left, true≢false, and_parts, or_cases, take-append-drop, rules}
 use Rattle.netlist.specs.Instances.{CoverAt, LatchAt, IsMainInput}
 use Rattle.netlist.specs.Models.{Path, body_at, subckts_of, model_at, has_name, is_input}
 use Rattle.netlist.specs.declared.command.Body.{Body}
@@ -15,9 +15,6 @@ plain b = grind arith
 
 pub literal_row : (l : ℕ) (b : Bool) → (allows (cell_of l) b && true) || false ≡ cond (eqb (l % 2) 1) (not b) b
 literal_row l b = grind arith
-
-split_row : (a b : Bool) → (a && (b && true)) || false ≡ ((b && true) || false) && ((a && true) || false)
-split_row a b = grind arith
 
 pub gate_row : (left right : ℕ) (a b : Bool) → (allows (cell_of right) b && (allows (cell_of left) a && true)) || false ≡ cond (eqb (left % 2) 1) (not a) a && cond (eqb (right % 2) 1) (not b) b
 gate_row left right a b = grind arith

@@ -1,6 +1,6 @@
 -- The items of a graph's circuit: which one stands at each place, and what is picked from them. The circuit goes together: its header does, and its items
 -- stand at their places, in range.
-use Rattle.aiger_io.proofs.Common.{◌≡◌, ℕ, zero, suc, ◌+◌, ◌<◌, List, [], ◌∷◌, ◌++◌, length, map, drop, drop-cons, Some, inl, inr, refl, sym, ap, ◌∙◌, subst, arith, length-append, append-nil, slice_get, flat_map, range_with_len, option_map, length-map, flat_map-append, length-range_with_len, get_or-range_with_len, none-some, same_Some, slice_get-map, slice_get-get_or, slice_get_within, get_or_from_slice_get, In, In-get, In-right, get_left, drop_past, mapped_at, get_right, Aig, first_and, RootsValue, lits_of, Lit, Pair, FlatLatch, lit_at, input_item, latch_item, output_item, gate_item, graph_items, output_literal, next_literal, init_bit, output_literals, next_literals, init_bits, numbered, Item, ◌*◌, ◌/◌, ◌^◌, ◌≤◌, true, ◌&&◌, leb, and_from, le-leb, In-left, In-map, at_within, node_count, IsLit, AreNormal, FlatValue, OutPort, Param, Circuit, input_count, input_at, graph_circuit, IsWrittenFrom, is_literal, is_variable}
+use Rattle.aiger_io.proofs.Common.{◌≡◌, ℕ, zero, suc, ◌+◌, ◌<◌, List, [], ◌∷◌, ◌++◌, length, map, drop, drop-cons, Some, inl, inr, refl, sym, ap, ◌∙◌, subst, arith, length-append, append-nil, slice_get, flat_map, range_with_len, option_map, length-map, flat_map-append, length-range_with_len, get_or-range_with_len, none-some, same_Some, slice_get-map, slice_get-get_or, slice_get_within, get_or_from_slice_get, In, In-get, In-right, get_left, drop_past, mapped_at, get_right, Aig, first_and, RootsValue, lits_of, Lit, Pair, FlatLatch, lit_at, input_item, latch_item, output_item, gate_item, graph_items, output_literal, next_literal, init_bit, output_literals, next_literals, init_bits, numbered, Item, ◌*◌, ◌/◌, ◌^◌, ◌≤◌, true, leb, and_from, le-leb, In-left, In-map, at_within, node_count, IsLit, AreNormal, FlatValue, OutPort, Param, Circuit, input_count, input_at, graph_circuit, IsWrittenFrom, is_literal, is_variable}
 use Rattle.aiger_io.proofs.PortLemmas.{append_at}
 use Rattle.aiger_io.proofs.PlaceLemmas.{of_gate, IsItemAt, input_here, latch_here, output_here, gate_here, variable_in, literal_in}
 use Rattle.aiger_io.proofs.RoundTripLemmas.{IsFormed}

@@ -1,5 +1,5 @@
 -- The law of a circuit and its library: fitting values exist and agree, and cycles and runs are the same.
-use Rattle.aiger_io.proofs.Common.{◌≡◌, ℕ, zero, suc, ◌+◌, ◌-◌, ◌*◌, ◌/◌, ◌^◌, ◌<◌, ◌≤◌, min, max, Bool, false, ◌&&◌, get_or, List, [], ◌∷◌, ◌++◌, length, map, Option, Some, None, inl, inr, refl, sym, ap, ◌∙◌, subst, arith, append-nil, slice_get, option_map, option_and_then, length-map, same_Some, slice_get-map, slice_get-get_or, slice_get_within, In, place_in, at_within, same_list, CoverValue, Fits, ModelValue, LibraryValue, Path, Net, Drives, cover_output, latch_output, latch_net, cover_net, Place, is_latch, FlatOrder, FlatUnder, flat, latch_at, latch_in, AreLatches, IsCycle, Runs, stops, steps, init_state, inits_of, state_of, next_state, next_states, One, Command, AreOnce, Circuit, mark_of, variable_name, next_name, cell_of, cover_command, zero_command, latch_command, port_name, commands_from, model_of, library_of, Item, Input, Latch, Output, And, circuit_of, IsLibraryIn, left_apart, rules}
+use Rattle.aiger_io.proofs.Common.{◌≡◌, ℕ, zero, suc, ◌+◌, ◌-◌, ◌/◌, ◌^◌, ◌<◌, ◌≤◌, min, max, Bool, false, get_or, List, [], ◌∷◌, ◌++◌, length, map, Option, Some, None, inl, inr, refl, sym, ap, ◌∙◌, subst, arith, append-nil, slice_get, option_map, option_and_then, length-map, same_Some, slice_get-map, slice_get-get_or, slice_get_within, In, place_in, at_within, same_list, CoverValue, Fits, ModelValue, LibraryValue, Path, Net, Drives, cover_output, latch_output, latch_net, cover_net, Place, is_latch, FlatOrder, FlatUnder, flat, latch_at, latch_in, AreLatches, IsCycle, Runs, stops, steps, init_state, inits_of, state_of, next_state, next_states, One, Command, AreOnce, Circuit, mark_of, variable_name, next_name, cell_of, cover_command, zero_command, latch_command, port_name, commands_from, model_of, library_of, Item, Input, Latch, Output, And, circuit_of, IsLibraryIn, left_apart, rules}
 use Rattle.netlist.specs.Law.{HasOneCycle}
 use Rattle.netlist.specs.Sound.{IsSound}
 use Rattle.netlist.specs.SubcktValue.{SubcktValue}

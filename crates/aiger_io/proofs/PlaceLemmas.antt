@@ -1,6 +1,6 @@
 -- The items that were read: each is of the kind of its place, with its literals in range, and what is picked of one kind stands in the order of its places.
 -- The latches among the commands of a circuit's library, in flat order.
-use Rattle.aiger_io.proofs.Common.{◌≡◌, ℕ, ◌+◌, ◌*◌, ◌%◌, ◌<◌, ◌≤◌, true, ◌&&◌, leb, List, [], ◌∷◌, ◌++◌, length, Option, Some, Ok, inl, inr, refl, sym, ◌∙◌, subst, arith, slice_get, get_pushed, item_count, kind_at, item_of, is_literal, is_variable, is_in_range, item_with, item_at, items_from, words_of, and_then, Header, Item, Input, Latch, And, Kind, zero, suc, ◌-◌, min, max, ◌⊎◌, ap, flat_map, nat_tests, leb-true, le-leb, Circuit, IsDefined, zero_variable, input, latch, gate, place_in, and_parts, ◌/◌, Bool, eqb, map, Place, is_latch, own_places, state_of, Command, variable_name, next_name, latch_command, commands_from, same_Some, CoverValue, cond-true, cond-false, ne_eqb, eq-eqb, rules}
+use Rattle.aiger_io.proofs.Common.{◌≡◌, ℕ, ◌+◌, ◌*◌, ◌<◌, ◌≤◌, true, ◌&&◌, leb, List, [], ◌∷◌, ◌++◌, length, Option, Some, Ok, inl, inr, refl, sym, ◌∙◌, subst, arith, slice_get, get_pushed, item_count, kind_at, item_of, is_literal, is_variable, is_in_range, item_with, item_at, items_from, words_of, and_then, Header, Item, Input, Latch, And, Kind, zero, suc, ◌-◌, min, max, ◌⊎◌, ap, flat_map, nat_tests, leb-true, le-leb, Circuit, IsDefined, zero_variable, input, latch, gate, place_in, and_parts, ◌/◌, Bool, eqb, map, Place, is_latch, own_places, state_of, Command, variable_name, next_name, latch_command, commands_from, same_Some, CoverValue, cond-true, cond-false, ne_eqb, eq-eqb, rules}
 pub use Rattle.aiger_io.specs.AigerText.{kind_of_item}
 use Rattle.aiger_io.specs.declared.aag_err.AagErr.TheVariants as aag_err
 use Rattle.aiger_io.specs.declared.item.Kind.TheVariants as kind

@@ -1,5 +1,5 @@
 -- A circuit's text: where its names are clean it is read, part by part, as the circuit that was written.
-use Rattle.aiger_io.proofs.Common.{◌≡◌, ℕ, suc, ◌+◌, ◌^◌, ◌<◌, ◌≤◌, true, false, ◌&&◌, ◌||◌, eqb, List, [], ◌∷◌, ◌++◌, length, map, Some, None, decimal, codes, inl, inr, refl, sym, ap, ◌∙◌, arith, append_assoc, append-nil, list_any, lines, In, In-left, In-right, place_in, IsClean, ends_in, AreOnce, has_in, AreClean, Circuit, is_header, item_count, is_in_range, port_names, is_twice, first_twice, SymbolsValue, kind_of, symbol_with, symbol_of, is_bad_byte, is_bad_name, numbered, numbered_text, header_words, item_words, symbol_text, circuit_text, Header, Item, Kind, AllClean, one_clean, more_clean, nat_tests, and_parts, or_from, and_right, cond-false, cases_Bool, rules}
+use Rattle.aiger_io.proofs.Common.{◌≡◌, ℕ, suc, ◌+◌, ◌^◌, ◌<◌, ◌≤◌, true, false, eqb, List, [], ◌∷◌, ◌++◌, length, map, Some, None, decimal, codes, inl, inr, refl, sym, ap, ◌∙◌, arith, append_assoc, append-nil, list_any, lines, In, In-left, In-right, place_in, IsClean, ends_in, AreOnce, has_in, AreClean, Circuit, is_header, item_count, is_in_range, port_names, is_twice, first_twice, SymbolsValue, kind_of, symbol_with, symbol_of, is_bad_byte, is_bad_name, numbered, numbered_text, header_words, item_words, symbol_text, circuit_text, Header, Item, Kind, AllClean, one_clean, more_clean, nat_tests, and_parts, or_from, and_right, cond-false, cases_Bool, rules}
 use Rattle.aiger_io.specs.declared.item.Kind.TheVariants as kind
 use Rattle.aiger_io.proofs.CleanLemmas.{default_clean}
 use Rattle.aiger_io.proofs.LineLemmas.{header_small}

@@ -1,5 +1,5 @@
 -- The lines of a text, part by part, and numbers, words and lines that are read back as they were written.
-use Rattle.aiger_io.proofs.Common.{◌≡◌, false, ℕ, zero, suc, ◌+◌, ◌-◌, ◌<◌, ◌≤◌, Bool, eqb, get_or, List, [], ◌∷◌, ◌++◌, length, map, take, drop, Some, Bor, inl, inr, refl, sym, ap, ◌∙◌, subst, arith, append_assoc, append-nil, length-drop, length-take, slice_get, slice_split, onto_first, lines, lines_of_parts, strip_carriage_return, length-slice_split, count_by-le-length, In, choose_one, drop_get, drop_past, lit<, ◌*◌, ◌^◌, true, ◌&&◌, None, Ok, Err, decimal, codes, flat_map, slice_split_none, slice_split_at, In-append, In-get_or, IsClean, is_decimal, number_from, is_bad, words_text, line_text, AllClean, one_clean, more_clean, word_clean, decimal_form, decimal_value, decimal_clean, is_header, header_in, header_of, header_by, item_of, is_literal, is_variable, is_in_range, words_of, number_of, header_words, init_words, item_words, item_text, Header, Item, Input, Latch, Output, And, nat_tests, numbers_of, eqb-false, eq-eqb, ne_eqb, cond-true, cond-false, cases_Bool, and_parts, or_left, true≢false, length-map, map-append, take_all, drop-map, rules}
+use Rattle.aiger_io.proofs.Common.{◌≡◌, false, ℕ, zero, suc, ◌+◌, ◌-◌, ◌<◌, ◌≤◌, Bool, eqb, get_or, List, [], ◌∷◌, ◌++◌, length, map, take, drop, Some, Bor, inl, inr, refl, sym, ap, ◌∙◌, subst, arith, append_assoc, append-nil, length-drop, length-take, slice_get, slice_split, onto_first, lines, lines_of_parts, strip_carriage_return, length-slice_split, count_by-le-length, In, choose_one, drop_get, drop_past, lit<, ◌^◌, true, ◌&&◌, None, Ok, Err, decimal, codes, flat_map, slice_split_none, slice_split_at, In-append, In-get_or, IsClean, is_decimal, number_from, is_bad, words_text, line_text, AllClean, one_clean, more_clean, word_clean, decimal_form, decimal_value, decimal_clean, is_header, header_in, header_of, header_by, item_of, is_literal, is_variable, is_in_range, words_of, number_of, header_words, init_words, item_words, item_text, Header, Item, Input, Latch, Output, And, nat_tests, numbers_of, eqb-false, eq-eqb, ne_eqb, cond-true, cond-false, cases_Bool, and_parts, or_left, true≢false, length-map, map-append, take_all, drop-map, rules}
 use Rattle.aiger_io.specs.declared.aag_err.AagErr.TheVariants as aag_err
 use Rattle.aiger_io.proofs.LineLemmas.{header_small}
 use Rattle.aiger_io.proofs.PlaceLemmas.{kind_of_item}

@@ -3,7 +3,7 @@ mod Models
 mod Hierarchy
 mod Connections
 mod Clocking
-mod Values
+mod LoopLemmas
 mod Fields
-mod Faults
-mod Worked
+mod FaultOnceLemmas
+mod Examples

@@ -3,5 +3,4 @@ pub mod ClockSteps
 pub mod FieldSteps
 pub mod InstanceRows
 pub mod ModelSteps
-pub mod NameSets
 pub mod NetTable

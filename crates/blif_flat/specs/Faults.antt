@@ -1,11 +1,10 @@
 -- The refusal of a library: the walk, the weight, the drivers, the clocks, the loops, in this order.
 use Rattle.std.specs.Prelude.{◌≡◌, ℕ, ◌<◌, ◌≤◌, List, [], Some, None}
-use Rattle.blif_flat.specs.Circuits.{model_at, Place, is_latch, FlatOrder, ModelValue, LibraryValue, FlatErr, TooLarge}
+use Rattle.blif_flat.specs.Circuits.{model_at, Place, is_latch, FlatOrder, ModelValue, LibraryValue, FlatErr, TooLarge, most_weight, Weighs}
 use Rattle.blif_flat.specs.ClockFaults.{Clocks, is_gate, ClockData}
 use Rattle.blif_flat.specs.DriverFaults.{models_fault}
 use Rattle.blif_flat.specs.LoopFault.{IsLoop}
 use Rattle.blif_flat.specs.Walk.{refused, walked, WalksMain}
-use Rattle.netlist.specs.Weight.{most_weight, Weighs}
 
 -- the walk comes past F1 to F4 and the weight's limit
 pub record IsWalked (library : LibraryValue) (ms : List ModelValue) : Type 0 where

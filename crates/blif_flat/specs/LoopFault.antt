@@ -1,12 +1,9 @@
 -- F10: a cover whose value depends on itself through covers. The covers are walked depth first and left to right from the outputs, the latch inputs, and then all covers
 
 -- in flat order; the first cover that is met again on the current path closes the loop, which is told from it on.
-use Rattle.std.specs.Prelude.{◌≡◌, ℕ, if◌then◌else◌, List, [], ◌∷◌, ◌++◌, Option, Some, None}
-use Rattle.blif_flat.specs.Circuits.{Path, model_at, Net, cover_net, Place, same_place, latch_at, is_cover, is_latch, FlatOrder, LatchValue, ModelValue, LibraryValue, FlatErr}
-use Rattle.netlist.specs.DepthFirst.{Repeat, MeetsAll}
-use Rattle.netlist.specs.Loops.{AreNets, covers_among, reads_of}
+use Rattle.std.specs.Prelude.{◌≡◌, ℕ, if◌then◌else◌, List, [], ◌∷◌, ◌++◌, Some}
+use Rattle.blif_flat.specs.Circuits.{cover_net, Place, same_place, LibraryValue, FlatErr, Repeat, Loop}
 use Rattle.blif_flat.specs.Written.{IsWritten}
-use Rattle.blif_flat.specs.declared.flat_err.FlatErr.TheVariants.{Loop}
 use Rattle.netlist.specs.CoverWalk.{LoopWalk}
 
 -- the loop in the order in which each one reads the next: the path from the node's place on

@@ -1,9 +1,8 @@
 -- What each refusal of a library tells.
 use Rattle.std.specs.Prelude.{Option, Some, None, codes}
+use Rattle.blif_flat.specs.Circuits.{FlatErr, UnknownModel, RecursiveModel, UnknownFormal, Unconnected, TooLarge, DoublyDriven, Undriven, SecondClock, ClockNotInput, ClockAsData, Loop, Memory}
 use Rattle.tl_fault.specs.RefusalValue.{RefusalValue, refusal}
 use Rattle.tl_fault.specs.declared.refusal.Details.TheVariants.{Nothing, Located, One, Two, Listed}
-use Rattle.blif_flat.specs.Circuits.{FlatErr, UnknownModel, RecursiveModel, UnknownFormal, Unconnected, TooLarge, DoublyDriven, Undriven, SecondClock, ClockNotInput, ClockAsData}
-use Rattle.blif_flat.specs.declared.flat_err.FlatErr.TheVariants.{Loop, Memory}
 
 abbrev pub refusal_of : FlatErr → Option RefusalValue
 refusal_of (UnknownModel model line name) = Some (refusal (codes "F1") (codes "UnknownModel") (Located model line name))

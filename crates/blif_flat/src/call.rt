@@ -75,7 +75,7 @@ fn flat_circuit(
 /// # Errors
 /// The first of F1 to F4 in the walk, L2, F5 and F6 of the drivers, F8, F7 and F9 of the clocks, and F10. `Memory` if memory
 /// runs out. `specs/Faults.antt` defines the order and the details.
-#[tactic(auto, using(crate::proofs::Faults::FaultOnceLemmas::one_fault, crate::proofs::Faults::FaultOnceLemmas::no_fault))]
+#[tactic(auto, using(crate::proofs::FaultOnceLemmas::one_fault, crate::proofs::FaultOnceLemmas::no_fault))]
 pub fn flatten(alloc: Global, library: &Library) -> Result<Flat, FlatErr>
     requires formed { IsWellFormed library.now }
     requires few { length library.now.models < 2 ^ 32 }

@@ -1,5 +1,5 @@
 -- Each name in a library that a text denotes is clean.
-use Rattle.blif_read.proofs.Common.{◌≡◌, ℕ, ◌-◌, ◌<◌, eqb, List, [], ◌∷◌, ◌++◌, length, map, get_or, codes, Some, None, refl, sym, ap, ◌∙◌, subst, inl, inr, arith, none-some, same_Some, In, In-append, In-left, In-right, from_map, LineValue, token_bytes, words_line, Keyword, Cover, Latch, Subckt, Command, Pair, CoverValue, SubcktValue, ModelValue, LibraryValue, Ports, input_ports, output_ports, clock_ports, StatementValue, arguments_of, keyword_of, statement_at, statement_of, statements, IsLatch, plain, with_init, with_control, whole, Controls, nil, net, connection_token, IsConnection, IsSubckt, port_names, names_in, IsCoverLine, AreCommands, IsModel, AreModels, Denotes}
+use Rattle.blif_read.proofs.Common.{◌≡◌, ℕ, ◌-◌, eqb, List, [], ◌∷◌, length, map, get_or, codes, Some, None, refl, sym, ap, ◌∙◌, subst, inl, inr, arith, none-some, same_Some, In, In-append, In-left, In-right, from_map, LineValue, token_bytes, words_line, Keyword, Cover, Latch, Subckt, Command, Pair, CoverValue, SubcktValue, ModelValue, LibraryValue, Ports, input_ports, output_ports, clock_ports, StatementValue, arguments_of, keyword_of, statement_at, statement_of, statements, IsLatch, plain, with_init, with_control, whole, Controls, nil, net, connection_token, IsConnection, IsSubckt, port_names, names_in, IsCoverLine, AreCommands, IsModel, AreModels, Denotes}
 use Rattle.tl_text.specs.declared.token.Token.{Token}
 use Rattle.tl_text.specs.Clean.{IsClean, AreCleanIn}
 use Rattle.tl_text.proofs.PlaceLemmas.{lines_clean}
@@ -9,7 +9,6 @@ use Rattle.netlist.specs.declared.latch.Latch.{Latch as LatchValue}
 use Rattle.blif_read.specs.Denotes as denotes
 use Rattle.netlist.specs.HasCleanNames.{AreClean, IsCleanPair, IsCleanBody, IsCleanModel, HasCleanNames}
 
--- all words of lines are clean
 abbrev AllClean : List StatementValue → Type 0
 AllClean ss = (s : StatementValue) → In ss s → AreClean s.arguments
 
@@ -22,16 +21,11 @@ arguments_in number [] name i = absurd i
 arguments_in number (word ∷ rest) name i = word_of (keyword_of word) word rest name i
 
 statement_clean : (text : List ℕ) (line : LineValue) → ((token : Token) → In line.tokens token → IsClean (token_bytes text token)) → AreClean (statement_of (words_line text line)).arguments
-statement_clean text line clean name i =
-    let p = from_map (token_bytes text) line.tokens name (arguments_in line.number (map (token_bytes text) line.tokens) name i) in
-    subst IsClean (sym p.2) (clean p.0 p.1)
+statement_clean text line clean name i = grind (arith, from_map, arguments_in)
 
 statements_clean : (text : List ℕ) (lines : List LineValue) → AreCleanIn text lines → AllClean (statements text lines)
-statements_clean text lines clean s i =
-    let p = from_map (λ line. statement_of (words_line text line)) lines s i in
-    subst (λ (t : StatementValue). AreClean t.arguments) (sym p.2) (statement_clean text p.0 (clean.each p.0 p.1))
+statements_clean text lines clean s i = grind (arith, from_map, statement_clean)
 
--- the ports of lines
 port_in : (p : Ports) (k : Keyword) (names : List (List ℕ)) (name : List ℕ) → In (port_names p k names) name → In names name
 port_in input_ports keyword.Inputs names name i = i
 port_in output_ports keyword.Outputs names name i = i
@@ -45,11 +39,9 @@ ports_clean p (s ∷ ss) clean name i = elim (In-append (port_names p s.keyword 
   | inr b ↦ ports_clean p ss (λ t j. clean t (inr j)) name b
 ]
 
--- commands
 cover_clean : (s : StatementValue) (c : CoverValue) → IsCoverLine s c → AreClean s.arguments → IsCleanBody (Cover c)
 cover_clean s c is clean =
-    let all : AreClean (c.inputs ++ c.output ∷ []) = subst AreClean is.names clean in
-    (λ name i. all name (In-left c.inputs (c.output ∷ []) name i), all c.output (In-right c.inputs (c.output ∷ []) c.output (inl refl)))
+    (λ name i. (subst AreClean is.names clean) name (In-left c.inputs (c.output ∷ []) name i), (subst AreClean is.names clean) c.output (In-right c.inputs (c.output ∷ []) c.output (inl refl)))
 
 none_clean : (o : List ℕ) (l : LatchValue) → l.control ≡ None → l.control ≡ Some o → IsClean o
 none_clean o l none some = absurd (none-some o (sym none ∙ some))
@@ -60,11 +52,9 @@ control_clean token l (net other is) clean control some = subst IsClean (same_So
 
 latch_clean : (words : List (List ℕ)) (l : LatchValue) → IsLatch words l → AreClean words → IsCleanBody (Latch l)
 latch_clean words l (plain w c i) clean =
-    let all : AreClean (l.input ∷ l.output ∷ []) = subst AreClean w clean in
-    (all l.input (inl refl), all l.output (inr (inl refl)), λ o some. none_clean o l c some)
+    ((subst AreClean w clean) l.input (inl refl), (subst AreClean w clean) l.output (inr (inl refl)), λ o some. none_clean o l c some)
 latch_clean words l (with_init init w c i) clean =
-    let all : AreClean (l.input ∷ l.output ∷ init ∷ []) = subst AreClean w clean in
-    (all l.input (inl refl), all l.output (inr (inl refl)), λ o some. none_clean o l c some)
+    ((subst AreClean w clean) l.input (inl refl), (subst AreClean w clean) l.output (inr (inl refl)), λ o some. none_clean o l c some)
 latch_clean words l (with_control control w c i) clean =
     let all : AreClean (l.input ∷ l.output ∷ codes "re" ∷ control ∷ []) = subst AreClean w clean in
     (all l.input (inl refl), all l.output (inr (inl refl)), control_clean control l c (all control (inr (inr (inr (inl refl))))))
@@ -77,9 +67,8 @@ pair_clean : (pair : Pair) → IsConnection pair → IsClean (connection_token p
 pair_clean pair is clean =
     let front : (b : ℕ) → In pair.formal b → In (connection_token pair) b = λ b i. In-left pair.formal (61 ∷ pair.actual) b i in
     let back : (b : ℕ) → In pair.actual b → In (connection_token pair) b = λ b i. In-right pair.formal (61 ∷ pair.actual) b (inr i) in
-    let some : 0 < length pair.actual = is.actual in
     let last : get_or (connection_token pair) (length (connection_token pair) - 1) 0 ≡ get_or pair.actual (length pair.actual - 1) 0
-    = last_later pair.formal (61 ∷ pair.actual) (omega arith) ∙ last_later (61 ∷ []) pair.actual some in
+    = last_later pair.formal (61 ∷ pair.actual) (omega arith) ∙ last_later (61 ∷ []) pair.actual is.actual in
     record {
       formal = record { some = is.formal; no_blank = λ b i. clean.bytes.no_blank b (front b i); no_bad = λ b i. clean.bytes.no_bad b (front b i); no_comment = λ b i. clean.bytes.no_comment b (front b i) };
       actual = record {
@@ -102,19 +91,16 @@ later_clean : (s : StatementValue) (ss : List StatementValue) → AllClean (s �
 later_clean s ss clean t i = clean t (inr i)
 
 commands_clean : {ss : List StatementValue} {commands : List Command} → AreCommands ss commands → AllClean ss → (command : Command) → In commands command → IsCleanBody command.body
-commands_clean denotes.none clean command i = absurd i
-commands_clean (denotes.end s k a) clean command i = absurd i
 commands_clean (denotes.ports s ss commands k are) clean command i = commands_clean are (later_clean s ss clean) command i
 commands_clean (denotes.cover s rows rest ss c commands is rows_are split are) clean command (inl e) =
     subst (λ (x : Command). IsCleanBody x.body) (sym e) (cover_clean s c is (clean s (inl refl)))
-commands_clean (denotes.cover s rows rest ss c commands is rows_are split are) clean command (inr i) =
-    commands_clean are (λ t j. clean t (inr (subst (λ xs. In xs t) (sym split) (In-right rows rest t j)))) command i
+commands_clean (denotes.cover s rows rest ss c commands is rows_are split are) clean command (inr i) = grind (arith, commands_clean are (λ t j. clean t (inr (subst (λ xs. In xs t) (sym split) (In-right rows rest t j)))) command i)
 commands_clean (denotes.latch s ss l commands k is are) clean command (inl e) = subst (λ (x : Command). IsCleanBody x.body) (sym e) (latch_clean s.arguments l is (clean s (inl refl)))
 commands_clean (denotes.latch s ss l commands k is are) clean command (inr i) = commands_clean are (later_clean s ss clean) command i
 commands_clean (denotes.subckt s ss l commands k is are) clean command (inl e) = subst (λ (x : Command). IsCleanBody x.body) (sym e) (subckt_clean s.arguments l is (clean s (inl refl)))
 commands_clean (denotes.subckt s ss l commands k is are) clean command (inr i) = commands_clean are (later_clean s ss clean) command i
+commands_clean o clean command i = absurd i
 
--- models
 model_clean : (header : StatementValue) (body : List StatementValue) (m : ModelValue) → IsModel header body m → AreClean header.arguments → AllClean body → IsCleanModel m
 model_clean header body m is named clean = record {
   name = named m.name (subst (λ names. In names m.name) (sym is.name) (inl refl));
@@ -126,8 +112,7 @@ models_clean : {ss : List StatementValue} {models : List ModelValue} → AreMode
 models_clean denotes.none clean m i = absurd i
 models_clean (denotes.model s body rest ss first models is split are) clean m (inl e) =
     subst IsCleanModel (sym e) (model_clean s body first is (clean s (inl refl)) (λ t j. clean t (inr (subst (λ xs. In xs t) (sym split) (In-left body rest t j)))))
-models_clean (denotes.model s body rest ss first models is split are) clean m (inr i) =
-    models_clean are (λ t j. clean t (inr (subst (λ xs. In xs t) (sym split) (In-right body rest t j)))) m i
+models_clean (denotes.model s body rest ss first models is split are) clean m (inr i) = grind (arith, models_clean are (λ t j. clean t (inr (subst (λ xs. In xs t) (sym split) (In-right body rest t j)))) m i)
 
 pub denotes_clean : (text : List ℕ) (library : LibraryValue) → Denotes text library → HasCleanNames library
 denotes_clean text library d = record { each = models_clean d.models_are.models (statements_clean text d.lines (lines_clean text d.lines d.lines_are)) }

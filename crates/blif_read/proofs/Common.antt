@@ -4,31 +4,18 @@ pub use Rattle.std.proofs.lemmas.Bool.{cond-false, ne_eqb, cases_Bool, cond-true
 pub use Rattle.std.proofs.lemmas.List.{append-nil, length-take-le, length_push, length-map, drop_more, map_push, take-append-drop, drop_all, get_or-take}
 pub use Rattle.std.proofs.lemmas.Option.{none-some, same_Some}
 pub use Rattle.std.proofs.lemmas.Slice.Eq.{bytes_eq-Decides}
-pub use Rattle.std.specs.List.{position, position_or_len, slice_get}
 pub use Rattle.std.specs.Option.{option_map}
+pub use Rattle.blif_read.specs.Words.{In, RowValue, CoverValue, matches, cover_value, Ports, input_ports, output_ports, clock_ports, ModelValue, LibraryValue, ports_of, SubcktValue, formals, Cell, Zero, One, Any, Body, Cover, Command, Pair, bit_of, LineValue, token_bytes, words_line, AreLinesIn, lines_of, AreOnce, TextErr, BlifErr, DuplicateModel, NoModel, BadConnection, DuplicatePort, BadLatch, LatchKind, Keyword, Model, Inputs, Outputs, Clock, Names, End, Plain, Unknown}
+pub use Rattle.std.specs.List.{position, position_or_len, slice_get}
 pub use Rattle.std.specs.Vec.Iter.{into_iter_items}
 pub use Rattle.list_laws.proofs.Apart.{pushed_apart, not_in_both}
 pub use Rattle.list_laws.proofs.Choice.{choose, none_else, none_both, some_then, some_else}
-pub use Rattle.list_laws.proofs.Members.{In-append, In-left, In-right, from_map}
-pub use Rattle.list_laws.specs.Members.{In}
-pub use Rattle.netlist.specs.CoverValue.{RowValue, CoverValue, matches, cover_value}
-pub use Rattle.netlist.specs.LibraryValue.{Ports, input_ports, output_ports, clock_ports, ModelValue, LibraryValue, ports_of}
+pub use Rattle.list_laws.proofs.Members.{In-place, In-append, In-left, In-right, from_map}
 pub use Rattle.netlist.specs.ShortPorts.{HasShortPorts}
-pub use Rattle.netlist.specs.SubcktValue.{SubcktValue, formals}
-pub use Rattle.netlist.specs.declared.cell.Cell.{Cell}
-pub use Rattle.netlist.specs.declared.cell.Cell.TheVariants.{Zero, One, Any}
-pub use Rattle.netlist.specs.declared.command.Body.{Body}
-pub use Rattle.netlist.specs.declared.command.Body.TheVariants.{Cover, Latch, Subckt}
-pub use Rattle.netlist.specs.declared.command.Command.{Command}
-pub use Rattle.netlist.specs.declared.subckt.Pair.{Pair}
+pub use Rattle.netlist.specs.declared.command.Body.TheVariants.{Latch, Subckt}
 pub use Rattle.tl_fault.proofs.OrMemoryLemmas.{OrMemory-map}
 pub use Rattle.tl_fault.proofs.PassedOn.{passed_on}
 pub use Rattle.tl_fault.specs.OrMemory.{OrMemory}
-pub use Rattle.tl_text.specs.Decimal.{bit_of}
-pub use Rattle.tl_text.specs.LineValue.{LineValue, token_bytes, words_line, AreLinesIn}
-pub use Rattle.tl_text.specs.Lines.{lines_of}
-pub use Rattle.tl_text.specs.Once.{AreOnce}
-pub use Rattle.tl_text.specs.declared.text_err.TextErr.{TextErr}
 pub use Rattle.tl_text.proofs.NameSetLemmas.{has_in, place_some}
 pub use Rattle.blif_read.specs.Context.{row_of, RowRead, Context, CoverPlace, first_value, row_place, place_after, open_after, models_after, ports_after, context_of, cells_of, row_with, cell_of, put_cell}
 pub use Rattle.blif_read.specs.Denotes.{connection_token, IsConnection, IsSubckt, port_names, names_in, IsCoverLine, AreCommands, IsModel, AreModels, Denotes}
@@ -40,7 +27,3 @@ pub use Rattle.blif_read.specs.Refusals.{refusal_of}
 pub use Rattle.blif_read.specs.Rows.{IsRow, alone, behind, AreRows, none, more, cell_character, output_token}
 pub use Rattle.blif_read.specs.Size.{name_size, names_size, pairs_size, control_size, body_size, commands_size, model_size, models_size, library_size}
 pub use Rattle.blif_read.specs.Statement.{StatementValue, arguments_of, keyword_of, statement_at, statement_of, statements}
-pub use Rattle.blif_read.specs.declared.blif_err.BlifErr.{BlifErr}
-pub use Rattle.blif_read.specs.declared.blif_err.BlifErr.TheVariants.{DuplicateModel, NoModel, BadConnection, DuplicatePort, BadLatch, LatchKind}
-pub use Rattle.blif_read.specs.declared.keyword.Keyword.{Keyword}
-pub use Rattle.blif_read.specs.declared.keyword.Keyword.TheVariants.{Model, Inputs, Outputs, Clock, Names, End, Plain, Unknown}

@@ -1,14 +1,41 @@
 -- What the reader makes of lines without a refusal is what they denote.
-use Rattle.blif_read.proofs.Common.{◌≡◌, ℕ, ◌<◌, List, [], ◌∷◌, ◌++◌, length, Some, None, Result, Ok, Err, refl, sym, ap, ◌∙◌, subst, arith, none-some, LineValue, lines_of, TextErr, BlifErr, Keyword, Body, ModelValue, LibraryValue, input_ports, output_ports, clock_ports, ports_of, StatementValue, statements, AreOnce, none, row_of, end_fault, fault_by, line_fault, CoverRead, State, start, with_command, ended, context, fresh, with_ports, cover_of, with_row, latch_of, subckt_of, next_by, next, steps, library_at_end, library_read, lines_read, text_read, append-nil, append_assoc}
+use Rattle.blif_read.proofs.Common.{◌≡◌, ℕ, ◌<◌, List, [], ◌∷◌, ◌++◌, length, Some, None, Result, Ok, Err, refl, sym, ap, ◌∙◌, subst, arith, none-some, LineValue, lines_of, TextErr, BlifErr, Keyword, Body, ModelValue, LibraryValue, input_ports, output_ports, clock_ports, ports_of, StatementValue, statements, AreOnce, none, end_fault, fault_by, CoverRead, State, start, with_command, ended, context, fresh, with_ports, cover_of, latch_of, subckt_of, next_by, steps, library_at_end, library_read, lines_read, text_read, append-nil, append_assoc, rules, map, Option, map_push, Model, Plain, pushed_apart, line_fault, ModelRead, with_cover, flushed, model_after, next}
 use Rattle.blif_read.specs.declared.keyword.Keyword.TheVariants.{Model, Inputs, Outputs, Clock, Names, Latch, Subckt, End, Unknown, Plain}
-use Rattle.netlist.specs.declared.command.Body.TheVariants as body
 use Rattle.blif_read.specs.Denotes.{AreModels, AreLibrary, Denotes, none, end as end_line, latch as latch_line, subckt as subckt_line}
 use Rattle.blif_read.proofs.FaultLemmas.{state_of, or_fault_ok, finished_ok}
-use Rattle.blif_read.proofs.OnceLemmas.{model_new}
+use Rattle.blif_read.proofs.PortLemmas.{model_new, line_of, HasOnce, once_grown, once_commanded, quiet_line}
 use Rattle.blif_read.proofs.FormedLemmas.{latch_is, names_are, subckt_is}
-use Rattle.blif_read.proofs.PortLemmas.{line_of, HasOnce, once_grown, once_commanded, quiet_line}
 use Rattle.blif_read.proofs.EndsLemmas.{EndsClosed, EndsOpen, EndsCover, header_once, header_denoted, open_ports, open_command, open_cover, cover_row, cover_end, open_end}
-use Rattle.blif_read.proofs.NamedLemmas.{names_of, AreNamed, steps_named}
+use Rattle.netlist.specs.declared.command.Body.TheVariants as body
+
+-- The names of the models that were read are those that began, and none stands twice.
+abbrev pub names_of : List ModelValue → List (List ℕ)
+names_of ms = map (λ (m : ModelValue). m.name) ms
+
+pub record AreNamed (s : State) : Type 0 where
+  pub names_are : s.names ≡ names_of (ended s)
+  pub once : AreOnce s.names
+
+-- a line within a model keeps its name
+name_kept : (k : Keyword) (n : ℕ) (words : List (List ℕ)) (m : ModelValue) (c : Option CoverRead) → (flushed (model_after k n words (record { model = m; cover = c }))).name ≡ (with_cover m c).name
+name_kept Plain n words m None = refl
+name_kept Plain n words m (Some c) = refl
+name_kept k n words m c = refl
+
+names_pushed : (done : List ModelValue) (m other : ModelValue) → m.name ≡ other.name → names_of (done ++ m ∷ []) ≡ names_of (done ++ other ∷ [])
+names_pushed done m other e = grind (arith, map_push, names_of)
+
+next_named : (k : Keyword) (names : List (List ℕ)) (done : List ModelValue) (current : Option ModelRead) (n : ℕ) (words : List (List ℕ)) → AreNamed (state_of names done current) → fault_by k (context (state_of names done current)) n words ≡ None
+    → AreNamed (next_by k (state_of names done current) n words)
+next_named Model names done current n words named h = grind (arith, model_new, names_of, state_of, map_push, pushed_apart)
+next_named k names done (Some r) n words named h = search (rules, names_pushed, name_kept)
+next_named k names done current n words named h = record { names_are = named.names_are; once = named.once }
+
+pub steps_named : (ss : List StatementValue) (s t : State) → AreNamed s → steps s ss ≡ Ok t → AreNamed t
+steps_named [] s t named h = let e : s ≡ t = cc in subst AreNamed e named
+steps_named (l ∷ ls) s t named h =
+    let p = or_fault_ok (line_fault (context s) l) (steps (next s l) ls) t h in
+    steps_named ls (next s l) t (next_named l.keyword s.names s.done s.current l.number l.arguments named p.0) p.1
 
 -- what the reader makes of the lines in each state
 record Reads (ss : List StatementValue) : Type 0 where
@@ -26,8 +53,6 @@ end_alone n (w ∷ ws) h = absurd (none-some _ (sym h))
 -- a line where a model is open, with no cover that may have further rows
 open_step : (k : Keyword) (n : ℕ) (words : List (List ℕ)) (ls : List StatementValue) → Reads ls → (names : List (List ℕ)) (done : List ModelValue) (m : ModelValue) (t : State) → HasOnce m
     → fault_by k (context (opened_at names done m)) n words ≡ None → steps (next_by k (opened_at names done m) n words) ls ≡ Ok t → EndsOpen done m (line_of k n words ∷ ls) t
-open_step Plain n words ls reads names done m t o h g = absurd (none-some _ (sym h))
-open_step Unknown n words ls reads names done m t o h g = absurd (none-some _ (sym h))
 open_step Inputs n words ls reads names done m t o h g = open_ports input_ports n words ls done m t (reads.opened names done (with_ports input_ports words m) t (λ p. once_grown p input_ports n m words o h) g)
 open_step Outputs n words ls reads names done m t o h g = open_ports output_ports n words ls done m t (reads.opened names done (with_ports output_ports words m) t (λ p. once_grown p output_ports n m words o h) g)
 open_step Clock n words ls reads names done m t o h g = open_ports clock_ports n words ls done m t (reads.opened names done (with_ports clock_ports words m) t (λ p. once_grown p clock_ports n m words o h) g)
@@ -61,10 +86,9 @@ open_step Model n words ls reads names done m t o h g =
       commanded = none;
     }
 open_step End n words ls reads names done m t o h g =
-    let l : StatementValue = line_of End n words in
     let e : EndsClosed (done ++ m ∷ []) ls t = reads.closed names (done ++ m ∷ []) t g in
     record {
-      lines = l ∷ [];
+      lines = (line_of End n words) ∷ [];
       rest = ls;
       whole = m;
       made = e.made;
@@ -77,8 +101,9 @@ open_step End n words ls reads names done m t o h g =
       ports_are = λ p. sym (append-nil (ports_of p m)) ∙ ap (λ x. ports_of p m ++ x) (sym (quiet_line p End n words [] refl refl));
       once = o;
       commands_are = sym (append-nil m.commands);
-      commanded = end_line l refl (end_alone n words h);
+      commanded = end_line (line_of End n words) refl (end_alone n words h);
     }
+open_step k n words ls reads names done m t o h g = absurd (none-some _ (sym h))
 
 -- a line where no model is open
 closed_step : (k : Keyword) (n : ℕ) (words : List (List ℕ)) (ls : List StatementValue) → Reads ls → (names : List (List ℕ)) (done : List ModelValue) (t : State) → fault_by k (context (state_of names done None)) n words ≡ None
@@ -92,14 +117,10 @@ closed_step k n words ls reads names done t h g = absurd (none-some _ (sym h))
 cover_step : (k : Keyword) (n : ℕ) (words : List (List ℕ)) (ls : List StatementValue) → Reads ls → (names : List (List ℕ)) (done : List ModelValue) (m : ModelValue) (c : CoverRead) (t : State) → HasOnce m
     → fault_by k (context (state_of names done (Some (record { model = m; cover = Some c })))) n words ≡ None → steps (next_by k (state_of names done (Some (record { model = m; cover = Some c }))) n words) ls ≡ Ok t
     → EndsCover done m c (line_of k n words ∷ ls) t
-cover_step Plain n words ls reads names done m c t o h g =
-    cover_row n words ls done m c t (row_of (length c.cover.inputs) words) refl h (reads.covered names done m (record { line = c.line; cover = with_row c.cover (row_of (length c.cover.inputs) words) }) t o g)
+cover_step Plain n words ls reads names done m c t o h g = grind (arith, cover_row)
 cover_step Unknown n words ls reads names done m c t o h g = absurd (none-some _ (sym h))
-cover_step k n words ls reads names done m c t o h g =
-    cover_end (line_of k n words ∷ ls) done m c t
-    (open_step k n words ls reads names done (with_command m c.line (body.Cover c.cover)) t (once_commanded m c.line (body.Cover c.cover) o) h g)
+cover_step k n words ls reads names done m c t o h g = search (rules, cover_end, line_of, open_step, once_commanded)
 
--- all lines
 same_end : (s t : State) → ◌≡◌ {A = Result State BlifErr} (Ok s) (Ok t) → ended t ≡ ended s
 same_end s t h = let e : s ≡ t = cc in ap ended (sym e)
 
@@ -109,12 +130,7 @@ reads_all [] = record {
   opened = λ names done m t o h. open_end done m t o (same_end _ t h);
   covered = λ names done m c t o h. cover_end [] done m c t (open_end done (with_command m c.line (body.Cover c.cover)) t (once_commanded m c.line (body.Cover c.cover) o) (same_end _ t h));
 }
-reads_all (l ∷ ls) = let reads : Reads ls = reads_all ls in record {
-  closed = λ names done t h. let p = or_fault_ok (line_fault (context (state_of names done None)) l) (steps (next (state_of names done None) l) ls) t h in closed_step l.keyword l.number l.arguments ls reads names done t p.0 p.1;
-  opened = λ names done m t o h. let p = or_fault_ok (line_fault (context (opened_at names done m)) l) (steps (next (opened_at names done m) l) ls) t h in open_step l.keyword l.number l.arguments ls reads names done m t o p.0 p.1;
-  covered = λ names done m c t o h. let s : State = state_of names done (Some (record { model = m; cover = Some c })) in let p = or_fault_ok (line_fault (context s) l) (steps (next s l) ls) t h in
-      cover_step l.keyword l.number l.arguments ls reads names done m c t o p.0 p.1;
-}
+reads_all (l ∷ ls) = grind (arith, or_fault_ok, state_of, closed_step, opened_at, open_step, cover_step, reads_all ls)
 
 -- the library at the end has the models, and at least one
 end_is : (ms : List ModelValue) (library : LibraryValue) → library_at_end ms ≡ Ok library → (ms ≡ library.models) × (0 < length ms)

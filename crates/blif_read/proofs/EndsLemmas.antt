@@ -1,11 +1,10 @@
 -- The models that lines end with, from the open model and its last cover, and how a line before them changes that.
-use Rattle.blif_read.proofs.Common.{◌≡◌, ℕ, ◌<◌, Bool, List, [], ◌∷◌, ◌++◌, length, Option, Some, None, refl, sym, ap, ◌∙◌, subst, arith, none-some, Model, Names, Plain, Body, Command, CoverValue, RowValue, ModelValue, Ports, input_ports, ports_of, StatementValue, IsRow, AreRows, none, more, RowRead, row_of, mixed_fault, row_read_fault, CoverRead, State, with_command, ended, value_so_far, first_word, fresh, with_ports, cover_of, with_row, append-nil, append_assoc}
-use Rattle.netlist.specs.declared.command.Body.TheVariants as body
+use Rattle.blif_read.proofs.Common.{◌≡◌, ℕ, ◌<◌, Bool, List, [], ◌∷◌, ◌++◌, length, Option, Some, None, refl, sym, ap, ◌∙◌, subst, arith, none-some, Model, Names, Plain, Body, Command, CoverValue, RowValue, ModelValue, Ports, input_ports, ports_of, StatementValue, IsRow, AreRows, none, more, RowRead, row_of, mixed_fault, row_read_fault, CoverRead, State, with_command, ended, value_so_far, first_word, fresh, with_ports, cover_of, with_row, append-nil, append_assoc, rules}
 use Rattle.blif_read.specs.Denotes.{port_names, names_in, AreCommands, AreModels, none, ports as ports_line, cover as cover_lines, model as model_lines}
 use Rattle.blif_read.proofs.FaultLemmas.{same_value, value_there, some_push}
-use Rattle.blif_read.proofs.OnceLemmas.{IsNewName}
+use Rattle.blif_read.proofs.PortLemmas.{IsNewName, keyword_for, line_of, command_of, names_in-append, names_in-rows, is_port, ports_grown, HasOnce, ports_keep, ports_commanded, quiet_line}
 use Rattle.blif_read.proofs.FormedLemmas.{row_is}
-use Rattle.blif_read.proofs.PortLemmas.{keyword_for, line_of, command_of, names_in-append, names_in-rows, is_port, ports_grown, HasOnce, ports_keep, ports_commanded, quiet_line}
+use Rattle.netlist.specs.declared.command.Body.TheVariants as body
 
 -- The end that the lines lead to, where no model is open: models that the lines denote.
 pub record EndsClosed (done : List ModelValue) (ss : List StatementValue) (t : State) : Type 0 where
@@ -46,22 +45,7 @@ pub record EndsCover (done : List ModelValue) (m : ModelValue) (c : CoverRead) (
 open_more : (done : List ModelValue) (m grown : ModelValue) (front later ss : List StatementValue) (new : List Command) (t : State) → ss ≡ front ++ later → grown.name ≡ m.name → grown.line ≡ m.line
     → ((p : Ports) → ports_of p grown ≡ ports_of p m ++ names_in p front) → grown.commands ≡ m.commands ++ new
     → ((lines : List StatementValue) (commands : List Command) → AreCommands lines commands → AreCommands (front ++ lines) (new ++ commands)) → EndsOpen done grown later t → EndsOpen done m ss t
-open_more done m grown front later ss new t split name line ports commands commanded e = record {
-  lines = front ++ e.lines;
-  rest = e.rest;
-  whole = e.whole;
-  made = e.made;
-  commands = new ++ e.commands;
-  split = split ∙ ap (λ x. front ++ x) e.split ∙ sym (append_assoc front e.lines e.rest);
-  ended_is = e.ended_is;
-  denoted = e.denoted;
-  name_is = e.name_is ∙ name;
-  line_is = e.line_is ∙ line;
-  ports_are = λ p. e.ports_are p ∙ ap (λ x. x ++ names_in p e.lines) (ports p) ∙ append_assoc (ports_of p m) (names_in p front) (names_in p e.lines) ∙ ap (λ x. ports_of p m ++ x) (sym (names_in-append p front e.lines));
-  once = e.once;
-  commands_are = e.commands_are ∙ ap (λ x. x ++ e.commands) commands ∙ append_assoc m.commands new e.commands;
-  commanded = commanded e.lines e.commands e.commanded;
-}
+open_more done m grown front later ss new t split name line ports commands commanded e = search (rules, append_assoc, names_in-append)
 
 -- a model without ports so far, from its header
 pub header_once : (words : List (List ℕ)) (n : ℕ) → HasOnce (fresh words n).model
@@ -85,7 +69,6 @@ header_denoted models words n done ss t new e =
       commands = subst (AreCommands e.lines) (sym e.commands_are) e.commanded;
     }) e.split e.denoted
 
--- a line of ports
 pub open_ports : (q : Ports) (n : ℕ) (words : List (List ℕ)) (ls : List StatementValue) (done : List ModelValue) (m : ModelValue) (t : State) → EndsOpen done (with_ports q words m) ls t → EndsOpen done m (line_of (keyword_for q) n words ∷ ls) t
 open_ports q n words ls done m t e =
     let l : StatementValue = line_of (keyword_for q) n words in
@@ -97,11 +80,8 @@ open_ports q n words ls done m t e =
 -- a command, with the lines that it takes
 pub open_command : (done : List ModelValue) (m : ModelValue) (n : ℕ) (made : Body) (front later ss : List StatementValue) (t : State) → ss ≡ front ++ later → ((p : Ports) → names_in p front ≡ [])
     → ((lines : List StatementValue) (commands : List Command) → AreCommands lines commands → AreCommands (front ++ lines) (command_of n made ∷ commands)) → EndsOpen done (with_command m n made) later t → EndsOpen done m ss t
-open_command done m n made front later ss t split quiet commanded e =
-    open_more done m (with_command m n made) front later ss (command_of n made ∷ []) t split refl refl
-    (λ p. ports_commanded p m n made ∙ sym (append-nil (ports_of p m)) ∙ ap (λ x. ports_of p m ++ x) (sym (quiet p))) refl commanded e
+open_command done m n made front later ss t split quiet commanded e = grind (arith, open_more, command_of, ports_commanded, append-nil)
 
--- a cover, with its rows
 pub open_cover : (n : ℕ) (words : List (List ℕ)) (ls : List StatementValue) (done : List ModelValue) (m : ModelValue) (t : State) → words ≡ (cover_of words).inputs ++ (cover_of words).output ∷ []
     → EndsCover done m (record { line = n; cover = cover_of words }) ls t → EndsOpen done m (line_of Names n words ∷ ls) t
 open_cover n words ls done m t named e =
@@ -111,9 +91,6 @@ open_cover n words ls done m t named e =
     (λ lines commands are. cover_lines l e.lines lines (e.lines ++ lines) made commands (record { is = refl; names = named; no_rows = e.none_more }) e.rows_are refl are) e.behind_them
 
 -- a row of the last cover
-not_nil : {A : Type 0} (x : A) (xs : List A) → x ∷ xs ≡ [] → ⊥
-not_nil x xs e = let c : length (x ∷ xs) ≡ 0 = ap length e in omega arith
-
 pub cover_row : (n : ℕ) (words : List (List ℕ)) (ls : List StatementValue) (done : List ModelValue) (m : ModelValue) (c : CoverRead) (t : State) (row : Option RowRead) → row_of (length c.cover.inputs) words ≡ row
     → row_read_fault n (value_so_far c.cover) row ≡ None → EndsCover done m (record { line = c.line; cover = with_row c.cover row }) ls t → EndsCover done m c (line_of Plain n words ∷ ls) t
 cover_row n words ls done m c t None is h e = absurd (none-some _ (sym h))
@@ -129,7 +106,7 @@ cover_row n words ls done m c t (Some row) is h e =
       split = ap (λ x. l ∷ x) e.split;
       rows_are = more l e.lines r e.rows (subst (λ v. IsRow (length c.cover.inputs) v l r) (sym same) (row_is (length c.cover.inputs) words row l refl refl is)) e.rows_are;
       first = λ some. same ∙ same_value n c.cover.value row.value (ap (λ v. mixed_fault n v row.value) (sym (value_there c.cover.value c.cover.rows some)) ∙ h);
-      none_more = λ z. absurd (not_nil r e.rows z);
+      none_more = λ z. absurd (cc);
       behind_them = subst (λ rows. EndsOpen done (with_command m c.line (body.Cover (record c.cover { value = e.value; rows = rows }))) e.later t) (append_assoc c.cover.rows (r ∷ []) e.rows) e.behind_them;
     }
 
@@ -147,7 +124,6 @@ cover_end ss done m c t e = record {
   behind_them = subst (λ rows. EndsOpen done (with_command m c.line (body.Cover (record c.cover { rows = rows }))) ss t) (sym (append-nil c.cover.rows)) e;
 }
 
--- no further line
 pub open_end : (done : List ModelValue) (m : ModelValue) (t : State) → HasOnce m → ended t ≡ done ++ m ∷ [] → EndsOpen done m [] t
 open_end done m t o e = record {
   lines = [];

@@ -1,5 +1,5 @@
 -- The reader's state has the place that the earlier lines say, so its refusal is the text's.
-use Rattle.blif_read.proofs.Common.{◌≡◌, ℕ, ◌+◌, ◌-◌, ◌<◌, Bool, true, false, ◌||◌, cond, eqb, List, [], ◌∷◌, ◌++◌, length, Option, Some, None, Result, Ok, Err, refl, sym, ap, ◌∙◌, subst, inl, inr, ◌⊎◌, arith, option_map, append-nil, length-take-le, length_push, cond-false, ne_eqb, none-some, LineValue, TextErr, lines_of, BlifErr, NoModel, Keyword, CoverValue, RowValue, ModelValue, LibraryValue, Ports, input_ports, output_ports, clock_ports, ports_of, StatementValue, statements, Context, CoverPlace, RowRead, row_of, first_value, row_place, place_after, open_after, models_after, ports_after, context_of, or_later, mixed_fault, row_read_fault, row_fault, fault_by, line_fault, first_fault, is_model_keyword, has_model, statements_fault, blif_err, lines_fault, read_fault, CoverRead, ModelRead, State, start, with_cover, ended, value_so_far, place_of_cover, context, cover_of, with_row, with_row_words, next_by, next, or_fault, steps, library_at_end, finished, library_read, lines_read, text_read, Model, Inputs, Outputs, Clock, Names, End, Unknown, Plain}
+use Rattle.blif_read.proofs.Common.{◌≡◌, ℕ, ◌+◌, ◌-◌, ◌<◌, Bool, true, false, cond, eqb, List, [], ◌∷◌, ◌++◌, length, Option, Some, None, Result, Ok, Err, refl, sym, ap, ◌∙◌, subst, inl, inr, ◌⊎◌, arith, option_map, append-nil, length-take-le, length_push, cond-false, ne_eqb, none-some, LineValue, TextErr, lines_of, BlifErr, NoModel, Keyword, CoverValue, RowValue, ModelValue, LibraryValue, Ports, input_ports, output_ports, clock_ports, ports_of, StatementValue, statements, Context, CoverPlace, RowRead, row_of, first_value, row_place, place_after, open_after, models_after, ports_after, context_of, or_later, mixed_fault, row_read_fault, row_fault, fault_by, line_fault, first_fault, has_model, statements_fault, blif_err, lines_fault, read_fault, CoverRead, ModelRead, State, start, with_cover, ended, value_so_far, place_of_cover, context, cover_of, with_row, with_row_words, next_by, next, or_fault, steps, library_at_end, finished, library_read, lines_read, text_read, Model, Inputs, Outputs, Clock, Names, End, Unknown, Plain}
 use Rattle.blif_read.proofs.PortLemmas.{ports_flushed}
 
 -- contexts with the same parts are the same
@@ -26,10 +26,9 @@ ports_added p m c words = ap (λ ports. ports ++ words) (ports_flushed p m c)
 
 -- the place of a cover behind its row: a row that isn't mixed has the value of the first one
 pub same_value : (n : ℕ) (first value : Bool) → mixed_fault n (Some first) value ≡ None → value ≡ first
-same_value n true true h = refl
 same_value n true false h = absurd (none-some _ (sym h))
 same_value n false true h = absurd (none-some _ (sym h))
-same_value n false false h = refl
+same_value n first value h = refl
 
 pub some_push : {A : Type 0} (xs : List A) (x : A) → 0 < length (xs ++ x ∷ [])
 some_push xs x = let e : length (xs ++ x ∷ []) ≡ length xs + 1 = length_push xs x in omega arith
@@ -40,11 +39,7 @@ value_there value rows some = cond-false (eqb (length rows) 0) None (Some value)
 place_value : (n : ℕ) (cover : CoverValue) (rows : List RowValue) (row : RowRead) → mixed_fault n (value_so_far (record cover { rows = rows })) row.value ≡ None
     → value_so_far (with_row (record cover { rows = rows }) (Some row)) ≡ first_value (value_so_far (record cover { rows = rows })) (Some row)
 place_value n cover [] row h = value_there row.value (record { cells = row.cells } ∷ []) (omega arith)
-place_value n cover (r ∷ rs) row h =
-    let there : value_so_far (record cover { rows = r ∷ rs }) ≡ Some cover.value = value_there cover.value (r ∷ rs) (omega arith) in
-    value_there row.value (r ∷ rs ++ record { cells = row.cells } ∷ []) (omega arith)
-    ∙ ap (λ v. Some v) (same_value n cover.value row.value (ap (λ v. mixed_fault n v row.value) (sym there) ∙ h))
-    ∙ ap (λ v. first_value v (Some row)) (sym there)
+place_value n cover (r ∷ rs) row h = grind arith
 
 abbrev place_at : ℕ → Option Bool → Option CoverPlace
 place_at inputs value = Some (record { inputs = inputs; value = value })
@@ -76,8 +71,7 @@ next_place Inputs names done (Some r) n words h = same_context _ _ refl refl (po
 next_place Outputs names done (Some r) n words h = same_context _ _ refl refl (ports_kept input_ports r.model r.cover) (ports_added output_ports r.model r.cover words) (ports_kept clock_ports r.model r.cover) refl
 next_place Clock names done (Some r) n words h = same_context _ _ refl refl (ports_kept input_ports r.model r.cover) (ports_kept output_ports r.model r.cover) (ports_added clock_ports r.model r.cover words) refl
 next_place Names names done (Some r) n words h = same_context _ _ refl refl (ports_kept input_ports r.model r.cover) (ports_kept output_ports r.model r.cover) (ports_kept clock_ports r.model r.cover) (names_place words)
-next_place Plain names done (Some r) n words h =
-    same_context _ _ refl refl (sym (append-nil r.model.inputs)) (sym (append-nil r.model.outputs)) (sym (append-nil r.model.clocks)) (plain_place n r.cover words h)
+next_place Plain names done (Some r) n words h = grind (arith, same_context, append-nil, plain_place)
 next_place k names done (Some r) n words h = same_context _ _ refl refl (ports_kept input_ports r.model r.cover) (ports_kept output_ports r.model r.cover) (ports_kept clock_ports r.model r.cover) refl
 
 -- the reader's place behind a line is what the lines up to it say
@@ -98,9 +92,7 @@ steps_fault_ok : (ss : List StatementValue) (s : State) (earlier : List Statemen
 steps_fault_ok [] s earlier t same h = refl
 steps_fault_ok (l ∷ ls) s earlier t same h =
     let p = or_fault_ok (line_fault (context s) l) (steps (next s l) ls) t h in
-    ap (λ c. or_later (line_fault c l) (first_fault (l ∷ earlier) ls)) (sym same)
-    ∙ ap (λ o. or_later o (first_fault (l ∷ earlier) ls)) p.0
-    ∙ steps_fault_ok ls (next s l) (l ∷ earlier) t (context_next s l earlier same p.0) p.1
+    grind (arith, context_next, steps_fault_ok ls (next s l) (l ∷ earlier) t (context_next s l earlier same p.0) p.1)
 
 steps_fault_err : (ss : List StatementValue) (s : State) (earlier : List StatementValue) (e : BlifErr) → context s ≡ context_of earlier → steps s ss ≡ Err e → first_fault earlier ss ≡ Some e
 steps_fault_err [] s earlier e same h = absurd (let f : ⊥ = cc in f)
@@ -111,28 +103,19 @@ steps_fault_err (l ∷ ls) s earlier e same h =
       | inr p ↦ ap (λ o. or_later o (first_fault (l ∷ earlier) ls)) p.0 ∙ steps_fault_err ls (next s l) (l ∷ earlier) e (context_next s l earlier same p.0) p.1
     ]
 
--- the first line without a refusal is a `.model` line
-begins_model : (k : Keyword) (n : ℕ) (words : List (List ℕ)) → fault_by k (context start) n words ≡ None → is_model_keyword k ≡ true
-begins_model Model n words h = refl
-begins_model k n words h = absurd (none-some _ (sym h))
-
 has_model_first : (l : StatementValue) (ls : List StatementValue) (t : State) → steps start (l ∷ ls) ≡ Ok t → has_model (l ∷ ls) ≡ true
-has_model_first l ls t h =
-    let p = or_fault_ok (line_fault (context start) l) (steps (next start l) ls) t h in
-    ap (λ b. b || has_model ls) (begins_model l.keyword l.number l.arguments p.0)
+has_model_first l ls t h = grind arith
 
 -- models that were read stay
 next_some : (k : Keyword) (names : List (List ℕ)) (done : List ModelValue) (current : Option ModelRead) (n : ℕ) (words : List (List ℕ)) → 0 < length (ended (state_of names done current)) → 0 < length (ended (next_by k (state_of names done current) n words))
 next_some Model names done current n words h = some_push _ _
-next_some End names done current n words h = h
-next_some k names done None n words h = h
 next_some k names done (Some r) n words h = some_push _ _
+next_some k names done current n words h = h
 
 steps_some : (ss : List StatementValue) (s t : State) → 0 < length (ended s) → steps s ss ≡ Ok t → 0 < length (ended t)
 steps_some [] s t some h = let e : s ≡ t = cc in subst (λ u. 0 < length (ended u)) e some
 steps_some (l ∷ ls) s t some h =
-    let p = or_fault_ok (line_fault (context s) l) (steps (next s l) ls) t h in
-    steps_some ls (next s l) t (next_some l.keyword s.names s.done s.current l.number l.arguments some) p.1
+    steps_some ls (next s l) t (next_some l.keyword s.names s.done s.current l.number l.arguments some) (or_fault_ok (line_fault (context s) l) (steps (next s l) ls) t h).1
 
 begins_some : (k : Keyword) (n : ℕ) (words : List (List ℕ)) → fault_by k (context start) n words ≡ None → 0 < length (ended (next_by k start n words))
 begins_some Model n words h = omega arith
@@ -143,9 +126,7 @@ no_lines : (ss : List StatementValue) (t : State) → steps start ss ≡ Ok t �
 no_lines [] t h none = refl
 no_lines (l ∷ ls) t h none =
     let p = or_fault_ok (line_fault (context start) l) (steps (next start l) ls) t h in
-    let some : 0 < length (ended t) = steps_some ls (next start l) t (begins_some l.keyword l.number l.arguments p.0) p.1 in
-    let e : length (ended t) ≡ 0 = ap length none in
-    absurd (omega arith)
+    absurd (omega (arith, steps_some ls (next start l) t (begins_some l.keyword l.number l.arguments p.0) p.1, ap length none))
 
 -- the refusal of the statements
 end_ok : (ss : List StatementValue) (t : State) (library : LibraryValue) → steps start ss ≡ Ok t → library_at_end (ended t) ≡ Ok library → has_model ss ≡ true
@@ -157,10 +138,7 @@ finished_ok (Ok t) library h = (t, refl, h)
 finished_ok (Err e) library h = absurd (let f : ⊥ = cc in f)
 
 library_no_fault : (ss : List StatementValue) (library : LibraryValue) → library_read ss ≡ Ok library → statements_fault ss ≡ None
-library_no_fault ss library h =
-    let q = finished_ok (steps start ss) library h in
-    ap (λ o. or_later o (cond (has_model ss) None (Some NoModel))) (steps_fault_ok ss start [] q.0 refl q.1)
-    ∙ ap (λ b. cond b None (Some NoModel)) (end_ok ss q.0 library q.1 q.2)
+library_no_fault ss library h = grind (arith, finished_ok, cond, steps_fault_ok, end_ok)
 
 end_err : (ms : List ModelValue) (e : BlifErr) → library_at_end ms ≡ Err e → (ms ≡ []) × (e ≡ NoModel)
 end_err [] e h = (refl, let f : e ≡ NoModel = cc in f)
@@ -176,10 +154,7 @@ finished_err (Ok t) e h = let q = end_err (ended t) e h in no_model t refl q.0 q
 finished_err (Err f) e h = line (let g : f ≡ e = cc in ap (λ x. Err x) g)
 
 library_fault_is : (ss : List StatementValue) (e : BlifErr) → EndsBadly (steps start ss) e → statements_fault ss ≡ Some e
-library_fault_is ss e (no_model t h none is) =
-    ap (λ o. or_later o (cond (has_model ss) None (Some NoModel))) (steps_fault_ok ss start [] t refl h)
-    ∙ ap (λ x. cond (has_model x) None (Some NoModel)) (no_lines ss t h none)
-    ∙ ap (λ x. Some x) (sym is)
+library_fault_is ss e (no_model t h none is) = grind (arith, cond, steps_fault_ok, no_lines)
 library_fault_is ss e (line h) = ap (λ o. or_later o (cond (has_model ss) None (Some NoModel))) (steps_fault_err ss start [] e refl h)
 
 lines_no_fault : (bytes : List ℕ) (r : Result (List LineValue) TextErr) (library : LibraryValue) → lines_read bytes r ≡ Ok library → lines_fault bytes r ≡ None

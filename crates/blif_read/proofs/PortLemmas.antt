@@ -1,6 +1,25 @@
 -- The ports that lines add to a model, and that no port stands twice in its list.
-use Rattle.blif_read.proofs.Common.{◌≡◌, ◌⊎◌, ℕ, Bool, true, false, List, [], ◌∷◌, ◌++◌, Option, Some, None, refl, sym, ap, ◌∙◌, subst, inl, inr, append_assoc, append-nil, Keyword, Inputs, Outputs, Clock, Plain, Body, Cover, Command, RowValue, ModelValue, Ports, input_ports, output_ports, clock_ports, ports_of, StatementValue, AreOnce, IsRow, alone, behind, AreRows, none, more, ports_fault, CoverRead, with_command, with_cover, with_ports, port_names, names_in}
-use Rattle.blif_read.proofs.OnceLemmas.{ports_once}
+use Rattle.blif_read.proofs.Common.{◌≡◌, ◌⊎◌, ℕ, Bool, true, false, List, [], ◌∷◌, ◌++◌, Option, Some, None, refl, sym, ap, ◌∙◌, subst, inl, inr, append_assoc, append-nil, Keyword, Inputs, Outputs, Clock, Plain, Body, Cover, Command, RowValue, ModelValue, Ports, input_ports, output_ports, clock_ports, ports_of, StatementValue, AreOnce, IsRow, alone, behind, AreRows, none, more, ports_fault, CoverRead, with_command, with_cover, with_ports, port_names, names_in, arith, none-some, pushed_apart, In, DuplicateModel, DuplicatePort, has, model_fault, none_both}
+pub use Rattle.list_laws.proofs.Members.{In-append}
+pub use Rattle.tl_text.proofs.NameLemmas.{not_there}
+
+-- Lists of names in which none stands twice, and what lines without a refusal put behind them.
+-- ports of a line without a refusal
+pub ports_once : (n : ℕ) (words seen : List (List ℕ)) → AreOnce seen → ports_fault n seen words ≡ None → AreOnce (seen ++ words)
+ports_once n [] seen o h = subst AreOnce (sym (append-nil seen)) o
+ports_once n (w ∷ ws) seen o h =
+    let p = none_both (has seen w) (DuplicatePort n w) (ports_fault n (seen ++ w ∷ []) ws) h in
+    subst AreOnce (append_assoc seen (w ∷ []) ws) (ports_once n ws (seen ++ w ∷ []) (pushed_apart seen w o (not_there seen w p.0)) p.1)
+
+-- the words behind `.model` are one name, that of no earlier model
+pub record IsNewName (models words : List (List ℕ)) : Type 0 where
+  pub name : List ℕ
+  pub words_are : words ≡ name ∷ []
+  pub apart : In models name → ⊥
+
+pub model_new : (n : ℕ) (models words : List (List ℕ)) → model_fault n models words ≡ None → IsNewName models words
+model_new n models (name ∷ []) h = record { name = name; words_are = refl; apart = not_there models name (none_both (has models name) (DuplicateModel n name) None h).0 }
+model_new n models words h = absurd (none-some _ (sym h))
 
 pub row_keyword : (inputs : ℕ) (value : Bool) (s : StatementValue) (row : RowValue) → IsRow inputs value s row → s.keyword ≡ Plain
 row_keyword inputs value s row (alone e k words cells) = k
@@ -30,11 +49,9 @@ line_of k n words = record { number = n; keyword = k; arguments = words }
 abbrev pub command_of : ℕ → Body → Command
 command_of n made = record { line = n; body = made }
 
--- the ports of lines
 pub names_in-append : (p : Ports) (a b : List StatementValue) → names_in p (a ++ b) ≡ names_in p a ++ names_in p b
 names_in-append p [] b = refl
-names_in-append p (s ∷ ss) b =
-    ap (λ names. port_names p s.keyword s.arguments ++ names) (names_in-append p ss b) ∙ sym (append_assoc (port_names p s.keyword s.arguments) (names_in p ss) (names_in p b))
+names_in-append p (s ∷ ss) b = grind (arith, append_assoc, names_in-append p ss b)
 
 abbrev pub names_ports : Keyword → Bool
 names_ports Inputs = true
@@ -42,16 +59,11 @@ names_ports Outputs = true
 names_ports Clock = true
 names_ports other = false
 
-true_not_false : true ≡ false → ⊥
-true_not_false e = cc
-
 no_names : (p : Ports) (k : Keyword) (words : List (List ℕ)) → names_ports k ≡ false → port_names p k words ≡ []
-no_names input_ports Inputs words h = absurd (true_not_false h)
-no_names input_ports k words h = refl
-no_names output_ports Outputs words h = absurd (true_not_false h)
-no_names output_ports k words h = refl
-no_names clock_ports Clock words h = absurd (true_not_false h)
-no_names clock_ports k words h = refl
+no_names input_ports Inputs words h = absurd (cc)
+no_names output_ports Outputs words h = absurd (cc)
+no_names clock_ports Clock words h = absurd (cc)
+no_names p k words h = refl
 
 pub skipped : (s : StatementValue) (ss : List StatementValue) → names_ports s.keyword ≡ false → (p : Ports) → names_in p (s ∷ ss) ≡ names_in p ss
 skipped s ss quiet p = ap (λ names. names ++ names_in p ss) (no_names p s.keyword s.arguments quiet)

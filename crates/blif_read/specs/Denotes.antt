@@ -1,21 +1,11 @@
 -- What a text denotes: a relation between its logical lines, split before each `.model` line, and the models of a library.
 use Rattle.std.specs.Prelude.{◌≡◌, ◌⊎◌, ℕ, ◌<◌, true, List, [], ◌∷◌, ◌++◌, length, map, Ok}
-use Rattle.tl_text.specs.LineValue.{LineValue}
-use Rattle.tl_text.specs.Lines.{lines_of}
-use Rattle.blif_read.specs.declared.keyword.Keyword.{Keyword}
+use Rattle.blif_read.specs.Words.{LineValue, lines_of, Keyword, Cover, Command, LatchValue, CoverValue, SubcktValue, formals, ModelValue, LibraryValue, Ports, input_ports, output_ports, clock_ports, ports_of, AreOnce, In, Pair}
 use Rattle.blif_read.specs.declared.keyword.Keyword.TheVariants as keyword
-use Rattle.netlist.specs.declared.command.Body.TheVariants.{Cover, Latch, Subckt}
-use Rattle.netlist.specs.declared.command.Command.{Command}
-use Rattle.netlist.specs.declared.latch.Latch.{Latch as LatchValue}
-use Rattle.netlist.specs.CoverValue.{CoverValue}
-use Rattle.netlist.specs.SubcktValue.{SubcktValue, formals}
-use Rattle.netlist.specs.LibraryValue.{ModelValue, LibraryValue, Ports, input_ports, output_ports, clock_ports, ports_of}
+use Rattle.netlist.specs.declared.command.Body.TheVariants.{Latch, Subckt}
 use Rattle.blif_read.specs.Statement.{StatementValue, statements}
-use Rattle.tl_text.specs.Once.{AreOnce}
 use Rattle.blif_read.specs.Rows.{AreRows}
 use Rattle.blif_read.specs.Latches.{IsLatch}
-use Rattle.list_laws.specs.Members.{In}
-use Rattle.netlist.specs.declared.subckt.Pair.{Pair}
 
 -- a connection as it is written: the formal, `=` (61), the actual
 abbrev pub connection_token : Pair → List ℕ

@@ -1,6 +1,6 @@
 -- A text has a library or a refusal, never both, and one library at most.
 use Rattle.std.specs.Prelude.{◌≡◌, ℕ, List, None}
-use Rattle.netlist.specs.LibraryValue.{LibraryValue}
+use Rattle.blif_read.specs.Words.{LibraryValue}
 use Rattle.blif_read.specs.Denotes.{Denotes}
 use Rattle.blif_read.specs.ReadFault.{read_fault}
 

@@ -1,4 +1,5 @@
 -- What public clauses say.
+pub mod Words
 pub mod Context
 pub mod Denotes
 pub mod HasOneReading

@@ -1,14 +1,8 @@
 -- The refusal of a text: of its lines, else that of the first logical line that has one, else that it has no model.
 use Rattle.std.specs.Prelude.{ℕ, Bool, true, false, List, [], ◌∷◌, Option, Some, None, Result, Ok, Err, if◌then◌else◌}
 use Rattle.std.specs.List.{list_any}
-use Rattle.tl_text.specs.LineValue.{LineValue}
-use Rattle.tl_text.specs.Lines.{lines_of}
-use Rattle.tl_text.specs.declared.text_err.TextErr.{TextErr}
+use Rattle.blif_read.specs.Words.{LineValue, lines_of, TextErr, BlifErr, BadByte, TrailingSlash, NoModel, Memory, Keyword, Model, Inputs, Outputs, Clock, Names, Latch, Subckt, End, Unknown, Plain}
 use Rattle.tl_text.specs.declared.text_err.TextErr.TheVariants as text
-use Rattle.blif_read.specs.declared.blif_err.BlifErr.{BlifErr}
-use Rattle.blif_read.specs.declared.blif_err.BlifErr.TheVariants.{BadByte, TrailingSlash, NoModel, Memory}
-use Rattle.blif_read.specs.declared.keyword.Keyword.{Keyword}
-use Rattle.blif_read.specs.declared.keyword.Keyword.TheVariants.{Model, Inputs, Outputs, Clock, Names, Latch, Subckt, End, Unknown, Plain}
 use Rattle.blif_read.specs.Statement.{StatementValue, statements}
 use Rattle.blif_read.specs.Context.{context_of}
 use Rattle.blif_read.specs.LineFault.{or_later, line_fault}

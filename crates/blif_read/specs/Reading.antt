@@ -2,21 +2,9 @@
 -- The proofs show that it gives what a text denotes, and its refusals; no reader of the contracts needs it.
 use Rattle.std.specs.Prelude.{ℕ, ◌-◌, ◌==◌, Bool, true, false, if◌then◌else◌, List, [], ◌∷◌, ◌++◌, length, take, codes, bytes_eq, Option, Some, None, is_some, Result, Ok, Err, slice_index_or}
 use Rattle.std.specs.Option.{option_map}
-use Rattle.tl_text.specs.LineValue.{LineValue}
-use Rattle.tl_text.specs.Lines.{lines_of}
-use Rattle.tl_text.specs.declared.text_err.TextErr.{TextErr}
-use Rattle.blif_read.specs.declared.blif_err.BlifErr.{BlifErr}
-use Rattle.blif_read.specs.declared.blif_err.BlifErr.TheVariants.{NoModel, OutsideModel}
-use Rattle.blif_read.specs.declared.keyword.Keyword.{Keyword}
+use Rattle.blif_read.specs.Words.{LineValue, lines_of, TextErr, BlifErr, NoModel, OutsideModel, Keyword, Body, Cover, Command, LatchValue, Pair, CoverValue, SubcktValue, ModelValue, LibraryValue, Ports, input_ports, output_ports, clock_ports, ports_of}
 use Rattle.blif_read.specs.declared.keyword.Keyword.TheVariants as keyword
-use Rattle.netlist.specs.declared.command.Body.{Body}
-use Rattle.netlist.specs.declared.command.Body.TheVariants.{Cover, Latch, Subckt}
-use Rattle.netlist.specs.declared.command.Command.{Command}
-use Rattle.netlist.specs.declared.latch.Latch.{Latch as LatchValue}
-use Rattle.netlist.specs.declared.subckt.Pair.{Pair}
-use Rattle.netlist.specs.CoverValue.{CoverValue}
-use Rattle.netlist.specs.SubcktValue.{SubcktValue}
-use Rattle.netlist.specs.LibraryValue.{ModelValue, LibraryValue, Ports, input_ports, output_ports, clock_ports, ports_of}
+use Rattle.netlist.specs.declared.command.Body.TheVariants.{Latch, Subckt}
 use Rattle.blif_read.specs.Statement.{StatementValue, statements}
 use Rattle.blif_read.specs.Context.{Context, CoverPlace, RowRead, row_of}
 use Rattle.blif_read.specs.LineFault.{line_fault, connection_of, ports_fault, names_fault, row_fault, latch_fault, subckt_fault, end_fault}

@@ -1,11 +1,10 @@
 -- What each refusal of a netlist tells.
 use Rattle.std.specs.Prelude.{Option, Some, None, codes}
+use Rattle.blif_read.specs.Words.{BlifErr, BadByte, TrailingSlash, NotCommand, Unsupported, OutsideModel, Arity, BadRow, MixedRows, BadLatch, LatchKind, DuplicateModel, DuplicatePort, BadConnection, NoModel, Memory}
 use Rattle.tl_fault.specs.RefusalValue.{RefusalValue, refusal}
 use Rattle.tl_fault.specs.declared.refusal.Details.TheVariants.{Nothing, Line, Named}
 use Rattle.tl_text.specs.Refusals.{refusal_of as text_refusal}
 use Rattle.tl_text.specs.declared.text_err.TextErr.TheVariants as text_err
-use Rattle.blif_read.specs.declared.blif_err.BlifErr.{BlifErr}
-use Rattle.blif_read.specs.declared.blif_err.BlifErr.TheVariants.{BadByte, TrailingSlash, NotCommand, Unsupported, OutsideModel, Arity, BadRow, MixedRows, BadLatch, LatchKind, DuplicateModel, DuplicatePort, BadConnection, NoModel, Memory}
 
 abbrev pub refusal_of : BlifErr → Option RefusalValue
 refusal_of (BadByte line) = text_refusal (text_err.BadByte line)

@@ -1,10 +1,7 @@
 -- The rows of a cover, by their lines (BLIF manual of 1992).
 use Rattle.std.specs.Prelude.{◌≡◌, ℕ, ◌<◌, Bool, List, [], ◌∷◌, length, map}
+use Rattle.blif_read.specs.Words.{Cell, Zero, One, Any, Plain, RowValue}
 pub use Rattle.list_laws.specs.Digits.{digit_text as output_token}
-use Rattle.netlist.specs.declared.cell.Cell.{Cell}
-use Rattle.netlist.specs.declared.cell.Cell.TheVariants.{Zero, One, Any}
-use Rattle.blif_read.specs.declared.keyword.Keyword.TheVariants.{Plain}
-use Rattle.netlist.specs.CoverValue.{RowValue}
 use Rattle.blif_read.specs.Statement.{StatementValue}
 
 -- the characters of a cell: `0`, `1` and `-`

@@ -1,10 +1,7 @@
 -- How much a library holds: 1 for each model and command, and for each name 1 and its bytes. Rows don't count.
 use Rattle.std.specs.Prelude.{ℕ, ◌+◌, List, [], ◌∷◌, length, Option, Some, None}
-use Rattle.netlist.specs.declared.command.Body.{Body}
-use Rattle.netlist.specs.declared.command.Body.TheVariants.{Cover, Latch, Subckt}
-use Rattle.netlist.specs.declared.command.Command.{Command}
-use Rattle.netlist.specs.declared.subckt.Pair.{Pair}
-use Rattle.netlist.specs.LibraryValue.{ModelValue, LibraryValue}
+use Rattle.blif_read.specs.Words.{Body, Cover, Command, Pair, ModelValue, LibraryValue}
+use Rattle.netlist.specs.declared.command.Body.TheVariants.{Latch, Subckt}
 
 abbrev pub name_size : List ℕ → ℕ
 name_size name = 1 + length name

@@ -1,8 +1,6 @@
 -- A logical line as a statement: its keyword and its arguments.
 use Rattle.std.specs.Prelude.{ℕ, Bool, false, ◌==◌, if◌then◌else◌, List, [], ◌∷◌, map, codes, bytes_eq}
-use Rattle.tl_text.specs.LineValue.{LineValue, WordsLine, words_line}
-use Rattle.blif_read.specs.declared.keyword.Keyword.{Keyword}
-use Rattle.blif_read.specs.declared.keyword.Keyword.TheVariants.{Model, Inputs, Outputs, Clock, Names, Latch, Subckt, End, Unknown, Plain}
+use Rattle.blif_read.specs.Words.{LineValue, WordsLine, words_line, Keyword, Model, Inputs, Outputs, Clock, Names, Latch, Subckt, End, Unknown, Plain}
 
 -- the number of the line, what its first word says, and its other words; of a line without a keyword, all its words
 pub record StatementValue : Type 0 where

@@ -1,12 +1,12 @@
 -- The text of a netlist without hierarchy denotes its one model.
-use Rattle.blif_write.proofs.Common.{◌≡◌, ℕ, suc, ◌+◌, ◌-◌, Bool, true, false, cond, List, [], ◌∷◌, ◌++◌, length, map, codes, bytes_eq, Option, Some, None, refl, sym, ap, subst, ◌∙◌, inl, inr, arith, append_assoc, append-nil, list_any, flat_map, map-append, length-map, bytes_eq-Decides, In, In-append, from_map, IsClean, AreOnce, Cell, Zero, One, Any, LatchValue, Command, RowValue, CoverValue, Ports, input_ports, output_ports, clock_ports, ports_of, cell_character, output_token, IsRow, alone, behind, AreRows, names_in, IsCoverLine, AreCommands, IsModel, AreLibrary, Denotes, IsCleanBody, is_special, one_clean, word_clean, Cover, Latch}
+use Rattle.blif_write.proofs.Common.{◌≡◌, ℕ, suc, ◌+◌, ◌-◌, Bool, true, false, cond, List, [], ◌∷◌, ◌++◌, length, map, codes, bytes_eq, Option, Some, None, refl, sym, ap, subst, ◌∙◌, inl, inr, arith, append_assoc, append-nil, list_any, flat_map, map-append, length-map, bytes_eq-Decides, In, In-append, from_map, IsClean, AreOnce, Cell, Zero, LatchValue, Command, RowValue, CoverValue, Ports, input_ports, output_ports, clock_ports, ports_of, cell_character, output_token, IsRow, behind, AreRows, names_in, IsCoverLine, AreCommands, IsModel, AreLibrary, Denotes, IsCleanBody, is_special, one_clean, word_clean, Cover, Latch, rules}
 use Rattle.tl_text.specs.LineValue.{LineValue, words_line}
 use Rattle.blif_read.specs.Statement.{StatementValue, statement_at, statement_of, statements}
 use Rattle.blif_read.specs.Rows.{none, more}
-use Rattle.blif_read.specs.Latches.{Starts, one, zero_, Controls, nil, net, IsLatch, with_init, whole}
+use Rattle.blif_read.specs.Latches.{Starts, one, Controls, IsLatch, with_init, whole}
 use Rattle.blif_read.specs.Denotes as denotes
 use Rattle.blif_read.proofs.PortLemmas.{names_in-append}
-use Rattle.blif_write.specs.PlainNetlist.{PlainNetlist, IsPlain, all_inputs, control_words, latch_line, row_line, cover_lines, netlist_lines, netlist_text, read_control, read_latch, latch_commands, cover_commands, model_of, library_of}
+use Rattle.blif_write.specs.PlainNetlist.{PlainNetlist, IsPlain, control_words, latch_line, row_line, cover_lines, netlist_lines, netlist_text, read_control, read_latch, latch_commands, cover_commands, model_of, library_of}
 use Rattle.tl_text.proofs.WrittenLineLemmas.{IsCleanLine as IsWritable, AreCleanLines as AreWritable, numbered, numbered-append, ReadsAgain, reads_again}
 
 -- statements of lines, the first of which has this number
@@ -18,13 +18,7 @@ statements_append number xs ys = ap (map statement_of) (numbered-append number x
 
 -- rows
 row_is : (inputs number : ℕ) (value : Bool) (cells : List Cell) → value ≡ true → length cells ≡ inputs → IsRow inputs value (statement_at number (row_line cells)) (record { cells = cells })
-row_is inputs number value [] on count = alone (sym count) refl (ap (λ (v : Bool). output_token v ∷ []) (sym on)) refl
-row_is inputs number value (Zero ∷ cells) on count =
-    behind (omega (arith, count)) refl (ap (λ (v : Bool). map cell_character (Zero ∷ cells) ∷ output_token v ∷ []) (sym on)) count
-row_is inputs number value (One ∷ cells) on count =
-    behind (omega (arith, count)) refl (ap (λ (v : Bool). map cell_character (One ∷ cells) ∷ output_token v ∷ []) (sym on)) count
-row_is inputs number value (Any ∷ cells) on count =
-    behind (omega (arith, count)) refl (ap (λ (v : Bool). map cell_character (Any ∷ cells) ∷ output_token v ∷ []) (sym on)) count
+row_is inputs number value cells on count = search rules
 
 rows_are : (inputs number : ℕ) (value : Bool) (rows : List RowValue) → value ≡ true → ((row : RowValue) → In rows row → length row.cells ≡ inputs)
     → AreRows inputs value (statements_of number (map (λ row. row_line row.cells) rows)) rows
@@ -34,12 +28,10 @@ rows_are inputs number value (row ∷ rows) on count =
 
 -- latches
 starts : (init : Bool) → Starts (output_token init) init
-starts true = one refl refl
-starts false = zero_ (inl refl) refl
+starts init = search rules
 
 controls_by : (control : List ℕ) (is : Bool) → bytes_eq control (codes "NIL") ≡ is → Controls control (cond is None (Some control))
-controls_by control true e = nil ((bytes_eq-Decides control (codes "NIL")).0 e) refl
-controls_by control false e = net (λ same. let t : bytes_eq control (codes "NIL") ≡ true = (bytes_eq-Decides control (codes "NIL")).1 same in let wrong : ⊥ = cc in wrong) refl
+controls_by control is e = search (rules, bytes_eq-Decides, codes, bytes_eq)
 
 latch_is : (l : LatchValue) → (control : Option (List ℕ)) → l.control ≡ control → IsLatch (l.input ∷ l.output ∷ (control_words control ++ output_token l.init ∷ [])) (read_latch l)
 latch_is l None e = with_init (output_token l.init) refl (ap read_control e) (starts l.init)
@@ -58,31 +50,24 @@ covers_are number [] on count = end_is number
 covers_are number (c ∷ cs) on count =
     let rows : List (List (List ℕ)) = map (λ (row : RowValue). row_line row.cells) c.rows in
     let others : List (List (List ℕ)) = flat_map cover_lines cs ++ (codes ".end" ∷ []) ∷ [] in
-    let head : StatementValue = statement_at number (codes ".names" ∷ (c.inputs ++ c.output ∷ [])) in
     let long : suc number + length rows ≡ suc number + length c.rows = ap (λ (k : ℕ). suc number + k) (length-map c.rows (λ (row : RowValue). row_line row.cells)) in
     let rest : AreCommands (statements_of (suc number + length c.rows) others) (cover_commands (suc number + length c.rows) cs) = covers_are (suc number + length c.rows) cs (λ d i. on d (inr i)) (λ d i. count d (inr i)) in
-    let parts : statements_of (suc number) (rows ++ others) ≡ statements_of (suc number) rows ++ statements_of (suc number + length c.rows) others =
-    statements_append (suc number) rows others ∙ ap (λ (k : ℕ). statements_of (suc number) rows ++ statements_of k others) long in
-    let shape : statements_of number (flat_map cover_lines (c ∷ cs) ++ (codes ".end" ∷ []) ∷ []) ≡ head ∷ statements_of (suc number) (rows ++ others) =
-    ap (λ (t : List (List (List ℕ))). statements_of number t) (append_assoc (cover_lines c) (flat_map cover_lines cs) ((codes ".end" ∷ []) ∷ [])) in
+    let parts = statements_append (suc number) rows others ∙ ap (λ (k : ℕ). statements_of (suc number) rows ++ statements_of k others) long in
+    let shape = ap (λ (t : List (List (List ℕ))). statements_of number t) (append_assoc (cover_lines c) (flat_map cover_lines cs) ((codes ".end" ∷ []) ∷ [])) in
     subst (λ (t : List StatementValue). AreCommands t (cover_commands number (c ∷ cs))) (sym shape)
-    (denotes.cover head (statements_of (suc number) rows) (statements_of (suc number + length c.rows) others) (statements_of (suc number) (rows ++ others)) c (cover_commands (suc number + length c.rows) cs)
+    (denotes.cover _ (statements_of (suc number) rows) (statements_of (suc number + length c.rows) others) (statements_of (suc number) (rows ++ others)) c (cover_commands (suc number + length c.rows) cs)
     (cover_line_is number c (on c (inl refl))) (rows_are (length c.inputs) (suc number) c.value c.rows (on c (inl refl)) (count c (inl refl))) parts rest)
 
 latches_are : (number : ℕ) (ls : List LatchValue) (lines : List (List (List ℕ))) (commands : List Command) → AreCommands (statements_of (number + length ls) lines) commands
     → AreCommands (statements_of number (map latch_line ls ++ lines)) (latch_commands number ls ++ commands)
-latches_are number [] lines commands rest =
-    let e : number + 0 ≡ number = omega arith in subst (λ (k : ℕ). AreCommands (statements_of k lines) commands) e rest
+latches_are number [] lines commands rest = grind arith
 latches_are number (l ∷ ls) lines commands rest =
-    let e : number + length (l ∷ ls) ≡ suc number + length ls = omega arith in
-    let later : AreCommands (statements_of (suc number) (map latch_line ls ++ lines)) (latch_commands (suc number) ls ++ commands) =
-    latches_are (suc number) ls lines commands (subst (λ (k : ℕ). AreCommands (statements_of k lines) commands) e rest) in
+    let later = latches_are (suc number) ls lines commands (subst (λ (k : ℕ). AreCommands (statements_of k lines) commands) (omega arith) rest) in
     denotes.latch (statement_at number (latch_line l)) (statements_of (suc number) (map latch_line ls ++ lines)) (read_latch l) (latch_commands (suc number) ls ++ commands) refl (latch_is l l.control refl) later
 
 inputs_are : (number : ℕ) (inputs lines : List (List (List ℕ))) (commands : List Command) → AreCommands (statements_of (number + length inputs) lines) commands
     → AreCommands (statements_of number (map (λ names. codes ".inputs" ∷ names) inputs ++ lines)) commands
-inputs_are number [] lines commands rest =
-    let e : number + 0 ≡ number = omega arith in subst (λ (k : ℕ). AreCommands (statements_of k lines) commands) e rest
+inputs_are number [] lines commands rest = grind arith
 inputs_are number (names ∷ inputs) lines commands rest =
     let e : number + length (names ∷ inputs) ≡ suc number + length inputs = omega arith in
     denotes.ports (statement_at number (codes ".inputs" ∷ names)) (statements_of (suc number) (map (λ names. codes ".inputs" ∷ names) inputs ++ lines)) commands (inl refl)
@@ -95,10 +80,8 @@ body_lines n = map (λ (names : List (List ℕ)). codes ".inputs" ∷ names) n.i
 commands_are : (n : PlainNetlist) → IsPlain n → AreCommands (statements_of 2 (body_lines n)) (model_of n).commands
 commands_are n h =
     let at : ℕ = 2 + length n.inputs in
-    let covers : AreCommands (statements_of (suc at + length n.latches) (flat_map cover_lines n.covers ++ (codes ".end" ∷ []) ∷ [])) (cover_commands (suc at + length n.latches) n.covers) =
-    covers_are (suc at + length n.latches) n.covers h.on h.cells in
-    let latches : AreCommands (statements_of (suc at) (map latch_line n.latches ++ (flat_map cover_lines n.covers ++ (codes ".end" ∷ []) ∷ []))) (latch_commands (suc at) n.latches ++ cover_commands (suc at + length n.latches) n.covers) =
-    latches_are (suc at) n.latches (flat_map cover_lines n.covers ++ (codes ".end" ∷ []) ∷ []) (cover_commands (suc at + length n.latches) n.covers) covers in
+    let covers = covers_are (suc at + length n.latches) n.covers h.on h.cells in
+    let latches : AreCommands (statements_of (suc at) (map latch_line n.latches ++ (flat_map cover_lines n.covers ++ (codes ".end" ∷ []) ∷ []))) (latch_commands (suc at) n.latches ++ cover_commands (suc at + length n.latches) n.covers) = grind (arith, latches_are, codes) in
     let e : suc at ≡ 3 + length n.inputs = omega arith in
     let all : AreCommands (statements_of at ((codes ".outputs" ∷ n.outputs) ∷ (map latch_line n.latches ++ (flat_map cover_lines n.covers ++ (codes ".end" ∷ []) ∷ [])))) (latch_commands (suc at) n.latches ++ cover_commands (suc at + length n.latches) n.covers) =
     denotes.ports (statement_at at (codes ".outputs" ∷ n.outputs)) _ _ (inr (inl refl)) latches in
@@ -107,15 +90,10 @@ commands_are n h =
 
 -- ports
 no_port : (p : Ports) (k : Ports → List (List ℕ)) → k input_ports ≡ [] → k output_ports ≡ [] → k clock_ports ≡ [] → k p ≡ []
-no_port input_ports k i o c = i
-no_port output_ports k i o c = o
-no_port clock_ports k i o c = c
+no_port p k i o c = search rules
 
 row_portless : (p : Ports) (number : ℕ) (cells : List Cell) → names_in p (statement_at number (row_line cells) ∷ []) ≡ []
-row_portless p number [] = no_port p (λ q. names_in q (statement_at number (row_line []) ∷ [])) refl refl refl
-row_portless p number (Zero ∷ cells) = no_port p (λ q. names_in q (statement_at number (row_line (Zero ∷ cells)) ∷ [])) refl refl refl
-row_portless p number (One ∷ cells) = no_port p (λ q. names_in q (statement_at number (row_line (One ∷ cells)) ∷ [])) refl refl refl
-row_portless p number (Any ∷ cells) = no_port p (λ q. names_in q (statement_at number (row_line (Any ∷ cells)) ∷ [])) refl refl refl
+row_portless p number cells = grind arith
 
 first_portless : (p : Ports) (s : StatementValue) (ss : List StatementValue) → names_in p (s ∷ []) ≡ [] → names_in p (s ∷ ss) ≡ names_in p ss
 first_portless p s ss h = names_in-append p (s ∷ []) ss ∙ ap (λ (t : List (List ℕ)). t ++ names_in p ss) h
@@ -124,18 +102,15 @@ first_portless p s ss h = names_in-append p (s ∷ []) ss ∙ ap (λ (t : List (
 each_portless : {X : Type 0} (p : Ports) (line : X → List (List ℕ)) → ((k : ℕ) (x : X) → names_in p (statement_at k (line x) ∷ []) ≡ []) → (number : ℕ) (xs : List X) (lines : List (List (List ℕ)))
     → ((k : ℕ) → names_in p (statements_of k lines) ≡ []) → names_in p (statements_of number (map line xs ++ lines)) ≡ []
 each_portless p line own number [] lines rest = rest number
-each_portless p line own number (x ∷ xs) lines rest =
-    first_portless p (statement_at number (line x)) (statements_of (suc number) (map line xs ++ lines)) (own number x) ∙ each_portless p line own (suc number) xs lines rest
+each_portless p line own number (x ∷ xs) lines rest = grind (arith, first_portless, statements_of, each_portless p line own (suc number) xs lines rest)
 
 covers_portless : (p : Ports) (number : ℕ) (cs : List CoverValue) → names_in p (statements_of number (flat_map cover_lines cs ++ (codes ".end" ∷ []) ∷ [])) ≡ []
 covers_portless p number [] = no_port p (λ q. names_in q (statements_of number ((codes ".end" ∷ []) ∷ []))) refl refl refl
 covers_portless p number (c ∷ cs) =
-    let others : List (List (List ℕ)) = flat_map cover_lines cs ++ (codes ".end" ∷ []) ∷ [] in
     let head : StatementValue = statement_at number (codes ".names" ∷ (c.inputs ++ c.output ∷ [])) in
-    let rows : List (List (List ℕ)) = map (λ (row : RowValue). row_line row.cells) c.rows in
     ap (λ (t : List (List (List ℕ))). names_in p (statements_of number t)) (append_assoc (cover_lines c) (flat_map cover_lines cs) ((codes ".end" ∷ []) ∷ []))
-    ∙ first_portless p head (statements_of (suc number) (rows ++ others)) (no_port p (λ q. names_in q (head ∷ [])) refl refl refl)
-    ∙ each_portless p (λ (row : RowValue). row_line row.cells) (λ k row. row_portless p k row.cells) (suc number) c.rows others (λ k. covers_portless p k cs)
+    ∙ first_portless p head (statements_of (suc number) ((map (λ (row : RowValue). row_line row.cells) c.rows) ++ _)) (no_port p (λ q. names_in q (head ∷ [])) refl refl refl)
+    ∙ each_portless p (λ (row : RowValue). row_line row.cells) (λ k row. row_portless p k row.cells) (suc number) c.rows _ (λ k. covers_portless p k cs)
 
 -- the names of the `.inputs` lines, and what other lines have
 abbrev own_ports : Ports → List (List (List ℕ)) → List (List ℕ)
@@ -143,22 +118,18 @@ own_ports input_ports inputs = flat_map (λ (names : List (List ℕ)). names) in
 own_ports p inputs = []
 
 inputs_named : (p : Ports) (number : ℕ) (inputs : List (List (List ℕ))) → names_in p (statements_of number (map (λ names. codes ".inputs" ∷ names) inputs)) ≡ own_ports p inputs
-inputs_named input_ports number [] = refl
-inputs_named input_ports number (names ∷ inputs) = ap (λ (t : List (List ℕ)). names ++ t) (inputs_named input_ports (suc number) inputs)
-inputs_named p number [] = refl
-inputs_named p number (names ∷ inputs) = inputs_named p (suc number) inputs
+inputs_named p number [] = search rules
+inputs_named p number (names ∷ inputs) = search (rules, inputs_named input_ports (suc number) inputs, inputs_named p (suc number) inputs)
 
 abbrev outputs_ports : Ports → List (List ℕ) → List (List ℕ)
 outputs_ports output_ports outputs = outputs
 outputs_ports p outputs = []
 
 outputs_named : (p : Ports) (number : ℕ) (outputs : List (List ℕ)) (lines : List (List (List ℕ))) → ((k : ℕ) → names_in p (statements_of k lines) ≡ []) → names_in p (statements_of number ((codes ".outputs" ∷ outputs) ∷ lines)) ≡ outputs_ports p outputs
-outputs_named output_ports number outputs lines rest = ap (λ (t : List (List ℕ)). outputs ++ t) (rest (suc number)) ∙ append-nil outputs
-outputs_named p number outputs lines rest = rest (suc number)
+outputs_named p number outputs lines rest = search (rules, append-nil)
 
 ports_both : (p : Ports) (n : PlainNetlist) → own_ports p n.inputs ++ outputs_ports p n.outputs ≡ ports_of p (model_of n)
-ports_both input_ports n = append-nil (all_inputs n)
-ports_both p n = refl
+ports_both p n = search (rules, append-nil)
 
 ports_are : (n : PlainNetlist) (p : Ports) → ports_of p (model_of n) ≡ names_in p (statements_of 2 (body_lines n))
 ports_are n p =
@@ -171,9 +142,7 @@ ports_are n p =
     ∙ ports_both p n)
 
 pub ports_once : (n : PlainNetlist) → IsPlain n → (p : Ports) → AreOnce (ports_of p (model_of n))
-ports_once n h input_ports = h.inputs_once
-ports_once n h output_ports = h.outputs_once
-ports_once n h clock_ports = tt
+ports_once n h p = search rules
 
 model_is : (n : PlainNetlist) → IsPlain n → IsModel (statement_at 1 (codes ".model" ∷ n.name ∷ [])) (statements_of 2 (body_lines n)) (model_of n)
 model_is n h = record { is = refl; name = refl; line = refl; ports = ports_are n; once = ports_once n h; commands = commands_are n h }
@@ -187,8 +156,7 @@ library_is n h = record {
 
 -- the words are clean
 output_clean : (b : Bool) → IsClean (output_token b)
-output_clean true = word_clean (codes "1") (omega arith) refl
-output_clean false = word_clean (codes "0") (omega arith) refl
+output_clean b = grind arith
 
 cells_ordinary : (cells : List Cell) → list_any is_special (map cell_character cells) ≡ false
 cells_ordinary [] = refl
@@ -196,8 +164,7 @@ cells_ordinary (Zero ∷ cells) = cells_ordinary cells
 cells_ordinary (cell ∷ cells) = cells_ordinary cells
 
 headed : (word : List ℕ) (words : List (List ℕ)) → IsClean word → ((w : List ℕ) → In words w → IsClean w) → IsWritable (word ∷ words)
-headed word words c h w (inl e) = subst IsClean (sym e) c
-headed word words c h w (inr i) = h w i
+headed word words c h w h' = search rules
 
 row_writable : (cells : List Cell) → IsWritable (row_line cells)
 row_writable [] = one_clean (codes "1") (output_clean true)
@@ -213,9 +180,7 @@ either_clean : (xs ys : List (List ℕ)) → ((w : List ℕ) → In xs w → IsC
 either_clean xs ys a b w i = elim (In-append xs ys w i) [ inl j ↦ a w j | inr j ↦ b w j ]
 
 cover_writable : (c : CoverValue) → IsCleanBody (Cover c) → AreWritable (cover_lines c)
-cover_writable c h words (inl e) =
-    subst IsWritable (sym e) (headed (codes ".names") (c.inputs ++ c.output ∷ []) (word_clean (codes ".names") (omega arith) refl) (either_clean c.inputs (c.output ∷ []) h.0 (one_clean c.output h.1)))
-cover_writable c h words (inr i) = each_writable (λ (row : RowValue). row_line row.cells) c.rows (λ row j. row_writable row.cells) words i
+cover_writable c h words h' = search (rules, headed, codes, word_clean, either_clean, one_clean, each_writable, row_writable)
 
 covers_writable : (cs : List CoverValue) → ((c : CoverValue) → In cs c → IsCleanBody (Cover c)) → AreWritable (flat_map cover_lines cs)
 covers_writable [] h words i = elim i [ ]
@@ -234,8 +199,7 @@ latch_writable l h =
     (either_clean (control_words l.control) (output_token l.init ∷ []) (control_clean l.control h.2) (one_clean (output_token l.init) (output_clean l.init))))
 
 one_writable : (words : List (List ℕ)) → IsWritable words → AreWritable (words ∷ [])
-one_writable words h other (inl e) = subst IsWritable (sym e) h
-one_writable words h other (inr i) = elim i [ ]
+one_writable words h other h' = search rules
 
 lines_writable : (n : PlainNetlist) → IsPlain n → AreWritable (netlist_lines n)
 lines_writable n h =

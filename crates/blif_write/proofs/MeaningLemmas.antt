@@ -1,5 +1,5 @@
 -- What the two written netlists mean.
-use Rattle.blif_write.proofs.Common.{◌≡◌, ℕ, zero, suc, ◌+◌, ◌-◌, ◌^◌, ◌<◌, ◌≤◌, Bool, false, List, [], ◌∷◌, ◌++◌, length, map, filter, replicate, slice_index_or, Option, refl, sym, ap, ◌∙◌, inl, inr, arith, length-append, flat_map, range_with_len, length-map, length-replicate, length-map-range_with_len, sum_by-cons, In, digit, In-append, In-map, from_map, AreOnce, One, Any, LatchValue, RowValue, CoverValue, HasOneCycle, address, Denotes, IsWellFormedBody, FlatLatch, FlatValue, Param, Lit, Lut, HaveBases, bits_of, TemplateValue, of_range, in_range, joined_apart, Cover, PlainNetlist, netlist_text, library_of, Naming, naming_of, bit_name, table_name, literal_name, digit_cell, digit_cells, leaf_names, bit_names, chosen_cells, fixed_table, tunable_table, written_latches, with_tables, specialised_netlist, template_netlist, HasPorts, AreTablesOf, Means, free_control, all_bit_names, input_bits}
+use Rattle.blif_write.proofs.Common.{◌≡◌, ℕ, zero, suc, ◌+◌, ◌-◌, ◌^◌, ◌<◌, ◌≤◌, Bool, false, List, [], ◌∷◌, ◌++◌, length, map, filter, slice_index_or, Option, refl, sym, ap, ◌∙◌, inl, inr, arith, length-append, flat_map, range_with_len, length-map, length-replicate, length-map-range_with_len, sum_by-cons, In, digit, In-append, In-map, from_map, AreOnce, LatchValue, CoverValue, HasOneCycle, address, Denotes, IsWellFormedBody, FlatLatch, FlatValue, Param, Lit, Lut, HaveBases, bits_of, TemplateValue, of_range, in_range, joined_apart, Cover, PlainNetlist, netlist_text, library_of, Naming, naming_of, bit_name, table_name, literal_name, digit_cell, digit_cells, leaf_names, bit_names, chosen_cells, fixed_table, tunable_table, written_latches, with_tables, specialised_netlist, template_netlist, HasPorts, AreTablesOf, Means, free_control, all_bit_names, input_bits, rules}
 use Rattle.blif_write.proofs.DenoteLemmas.{denotes_plain}
 use Rattle.blif_write.proofs.TableCycleLemmas.{bits_in_order, inputs_again, in_all, table_cycle, fixed_valued, tunable_valued}
 use Rattle.netlist.proofs.LawLemmas.{sound_law}
@@ -15,32 +15,13 @@ digits_long : (leaves v : ℕ) → length (digit_cells leaves v) ≡ leaves
 digits_long leaves v = length-map-range_with_len (λ (place : ℕ). digit_cell (digit v place)) 0 leaves
 
 chosen_long : (bits v : ℕ) → v < bits → length (chosen_cells bits v) ≡ bits
-chosen_long bits v small =
-    let front : length (replicate v Any) ≡ v = length-replicate v Any in
-    let rest : length (replicate (bits - suc v) Any) ≡ bits - suc v = length-replicate (bits - suc v) Any in
-    let both : length (chosen_cells bits v) ≡ length (replicate v Any) + length (One ∷ replicate (bits - suc v) Any) = length-append (replicate v Any) (One ∷ replicate (bits - suc v) Any) in
-    omega (arith, front, rest, both, small)
+chosen_long bits v small = grind (arith, length-replicate, length-append)
 
 fixed_cells : (g : Naming) (config : List Bool) (u : Lut) → IsWellFormedBody (Cover (fixed_table g config u))
-fixed_cells g config u row i =
-    let leaves : ℕ = length u.leaves in
-    let r : (v : ℕ) × In (filter (λ v. slice_index_or config (u.base + v) false) (range_with_len 0 (2 ^ leaves))) v × (row ≡ record { cells = digit_cells leaves v }) =
-    from_map (λ (v : ℕ). record { cells = digit_cells leaves v }) (filter (λ v. slice_index_or config (u.base + v) false) (range_with_len 0 (2 ^ leaves))) row i in
-    ap (λ (q : RowValue). length q.cells) r.2 ∙ digits_long leaves r.0 ∙ sym (length-map u.leaves (λ (m : ℕ). _))
+fixed_cells g config u row i = grind (arith, filter, slice_index_or, from_map, digits_long, length-map)
 
 tunable_cells : (g : Naming) (u : Lut) → IsWellFormedBody (Cover (tunable_table g u))
-tunable_cells g u row i =
-    let leaves : ℕ = length u.leaves in
-    let make : ℕ → RowValue = λ v. record { cells = digit_cells leaves v ++ chosen_cells (2 ^ leaves) v } in
-    let r : (v : ℕ) × In (range_with_len 0 (2 ^ leaves)) v × (row ≡ make v) = from_map make (range_with_len 0 (2 ^ leaves)) row i in
-    let small : (0 ≤ r.0) × (r.0 < 0 + 2 ^ leaves) = of_range 0 (2 ^ leaves) r.0 r.1 in
-    let cells : length (digit_cells leaves r.0 ++ chosen_cells (2 ^ leaves) r.0) ≡ length (digit_cells leaves r.0) + length (chosen_cells (2 ^ leaves) r.0) = length-append (digit_cells leaves r.0) (chosen_cells (2 ^ leaves) r.0) in
-    let digits : length (digit_cells leaves r.0) ≡ leaves = digits_long leaves r.0 in
-    let chosen : length (chosen_cells (2 ^ leaves) r.0) ≡ 2 ^ leaves = chosen_long (2 ^ leaves) r.0 (omega (arith, small.1)) in
-    let inputs : length (leaf_names g u ++ bit_names g u) ≡ length (leaf_names g u) + length (bit_names g u) = length-append (leaf_names g u) (bit_names g u) in
-    let names : length (leaf_names g u) ≡ leaves = length-map u.leaves (λ (m : ℕ). _) in
-    let bits : length (bit_names g u) ≡ 2 ^ leaves = length-map-range_with_len (bit_name g) u.base (2 ^ leaves) in
-    ap (λ (q : RowValue). length q.cells) r.2 ∙ omega (arith, cells, digits, chosen, inputs, names, bits)
+tunable_cells g u row i = grind (arith, from_map, of_range, length-append, digits_long, chosen_long, g, length-map, length-map-range_with_len)
 
 -- the names of the bits
 abbrev all_bits : Naming → List Lut → List (List ℕ)
@@ -61,36 +42,17 @@ bits_there g b (t ∷ ts) name h i =
 
 range_once : (g : Naming) (a n : ℕ) → a + n ≤ 2 ^ 64 → AreOnce (map (bit_name g) (range_with_len a n))
 range_once g a zero small = tt
-range_once g a (suc n) small = (
-  λ i. let r : (b : ℕ) × In (range_with_len (a + 1) n) b × (bit_name g a ≡ bit_name g b) = from_map (bit_name g) (range_with_len (a + 1) n) (bit_name g a) i in
-      let s : (a + 1 ≤ r.0) × (r.0 < a + 1 + n) = of_range (a + 1) n r.0 r.1 in
-      let same : a ≡ r.0 = own_number g 99 a r.0 (omega (arith, small)) (omega (arith, small, s.1)) r.2 in
-      omega (arith, same, s.0),
-  range_once g (a + 1) n (omega (arith, small)),
-)
+range_once g a (suc n) small = grind (arith, g, from_map, of_range, own_number, range_once g (a + 1) n (omega (arith, small)))
 
 bits_once : (g : Naming) (b : ℕ) (luts : List Lut) → HaveBases b luts → b + bits_of luts ≤ 2 ^ 64 → AreOnce (all_bits g luts)
 bits_once g b [] h small = tt
 bits_once g b (t ∷ ts) h small =
     let sum : bits_of (t ∷ ts) ≡ 2 ^ length t.leaves + bits_of ts = sum_by-cons (λ (k : Lut). 2 ^ length k.leaves) t ts in
     let base : t.base ≡ b = h.0 in
-    joined_apart (bit_names g t) (all_bits g ts) (range_once g t.base (2 ^ length t.leaves) (omega (arith, small, sum, base))) (bits_once g (b + 2 ^ length t.leaves) ts h.1 (omega (arith, small, sum)))
-    (λ name i j.
-    let r : (a : ℕ) × In (range_with_len t.base (2 ^ length t.leaves)) a × (name ≡ bit_name g a) = from_map (bit_name g) (range_with_len t.base (2 ^ length t.leaves)) name i in
-    let s : (t.base ≤ r.0) × (r.0 < t.base + 2 ^ length t.leaves) = of_range t.base (2 ^ length t.leaves) r.0 r.1 in
-    let q : (a : ℕ) × (b + 2 ^ length t.leaves ≤ a) × (a < b + 2 ^ length t.leaves + bits_of ts) × (name ≡ bit_name g a) = bits_there g (b + 2 ^ length t.leaves) ts name h.1 j in
-    let same : r.0 ≡ q.0 = own_number g 99 r.0 q.0 (omega (arith, s.1, small, sum, base)) (omega (arith, q.2, small, sum)) (sym r.2 ∙ q.3) in
-    omega (arith, same, s.1, q.1, base))
+    grind (arith, joined_apart, g, all_bits, range_once, from_map, of_range, bits_there, own_number, bits_once g (b + 2 ^ length t.leaves) ts h.1 (omega (arith, small, sum)))
 
 fixed_covers : (g : Naming) (luts : List Lut) (config : List Bool) → AreCovers g luts [] (fixed_table g config)
-fixed_covers g luts config = record {
-  output = λ u. refl;
-  on = λ u. refl;
-  inputs = λ u i name j. inl j;
-  cells = fixed_cells g config;
-  bits_own = λ name i. elim i [ ];
-  bits_once = tt;
-}
+fixed_covers g luts config = search (rules, fixed_cells, g, bits_once)
 
 tunable_covers : (g : Naming) (luts : List Lut) (bits : ℕ) → HaveBases 0 luts → bits ≡ bits_of luts → bits < 2 ^ 32 → AreCovers g luts (map (bit_names g) luts) (tunable_table g)
 tunable_covers g luts bits bases sum few = record {

@@ -17,17 +17,11 @@ whole_netlist n first bits tables wires i c =
     let outputs : List ℕ = line_text (codes ".outputs" ∷ n.outputs) in
     let latches : List (List (List ℕ)) = map latch_line n.latches in
     let end : List (List (List ℕ)) = (codes ".end" ∷ []) ∷ [] in
-    let covers : covers_bytes tables ++ (covers_bytes wires ++ codes ".end\n") ≡ flat_map line_text (flat_map cover_lines n.covers ++ end) =
-    sym (append_assoc (covers_bytes tables) (covers_bytes wires) (codes ".end\n"))
-    ∙ ap (λ (t : List ℕ). t ++ codes ".end\n") (sym (flat_map-append line_text (flat_map cover_lines tables) (flat_map cover_lines wires)) ∙ ap (flat_map line_text) (sym (flat_map-append cover_lines tables wires)) ∙ ap covers_bytes (sym c))
-    ∙ sym (flat_map-append line_text (flat_map cover_lines n.covers) end) in
+    let covers : covers_bytes tables ++ (covers_bytes wires ++ codes ".end\n") ≡ flat_map line_text (flat_map cover_lines n.covers ++ end) = grind (arith, append_assoc, covers_bytes, codes, flat_map-append) in
     let behind : flat_map line_text latches ++ (covers_bytes tables ++ (covers_bytes wires ++ codes ".end\n")) ≡ flat_map line_text (latches ++ (flat_map cover_lines n.covers ++ end)) =
     ap (λ (t : List ℕ). flat_map line_text latches ++ t) covers ∙ sym (flat_map-append line_text latches (flat_map cover_lines n.covers ++ end)) in
     let rest : List (List (List ℕ)) = (codes ".outputs" ∷ n.outputs) ∷ (latches ++ (flat_map cover_lines n.covers ++ end)) in
-    append_assoc model inputs _ ∙ ap (λ (t : List ℕ). model ++ (inputs ++ (inputs_text bits ++ (outputs ++ t)))) behind
-    ∙ ap (λ (t : List ℕ). model ++ t)
-    (ap (λ (t : List ℕ). inputs ++ t) (sym (flat_map-append line_text (map (λ (names : List (List ℕ)). codes ".inputs" ∷ names) bits) rest))
-    ∙ ap (λ (lists : List (List (List ℕ))). flat_map line_text (map (λ (names : List (List ℕ)). codes ".inputs" ∷ names) lists ++ rest)) (sym i))
+    grind (arith, append_assoc, inputs_text, flat_map-append, codes)
 
 -- the two netlists, with the names as they are handed in
 abbrev head_of : Naming → FlatValue → List ℕ
@@ -63,10 +57,7 @@ specialised_is g flat params t config e =
 -- wires
 wires_split : (g : Naming) (os more : List OutPort) (lits others : List Lit) → length lits ≡ length os → wires g (os ++ more) (lits ++ others) ≡ wires g os lits ++ wires g more others
 wires_split g [] more [] others e = refl
-wires_split g (o ∷ os) more (lit ∷ lits) others e =
-    let s : suc (length lits) ≡ suc (length os) = e in
-    ap (λ (cs : List CoverValue). wire (literal_name g lit.0) o.name ++ cs) (wires_split g os more lits others (omega arith))
-    ∙ sym (append_assoc (wire (literal_name g lit.0) o.name) (wires g os lits) (wires g more others))
+wires_split g (o ∷ os) more (lit ∷ lits) others e = grind (arith, append_assoc, wires_split g os more lits others (omega arith))
 wires_split g os more lits others e = absurd (omega arith)
 
 -- the bytes of some covers
@@ -86,21 +77,17 @@ same_length xs ys i e h = omega (arith, length-take i xs, length-take i ys)
 pub wire_next : (g : Naming) (os : List OutPort) (lits : List Lit) (i : ℕ) (o : OutPort) (lit : Lit) → length lits ≡ length os → i < length os
     → wires_before g os lits i ++ wires_text (wire (literal_name g (get_or lits i lit).0) (get_or os i o).name) ≡ wires_before g os lits (i + 1)
 wire_next g os lits i o lit e h =
-    let k : i < length lits = omega arith in
-    let one : List CoverValue = wire (literal_name g (get_or lits i lit).0) (get_or os i o).name in
-    joined (wires g (take i os) (take i lits)) one
-    ∙ ap (λ (cs : List CoverValue). wires_text (wires g (take i os) (take i lits) ++ cs)) (sym (append-nil one))
+    joined (wires g (take i os) (take i lits)) _
+    ∙ ap (λ (cs : List CoverValue). wires_text (wires g (take i os) (take i lits) ++ cs)) (sym (append-nil _))
     ∙ ap wires_text (sym (wires_split g (take i os) (get_or os i o ∷ []) (take i lits) (get_or lits i lit ∷ []) (same_length lits os i e h)))
     ∙ ap (λ (ps : List OutPort). wires_text (wires g ps (take i lits ++ get_or lits i lit ∷ []))) (sym (take_more os i o h))
-    ∙ ap (λ (ls : List Lit). wires_text (wires g (take (i + 1) os) ls)) (sym (take_more lits i lit k))
+    ∙ ap (λ (ls : List Lit). wires_text (wires g (take (i + 1) os) ls)) (sym (take_more lits i lit (omega arith)))
 
 -- latches
 latches_split : (g : Naming) (control : Option (List ℕ)) (from at : ℕ) (ls more : List FlatLatch) (nexts others : List Lit) → length nexts ≡ length ls → at ≡ from + length ls
     → written_latches g control from (ls ++ more) (nexts ++ others) ≡ written_latches g control from ls nexts ++ written_latches g control at more others
 latches_split g control from at [] more [] others e a = ap (λ (k : ℕ). written_latches g control k more others) (let d : from ≡ at = omega arith in d)
-latches_split g control from at (l ∷ ls) more (next ∷ nexts) others e a =
-    let s : suc (length nexts) ≡ suc (length ls) = e in
-    ap (λ (ws : List LatchValue). written_latch g control from l next ∷ ws) (latches_split g control (suc from) at ls more nexts others (omega arith) (omega arith))
+latches_split g control from at (l ∷ ls) more (next ∷ nexts) others e a = grind (arith, latches_split g control (suc from) at ls more nexts others (omega arith) (omega arith))
 latches_split g control from at ls more nexts others e a = absurd (omega arith)
 
 -- the bytes of some latches
@@ -117,30 +104,24 @@ latches_before g control ls nexts i = latches_text (written_latches g control 0 
 pub latch_next : (g : Naming) (control : Option (List ℕ)) (ls : List FlatLatch) (nexts : List Lit) (i : ℕ) (l : FlatLatch) (next : Lit) → length nexts ≡ length ls → i < length ls
     → latches_before g control ls nexts i ++ line_text (latch_line (written_latch g control i (get_or ls i l) (get_or nexts i next))) ≡ latches_before g control ls nexts (i + 1)
 latch_next g control ls nexts i l next e h =
-    let k : i < length nexts = omega arith in
     let here : LatchValue = written_latch g control i (get_or ls i l) (get_or nexts i next) in
-    let at : i ≡ 0 + length (take i ls) = omega (arith, length-take i ls) in
     ap (λ (t : List ℕ). latches_before g control ls nexts i ++ t) (sym (append-nil (line_text (latch_line here))))
     ∙ joined_latches (written_latches g control 0 (take i ls) (take i nexts)) (here ∷ [])
-    ∙ ap latches_text (sym (latches_split g control 0 i (take i ls) (get_or ls i l ∷ []) (take i nexts) (get_or nexts i next ∷ []) (same_length nexts ls i e h) at))
+    ∙ ap latches_text (sym (latches_split g control 0 i (take i ls) (get_or ls i l ∷ []) (take i nexts) (get_or nexts i next ∷ []) (same_length nexts ls i e h) (omega (arith, length-take i ls))))
     ∙ ap (λ (ks : List FlatLatch). latches_text (written_latches g control 0 ks (take i nexts ++ get_or nexts i next ∷ []))) (sym (take_more ls i l h))
-    ∙ ap (λ (ns : List Lit). latches_text (written_latches g control 0 (take (i + 1) ls) ns)) (sym (take_more nexts i next k))
+    ∙ ap (λ (ns : List Lit). latches_text (written_latches g control 0 (take (i + 1) ls) ns)) (sym (take_more nexts i next (omega arith)))
 
 pub wires_whole : (g : Naming) (os : List OutPort) (lits : List Lit) (i : ℕ) → length lits ≡ length os → length os ≤ i → wires_before g os lits i ≡ wires_text (wires g os lits)
-wires_whole g os lits i e h =
-    ap (λ (ps : List OutPort). wires_text (wires g ps (take i lits))) (take_all i os h) ∙ ap (λ (ls : List Lit). wires_text (wires g os ls)) (take_all i lits (omega arith))
+wires_whole g os lits i e h = grind (arith, wires_text, take_all)
 
 pub latches_whole : (g : Naming) (control : Option (List ℕ)) (ls : List FlatLatch) (nexts : List Lit) (i : ℕ) → length nexts ≡ length ls → length ls ≤ i
     → latches_before g control ls nexts i ≡ latches_text (written_latches g control 0 ls nexts)
-latches_whole g control ls nexts i e h =
-    ap (λ (ks : List FlatLatch). latches_text (written_latches g control 0 ks (take i nexts))) (take_all i ls h)
-    ∙ ap (λ (ns : List Lit). latches_text (written_latches g control 0 ls ns)) (take_all i nexts (omega arith))
+latches_whole g control ls nexts i e h = grind (arith, latches_text, take_all)
 
 -- a line of inputs for each table
 pub input_lines : {X : Type 0} (f : X → List (List ℕ)) (xs : List X)
     → flat_map (λ (x : X). line_text (codes ".inputs" ∷ f x)) xs ≡ flat_map line_text (map (λ (bits : List (List ℕ)). codes ".inputs" ∷ bits) (map f xs))
-input_lines f xs =
-    sym (flat_map-map line_text (λ (bits : List (List ℕ)). codes ".inputs" ∷ bits) (map f xs) ∙ flat_map-map (λ (bits : List (List ℕ)). line_text (codes ".inputs" ∷ bits)) f xs)
+input_lines f xs = grind (arith, flat_map-map, codes)
 
 -- a cover for each table
 abbrev pub cover_text : CoverValue → List ℕ
@@ -155,11 +136,7 @@ tables_text f xs = sym (flat_map-map cover_text f xs) ∙ covers_text (map f xs)
 
 -- the first line of a cover, as it is added
 end_name : (words : List (List ℕ)) (name rest : List ℕ) → words_text words ++ ((32 ∷ (name ++ 10 ∷ [])) ++ rest) ≡ (words_text (words ++ name ∷ []) ++ 10 ∷ []) ++ rest
-end_name words name rest =
-    sym (append_assoc (words_text words) (32 ∷ (name ++ 10 ∷ [])) rest)
-    ∙ ap (λ (t : List ℕ). t ++ rest)
-    (ap (λ (t : List ℕ). words_text words ++ (32 ∷ (t ++ 10 ∷ []))) (sym (append-nil name)) ∙ sym (append_assoc (words_text words) (32 ∷ (name ++ [])) (10 ∷ []))
-    ∙ ap (λ (t : List ℕ). t ++ 10 ∷ []) (sym (flat_map-append (λ (w : List ℕ). 32 ∷ w) words (name ∷ []))))
+end_name words name rest = grind (arith, append_assoc, append-nil, flat_map-append)
 
 pub one_list : (c : CoverValue)
     → codes ".names" ++ (words_text c.inputs ++ ((32 ∷ (c.output ++ 10 ∷ [])) ++ flat_map line_text (map (λ row. row_line row.cells) c.rows))) ≡ cover_text c
@@ -167,33 +144,16 @@ one_list c = ap (λ (t : List ℕ). codes ".names" ++ t) (end_name c.inputs c.ou
 
 pub two_lists : (c : CoverValue) (leaves bits : List (List ℕ)) → c.inputs ≡ leaves ++ bits
     → codes ".names" ++ (words_text leaves ++ (words_text bits ++ ((32 ∷ (c.output ++ 10 ∷ [])) ++ flat_map line_text (map (λ row. row_line row.cells) c.rows)))) ≡ cover_text c
-two_lists c leaves bits e =
-    let rest : List ℕ = (32 ∷ (c.output ++ 10 ∷ [])) ++ flat_map line_text (map (λ row. row_line row.cells) c.rows) in
-    ap (λ (t : List ℕ). codes ".names" ++ t)
-    (sym (append_assoc (words_text leaves) (words_text bits) rest) ∙ ap (λ (t : List ℕ). t ++ rest) (sym (flat_map-append (λ (w : List ℕ). 32 ∷ w) leaves bits) ∙ ap words_text (sym e)))
-    ∙ one_list c
+two_lists c leaves bits e = grind (arith, codes, append_assoc, flat_map-append, one_list)
 
 -- a latch, as it is added
 pub latch_text : (l : LatchValue) → codes ".latch " ++ (l.input ++ (32 ∷ (l.output ++ (words_text (control_words l.control) ++ (32 ∷ (output_token l.init ++ 10 ∷ [])))))) ≡ line_text (latch_line l)
-latch_text l =
-    let words : List (List ℕ) = control_words l.control in
-    let last : List ℕ = 32 ∷ (output_token l.init ++ []) in
-    let tail : words_text words ++ (32 ∷ (output_token l.init ++ 10 ∷ [])) ≡ words_text (words ++ output_token l.init ∷ []) ++ 10 ∷ [] =
-    ap (λ (t : List ℕ). words_text words ++ (32 ∷ (t ++ 10 ∷ []))) (sym (append-nil (output_token l.init))) ∙ sym (append_assoc (words_text words) last (10 ∷ []))
-    ∙ ap (λ (t : List ℕ). t ++ 10 ∷ []) (sym (flat_map-append (λ (w : List ℕ). 32 ∷ w) words (output_token l.init ∷ []))) in
-    let out : List ℕ = words_text (words ++ output_token l.init ∷ []) in
-    ap (λ (t : List ℕ). codes ".latch " ++ (l.input ++ (32 ∷ (l.output ++ t)))) tail
-    ∙ ap (λ (t : List ℕ). codes ".latch " ++ (l.input ++ (32 ∷ t))) (sym (append_assoc l.output out (10 ∷ [])))
-    ∙ ap (λ (t : List ℕ). codes ".latch " ++ t) (sym (append_assoc l.input (32 ∷ (l.output ++ out)) (10 ∷ [])))
+latch_text l = grind (arith, append-nil, append_assoc, flat_map-append, codes)
 
 -- a wire, as it is added
 pub wire_text : (root name : List ℕ) → codes ".names " ++ (root ++ ((32 ∷ name) ++ (10 ∷ 49 ∷ 32 ∷ 49 ∷ 10 ∷ [])))
     ≡ flat_map line_text ((codes ".names" ∷ root ∷ name ∷ []) ∷ (codes "1" ∷ codes "1" ∷ []) ∷ [])
-wire_text root name =
-    let row : List ℕ = 49 ∷ 32 ∷ 49 ∷ 10 ∷ [] in
-    ap (λ (t : List ℕ). codes ".names " ++ (root ++ (32 ∷ t))) (sym (append_assoc name (10 ∷ []) row))
-    ∙ ap (λ (t : List ℕ). codes ".names " ++ (t ++ (32 ∷ ((name ++ 10 ∷ []) ++ row)))) (sym (append-nil root))
-    ∙ ap (λ (t : List ℕ). codes ".names" ++ t) (end_name (root ∷ []) name row)
+wire_text root name = grind (arith, codes, append_assoc, append-nil, end_name)
 
 -- the type and the control of a latch, as they are added
 pub clock_text : (control : List ℕ) → codes " re" ++ 32 ∷ control ≡ words_text (control_words (Some control))
@@ -202,9 +162,4 @@ clock_text control = ap (λ (t : List ℕ). codes " re " ++ t) (sym (append-nil 
 -- the head of a netlist, as it is added
 pub head_text : (model : List ℕ) (regular control : List (List ℕ)) → codes ".model" ++ ((32 ∷ model) ++ ((10 ∷ codes ".inputs") ++ (words_text regular ++ (words_text control ++ 10 ∷ []))))
     ≡ line_text (codes ".model" ∷ model ∷ []) ++ line_text (codes ".inputs" ∷ (regular ++ control))
-head_text model regular control =
-    let inputs : List ℕ = line_text (codes ".inputs" ∷ (regular ++ control)) in
-    let words : words_text regular ++ (words_text control ++ 10 ∷ []) ≡ words_text (regular ++ control) ++ 10 ∷ [] =
-    sym (append_assoc (words_text regular) (words_text control) (10 ∷ [])) ∙ ap (λ (t : List ℕ). t ++ 10 ∷ []) (sym (flat_map-append (λ (w : List ℕ). 32 ∷ w) regular control)) in
-    ap (λ (t : List ℕ). codes ".model" ++ (32 ∷ (model ++ (10 ∷ (codes ".inputs" ++ t))))) words
-    ∙ ap (λ (t : List ℕ). codes ".model" ++ (32 ∷ t)) (ap (λ (t : List ℕ). t ++ (10 ∷ inputs)) (sym (append-nil model)) ∙ sym (append_assoc (model ++ []) (10 ∷ []) inputs))
+head_text model regular control = grind (arith, codes, append_assoc, flat_map-append, append-nil)

@@ -1,10 +1,10 @@
 -- A written netlist is orderly: each name that it reads has one driver, and its LUTs are in order.
-use Rattle.blif_write.proofs.Common.{◌≡◌, ◌⊎◌, ℕ, suc, ◌+◌, ◌-◌, ◌*◌, ◌/◌, ◌%◌, ◌^◌, ◌<◌, ◌≤◌, Bool, true, false, cond, eqb, nat_le, IsTrue, List, [], ◌∷◌, ◌++◌, length, map, get_or, slice_get, bytes_eq, Some, refl, sym, ap, subst, ◌∙◌, inl, inr, arith, flat_map, map-append, leb-true, le-leb, and_parts, same_Some, bytes_eq-Decides, In, In-append, In-left, In-right, In-get, In-get_or, In-map, from_map, IsClean, AreOnce, LatchValue, CoverValue, IsWellFormedBody, OutPort, FlatValue, underscores, Param, Lit, Lut, HasLut, TemplateValue, is_regular, is_plain, false_from_ne_true, joined_apart, Cover, Latch, PlainNetlist, IsPlain, all_inputs, read_latch, Naming, naming_of, own_name, table_name, latch_name, bit_name, source_name, literal_name, leaf_names, wire_of, wires, written_latches, control_names, with_tables, HasPorts, AreTablesOf, map-map}
+use Rattle.blif_write.proofs.Common.{◌≡◌, ◌⊎◌, ℕ, suc, ◌+◌, ◌-◌, ◌*◌, ◌/◌, ◌%◌, ◌^◌, ◌<◌, ◌≤◌, Bool, true, false, cond, eqb, nat_le, IsTrue, List, [], ◌∷◌, ◌++◌, length, map, get_or, slice_get, bytes_eq, Some, refl, sym, ap, subst, ◌∙◌, inl, inr, arith, flat_map, map-append, leb-true, le-leb, and_parts, same_Some, bytes_eq-Decides, In, In-append, In-left, In-right, In-get, In-get_or, In-map, from_map, IsClean, AreOnce, LatchValue, CoverValue, IsWellFormedBody, OutPort, FlatValue, underscores, Param, Lit, Lut, HasLut, TemplateValue, is_regular, is_plain, false_from_ne_true, joined_apart, Cover, PlainNetlist, IsPlain, all_inputs, Naming, naming_of, own_name, table_name, latch_name, bit_name, source_name, literal_name, leaf_names, wire_of, wires, written_latches, control_names, with_tables, HasPorts, AreTablesOf, map-map, rules}
 use Rattle.blif_write.proofs.PlainCycleLemmas.{IsControlName}
 use Rattle.blif_write.proofs.PlainSoundLemmas.{body_output, command_outputs, IsOrderly}
 use Rattle.blif_write.proofs.OwnNameLemmas.{own_under, no_port_name, own_letter, own_number, plain_even, table_literal}
 use Rattle.blif_write.proofs.TableCycleLemmas.{regular_parts, name_input, latch_named, latch_written, latch_next}
-use Rattle.blif_write.proofs.PartLemmas.{AreCovers, outputs_clean, later_wire, table_outputs_are, rank_in, rank_of, rank_there, in_control, control_once, regular_once, wire_formed, in_lines, control_named_in, own_clean, latch_output, latches_once, table_names, tables_once, IsWire, wires_there, wires_once}
+use Rattle.blif_write.proofs.PartLemmas.{AreCovers, outputs_clean, later_wire, table_outputs_are, rank_in, rank_of, rank_there, in_control, control_once, regular_once, in_lines, control_named_in, own_clean, latch_output, latches_once, table_names, tables_once, IsWire, wires_there, wires_once}
 
 module _ (flat : FlatValue) (params : List Param) (t : TemplateValue) (bits : List (List (List ℕ))) (table : Lut → CoverValue) (ports : HasPorts flat) (are : AreTablesOf flat params t)
     (covers : AreCovers (naming_of flat params) t.luts bits table) where
@@ -27,13 +27,7 @@ module _ (flat : FlatValue) (params : List Param) (t : TemplateValue) (bits : Li
   small_lits u i = let s : u.lit.0 < 2 ^ 32 = are.small u i in omega (arith, s)
 
   outputs_named : command_outputs n ≡ latch_names ++ (table_names g t.luts ++ wire_names)
-  outputs_named =
-      let ls : List LatchValue = written_latches g flat.control 0 flat.latches t.next in
-      let cs : List CoverValue = map table t.luts ++ wires g flat.outputs t.outputs in
-      map-append body_output (map (λ (l : LatchValue). Latch (read_latch l)) ls) (map (λ (c : CoverValue). Cover c) cs)
-      ∙ ap (λ (k : List (List ℕ)). k ++ map body_output (map (λ (c : CoverValue). Cover c) cs)) (map-map body_output (λ (l : LatchValue). Latch (read_latch l)) ls)
-      ∙ ap (λ (k : List (List ℕ)). latch_names ++ k) (map-map body_output (λ (c : CoverValue). Cover c) cs ∙ map-append (λ (c : CoverValue). c.output) (map table t.luts) (wires g flat.outputs t.outputs)
-      ∙ ap (λ (k : List (List ℕ)). k ++ wire_names) (table_outputs_are g table t.luts covers.output))
+  outputs_named = grind (arith, g, map-append, body_output, map-map, latch_names, wire_names, table_outputs_are)
 
   -- of which kind the names are
   control_named : (name : List ℕ) → IsControlName n name → flat.control ≡ Some name
@@ -43,11 +37,7 @@ module _ (flat : FlatValue) (params : List Param) (t : TemplateValue) (bits : Li
   own_no_control letter number name h e c = no_port_name g letter number name h (ports.control name (control_named name c)).under (sym e)
 
   wire_is : (name : List ℕ) → In wire_names name → (o : OutPort) × In flat.outputs o × (name ≡ o.name) × (In g.regular name → ⊥)
-  wire_is name i =
-      let r : (c : CoverValue) × In (wires g flat.outputs t.outputs) c × (name ≡ c.output) = from_map (λ (c : CoverValue). c.output) (wires g flat.outputs t.outputs) name i in
-      let w : IsWire g flat.outputs t.outputs r.0 = wires_there g flat.outputs t.outputs r.0 are.fed r.1 in
-      let e : name ≡ w.output.name = r.2 ∙ ap (λ (c : CoverValue). c.output) w.is in
-      (w.output, w.output_in, e, λ k. w.no_input (subst (In g.regular) e k))
+  wire_is name i = grind (arith, g, from_map, wires_there)
 
   latch_is : (name : List ℕ) → In latch_names name → (j : ℕ) × (j < 2 ^ 64) × (name ≡ latch_name g j)
   latch_is name i =
@@ -68,9 +58,7 @@ module _ (flat : FlatValue) (params : List Param) (t : TemplateValue) (bits : Li
   ]
 
   wire_port : (name : List ℕ) → In wire_names name → underscores name ≤ g.under
-  wire_port name i =
-      let r : (o : OutPort) × In flat.outputs o × (name ≡ o.name) × (In g.regular name → ⊥) = wire_is name i in
-      subst (λ (k : List ℕ). underscores k ≤ g.under) (sym r.2) (ports.outputs r.0 r.1).under
+  wire_port name i = grind (arith, wire_is)
 
   main_once : AreOnce (g.regular ++ control_names flat.control)
   main_once = joined_apart g.regular (control_names flat.control) (regular_once flat params ports.inputs_once) (control_once flat.control) ports_apart
@@ -140,8 +128,7 @@ module _ (flat : FlatValue) (params : List Param) (t : TemplateValue) (bits : Li
 
   lit_by : (l : ℕ) (b : Bool) → is_plain g.shape l ≡ b → IsTrue b ⊎ HasLut t.luts l → LitIs l
   lit_by l true e h =
-      let p : (eqb (l % 2) 0 ≡ true) × (is_regular g.shape (l / 2) ≡ true) = and_parts (eqb (l % 2) 0) (is_regular g.shape (l / 2)) e in
-      source_is l (l / 2) p.1 (ap (λ (k : Bool). cond k (source_name g (l / 2)) (table_name g l)) e)
+      source_is l (l / 2) (and_parts (eqb (l % 2) 0) (is_regular g.shape (l / 2)) e).1 (ap (λ (k : Bool). cond k (source_name g (l / 2)) (table_name g l)) e)
   lit_by l false e (inl h) = absurd (let w : false ≡ true = h in let wrong : ⊥ = cc in wrong)
   lit_by l false e (inr h) = of_table h.table h.in' h.is e (table_literal g l e ∙ ap (table_name g) (sym h.is))
 
@@ -226,8 +213,7 @@ module _ (flat : FlatValue) (params : List Param) (t : TemplateValue) (bits : Li
     | inr k ↦ (bit_driven name k, bit_clean name k)
   ]
   inputs_by c (of_wire w) name j =
-      let root : LitIs w.root.0 = output_root w.root w.root_in in
-      root_named w.root.0 name root (subst (λ (d : CoverValue). In d.inputs name) w.is j)
+      root_named w.root.0 name (output_root w.root w.root_in) (subst (λ (d : CoverValue). In d.inputs name) w.is j)
 
   -- ranks
   table_rank : (u : Lut) → In t.luts u → rank_of g t.luts (table_name g u.lit.0) ≡ suc u.lit.0
@@ -244,8 +230,7 @@ module _ (flat : FlatValue) (params : List Param) (t : TemplateValue) (bits : Li
 
   -- no literal's name is a wire's output
   lit_no_wire : (l : ℕ) (c : CoverValue) → LitIs l → IsWire g flat.outputs t.outputs c → c.output ≡ literal_name g l → ⊥
-  lit_no_wire l c (of_input i) w e =
-      w.no_input (subst (In g.regular) (sym e ∙ ap (λ (d : CoverValue). d.output) w.is) i)
+  lit_no_wire l c (of_input i) w e = grind arith
   lit_no_wire l c (of_latch j small f) w e = no_port_name g 108 j c.output refl (wire_under c w) (sym (e ∙ f))
   lit_no_wire l c (of_table u i same p f) w e = no_port_name g 110 u.lit.0 c.output refl (wire_under c w) (sym (e ∙ f))
 
@@ -256,21 +241,16 @@ module _ (flat : FlatValue) (params : List Param) (t : TemplateValue) (bits : Li
   lit_table l w (of_table u i same p f) k e = (own_number g 110 w.lit.0 u.lit.0 (small_lits w k) (small_lits u i) (e ∙ f) ∙ same, p)
 
   leaf_below : (u : Lut) (m : ℕ) → In t.luts u → In u.leaves m → is_plain g.shape (2 * m) ≡ false → suc (2 * m) < suc u.lit.0
-  leaf_below u m i j unplain = elim (are.playable.leaves u m i j) [
-    | inl h ↦ absurd (let w : is_plain g.shape (2 * m) ≡ true = plain_even g.shape m ∙ h in let wrong : ⊥ = cc in wrong)
-    | inr h ↦ let b : m < u.lit.0 / 2 = are.playable.below u m i j h in omega (arith, b)
-  ]
+  leaf_below u m i j unplain = search (rules, plain_even)
 
   falls_by : (c d : CoverValue) → CoverIs c → CoverIs d → In c.inputs d.output → rank_of g t.luts d.output < rank_of g t.luts c.output
   falls_by c d (of_lut u i e) (of_lut w k f) j =
       let own : d.output ≡ table_name g w.lit.0 = table_under w d k f in
-      let upper : rank_of g t.luts c.output ≡ suc u.lit.0 = ap (rank_of g t.luts) (table_under u c i e) ∙ table_rank u i in
-      let lower : rank_of g t.luts d.output ≡ suc w.lit.0 = ap (rank_of g t.luts) own ∙ table_rank w k in
       elim (covers.inputs u i d.output (subst (λ (o : CoverValue). In o.inputs d.output) e j)) [
         | inl q ↦ let r : (m : ℕ) × In u.leaves m × (d.output ≡ literal_name g (2 * m)) × LitIs (2 * m) = leaf_named u d.output i q in
             let s : (w.lit.0 ≡ 2 * r.0) × (is_plain g.shape (2 * r.0) ≡ false) = lit_table (2 * r.0) w r.3 k (sym own ∙ r.2) in
             let b : suc (2 * r.0) < suc u.lit.0 = leaf_below u r.0 i r.1 s.1 in
-            omega (arith, b, s.0, upper, lower)
+            omega (arith, b, s.0, ap (rank_of g t.luts) (table_under u c i e) ∙ table_rank u i, ap (rank_of g t.luts) own ∙ table_rank w k)
         | inr q ↦ let b : (b : ℕ) × (b < 2 ^ 64) × (d.output ≡ bit_name g b) = covers.bits_own d.output q in
             absurd (let x : 110 ≡ 99 = own_letter g 110 99 w.lit.0 b.0 (sym own ∙ b.2) in omega (arith, x))
       ]
@@ -278,11 +258,7 @@ module _ (flat : FlatValue) (params : List Param) (t : TemplateValue) (bits : Li
     | inl q ↦ let r : (m : ℕ) × In u.leaves m × (d.output ≡ literal_name g (2 * m)) × LitIs (2 * m) = leaf_named u d.output i q in absurd (lit_no_wire (2 * r.0) d r.3 w r.2)
     | inr q ↦ let b : (b : ℕ) × (b < 2 ^ 64) × (d.output ≡ bit_name g b) = covers.bits_own d.output q in absurd (no_port_name g 99 b.0 d.output refl (wire_under d w) (sym b.2))
   ]
-  falls_by c d (of_wire v) (of_lut w k f) j =
-      let upper : rank_of g t.luts c.output ≡ 2 ^ 33 = ap (λ (b : Bool). cond b (2 ^ 33) (rank_in g t.luts c.output)) (le-leb (underscores c.output) g.under (wire_under c v)) in
-      let lower : rank_of g t.luts d.output ≡ suc w.lit.0 = ap (rank_of g t.luts) (table_under w d k f) ∙ table_rank w k in
-      let small : w.lit.0 < 2 ^ 32 = are.small w k in
-      omega (arith, upper, lower, small)
+  falls_by c d (of_wire v) (of_lut w k f) j = grind (arith, rank_of, g, cond, rank_in, le-leb, wire_under, table_under, table_rank)
   falls_by c d (of_wire v) (of_wire w) j =
       elim (subst (λ (o : CoverValue). In o.inputs d.output) v.is j) [ inl e ↦ absurd (lit_no_wire v.root.0 d (output_root v.root v.root_in) w e) | inr q ↦ elim q [ ] ]
 
@@ -308,12 +284,10 @@ module _ (flat : FlatValue) (params : List Param) (t : TemplateValue) (bits : Li
   output_clean_by c (of_wire w) = subst IsClean (sym (ap (λ (d : CoverValue). d.output) w.is)) (ports.outputs w.output w.output_in).clean
 
   on_by : (c : CoverValue) → CoverIs c → c.value ≡ true
-  on_by c (of_lut u i e) = ap (λ (d : CoverValue). d.value) e ∙ covers.on u
-  on_by c (of_wire w) = ap (λ (d : CoverValue). d.value) w.is
+  on_by c h = search rules
 
   cells_by : (c : CoverValue) → CoverIs c → IsWellFormedBody (Cover c)
-  cells_by c (of_lut u i e) = subst (λ (d : CoverValue). IsWellFormedBody (Cover d)) (sym e) (covers.cells u)
-  cells_by c (of_wire w) = subst (λ (d : CoverValue). IsWellFormedBody (Cover d)) (sym w.is) (wire_formed (literal_name g w.root.0) w.output.name)
+  cells_by c h = grind arith
 
   plain : IsPlain n
   plain = record {
@@ -342,12 +316,10 @@ module _ (flat : FlatValue) (params : List Param) (t : TemplateValue) (bits : Li
 
   output_driven : (os : List OutPort) (lits : List Lit) → length lits ≡ length os → ((lit : Lit) → In lits lit → LitIs lit.0) → ((name : List ℕ) → In (map (λ (c : CoverValue). c.output) (wires g os lits)) name → In wire_names name)
       → (name : List ℕ) → In (map (λ (o : OutPort). o.name) os) name → In driven name
-  output_driven [] lits same roots within name i = elim i [ ]
-  output_driven (o ∷ os) [] same roots within name i = absurd (omega (arith, same))
   output_driven (o ∷ os) (lit ∷ lits) same roots within name (inl e) =
       output_by o lit os lits (bytes_eq o.name (literal_name g lit.0)) refl (roots lit (inl refl)) within name e
-  output_driven (o ∷ os) (lit ∷ lits) same roots within name (inr i) =
-      output_driven os lits (omega (arith, same)) (λ k j. roots k (inr j)) (λ k j. within k (later_wire g o lit os lits k j)) name i
+  output_driven (o ∷ os) (lit ∷ lits) same roots within name (inr i) = grind (arith, later_wire, g, output_driven os lits (omega (arith, same)) (λ k j. roots k (inr j)) (λ k j. within k (later_wire g o lit os lits k j)) name i)
+  output_driven os lits same roots within name i = search rules
 
   pub orderly : IsOrderly n
   orderly = record {

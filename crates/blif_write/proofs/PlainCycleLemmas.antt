@@ -1,7 +1,7 @@
 -- A netlist without hierarchy as a library: its one instance, with its latches and covers, and a clock cycle over the names of this instance.
-use Rattle.blif_write.proofs.Common.{◌≡◌, ℕ, zero, suc, ◌+◌, ◌<◌, Bool, true, false, cond, ◌||◌, IsTrue, List, [], ◌∷◌, ◌++◌, length, map, slice_get, slice_index_or, Option, Some, refl, sym, ap, subst, ◌∙◌, arith, append-nil, option_and_then, eq-eqb, ne_eqb, slice_get_within, In, In-get, in_has, Command, LatchValue, CoverValue, cover_value, SubcktValue, ModelValue, LibraryValue, Path, body_at, subckts_of, has_name, is_input, CoverAt, LatchAt, IsMainInput, input_net, Drives, main_input, latch_output, cover_output, from_inside, from_outside, IsClock, listed, controls, Place, latch_at, latch_in, is_latch, own_places, FlatOrder, FlatUnder, flat, HasOneCycle, none, more, PlainNetlist, all_inputs, read_control, read_latch, latch_commands, cover_commands, model_of, library_of, ◌⊎◌, None, inl, inr, option_map, none-some, same_Some, slice_get-map, In-map, place_in, get_left, get_right, Body, model_named, placed, model_at, ConnectionAt, Cover, Latch, cases_Bool, TellsClocks, Subckt}
+use Rattle.blif_write.proofs.Common.{◌≡◌, ℕ, zero, suc, ◌+◌, ◌<◌, Bool, true, false, cond, ◌||◌, IsTrue, List, [], ◌∷◌, ◌++◌, length, map, slice_get, slice_index_or, Option, Some, refl, sym, ap, subst, ◌∙◌, arith, append-nil, option_and_then, ne_eqb, slice_get_within, In, In-get, in_has, Command, LatchValue, CoverValue, cover_value, SubcktValue, ModelValue, LibraryValue, Path, body_at, subckts_of, has_name, is_input, CoverAt, LatchAt, IsMainInput, input_net, Drives, main_input, latch_output, cover_output, from_inside, from_outside, IsClock, listed, controls, Place, latch_at, is_latch, own_places, FlatOrder, FlatUnder, flat, HasOneCycle, none, PlainNetlist, all_inputs, read_control, read_latch, latch_commands, cover_commands, model_of, library_of, None, inl, inr, option_map, none-some, same_Some, slice_get-map, In-map, place_in, get_left, get_right, Body, model_named, placed, model_at, ConnectionAt, Cover, Latch, cases_Bool, TellsClocks, Subckt, rules}
 use Rattle.netlist.specs.Cycle.{Fits}
-use Rattle.netlist.specs.Runs.{AreLatches, init_state, inits_of, state_of, next_state, next_states, IsCycle, HasACycle, HasARun}
+use Rattle.netlist.specs.Runs.{AreLatches, inits_of, state_of, next_states, IsCycle, HasACycle, HasARun}
 use Rattle.netlist.proofs.RunLemmas.{cycle_there, run_there}
 use Rattle.netlist.specs.declared.subckt.Pair.{Pair}
 
@@ -21,8 +21,7 @@ pub none_placed : (n : PlainNetlist) (k : ℕ) → placed (library_of n) k (mode
 none_placed n k = ap (λ (t : List SubcktValue). option_and_then (λ (s : SubcktValue). model_named (library_of n).models s.model) (slice_get t k)) (no_subckts n)
 
 none_below : (n : PlainNetlist) (k : ℕ) (outer : Option ModelValue) → ((m : ModelValue) → outer ≡ Some m → m ≡ model_of n) → option_and_then (placed (library_of n) k) outer ≡ None
-none_below n k None h = refl
-none_below n k (Some m) h = ap (placed (library_of n) k) (h m refl) ∙ none_placed n k
+none_below n k outer h = search (rules, none_placed)
 
 pub only_top : (n : PlainNetlist) (path : Path) (m : ModelValue) → model_at (library_of n) path ≡ Some m → (path ≡ []) × (m ≡ model_of n)
 only_top n [] m e = (refl, sym (same_Some (model_of n) m e))
@@ -57,21 +56,17 @@ cover_later c cs i (Cover d) is = (suc is.0, omega (arith, is.1), is.2)
 cover_later c cs i body is = is
 
 latch_later : (l : LatchValue) (ls : List LatchValue) (cs : List CoverValue) (i : ℕ) (body : Body) → IsBody ls cs i body → IsBody (l ∷ ls) cs (suc i) body
-latch_later l ls cs i (Cover d) is = (is.0, omega (arith, is.1), is.2)
-latch_later l ls cs i body is = is
+latch_later l ls cs i body is = search rules
 
 pub body_got : (ls : List LatchValue) (cs : List CoverValue) (i : ℕ) (body : Body) → slice_get (map (λ (l : LatchValue). Latch (read_latch l)) ls ++ map (λ (c : CoverValue). Cover c) cs) i ≡ Some body → IsBody ls cs i body
 body_got [] [] i body e = absurd (none-some body e)
-body_got [] (c ∷ cs) zero body e = subst (IsBody [] (c ∷ cs) 0) (same_Some (Cover c) body e) (0, refl, refl)
 body_got [] (c ∷ cs) (suc i) body e = cover_later c cs i body (body_got [] cs i body e)
-body_got (l ∷ ls) cs zero body e = subst (IsBody (l ∷ ls) cs 0) (same_Some (Latch (read_latch l)) body e) (l, refl, refl)
 body_got (l ∷ ls) cs (suc i) body e = latch_later l ls cs i body (body_got ls cs i body e)
+body_got ls cs zero body e = grind arith
 
 -- a command of an instance is one of the top's
 body_there : (n : PlainNetlist) (path : Path) (i : ℕ) (m : ModelValue) (body : Body) → model_at (library_of n) path ≡ Some m → body_at m i ≡ Some body → (path ≡ []) × (slice_get (bodies_of n) i ≡ Some body)
-body_there n path i m body at is =
-    let top : (path ≡ []) × (m ≡ model_of n) = only_top n path m at in
-    (top.0, sym (body_is n i) ∙ ap (λ (o : ModelValue). body_at o i) (sym top.1) ∙ is)
+body_there n path i m body at is = grind (arith, only_top, body_is)
 
 pub cover_body : (n : PlainNetlist) (path : Path) (i : ℕ) (c : CoverValue) → CoverAt (library_of n) path i c → (path ≡ []) × (slice_get (bodies_of n) i ≡ Some (Cover c))
 cover_body n path i c at = body_there n path i at.model (Cover c) at.at at.is
@@ -100,14 +95,11 @@ cover_at_top n c i =
 
 pub latch_at_top : (n : PlainNetlist) (i : ℕ) (l : LatchValue) → slice_get n.latches i ≡ Some l → LatchAt (library_of n) [] i (read_latch l)
 latch_at_top n i l e =
-    let there : slice_get (map (λ (k : LatchValue). Latch (read_latch k)) n.latches) i ≡ Some (Latch (read_latch l)) =
-    slice_get-map (λ (k : LatchValue). Latch (read_latch k)) n.latches i ∙ ap (option_map (λ (k : LatchValue). Latch (read_latch k))) e in
+    let there = slice_get-map (λ (k : LatchValue). Latch (read_latch k)) n.latches i ∙ ap (option_map (λ (k : LatchValue). Latch (read_latch k))) e in
     record { model = model_of n; at = refl; is = body_is n i ∙ get_left (map (λ (k : LatchValue). Latch (read_latch k)) n.latches) (map (λ (d : CoverValue). Cover d) n.covers) i (Latch (read_latch l)) there }
 
 pub no_connection : (n : PlainNetlist) (path : Path) (k : ℕ) (pair : Pair) → ConnectionAt (library_of n) path k pair → ⊥
-no_connection n path k pair at =
-    let top : (path ≡ []) × (at.model ≡ model_of n) = only_top n path at.model at.at in
-    none-some at.subckt (sym (ap (λ (t : List SubcktValue). slice_get t k) (ap (λ (m : ModelValue). subckts_of m.commands) top.1 ∙ no_subckts n)) ∙ at.is)
+no_connection n path k pair at = grind (arith, only_top, none-some, no_subckts)
 
 -- a name is the control of a latch
 pub record IsControlName (n : PlainNetlist) (name : List ℕ) : Type 0 where
@@ -146,33 +138,23 @@ pub places_are : (n : PlainNetlist) → own_places is_latch [] 0 (model_of n).co
 places_are n = latch_places 0 (3 + length n.inputs) n.latches (cover_commands (3 + length n.inputs + length n.latches) n.covers) (λ k. no_places k (3 + length n.inputs + length n.latches) n.covers)
 
 none_under : (library : LibraryValue) (path : Path) (k : ℕ) (subckts : List SubcktValue) (inner : List Place) → subckts ≡ [] → FlatUnder library is_latch path k subckts inner → inner ≡ []
-none_under library path k subckts inner e (none s p) = p
-none_under library path k subckts inner e (more s rest child these others f a b c d) = let t : s ∷ rest ≡ [] = sym f ∙ e in absurd (let l : length (s ∷ rest) ≡ length {A = SubcktValue} [] = ap length t in omega (arith, l))
+none_under library path k subckts inner e h = search rules
 
 order_is : (n : PlainNetlist) (places : List Place) → FlatOrder (library_of n) is_latch [] (model_of n) places → places ≡ places_from 0 (length n.latches)
-order_is n places (flat inner under e) =
-    e ∙ ap (λ (t : List Place). own_places is_latch [] 0 (model_of n).commands ++ t) (none_under (library_of n) [] 0 (subckts_of (model_of n).commands) inner (no_subckts n) under)
-    ∙ append-nil (own_places is_latch [] 0 (model_of n).commands) ∙ places_are n
+order_is n places (flat inner under e) = grind (arith, none_under, no_subckts, append-nil, places_are)
 
 -- the latches of the library, in flat order
 pub latches_are_places : (n : PlainNetlist) (main : ModelValue) (places : List Place) → AreLatches (library_of n) main places → (main ≡ model_of n) × (places ≡ places_from 0 (length n.latches))
-latches_are_places n main places h =
-    let top : main ≡ model_of n = (only_top n [] main h.at).1 in
-    (top, order_is n places (subst (λ (m : ModelValue). FlatOrder (library_of n) is_latch [] m places) top h.order))
+latches_are_places n main places h = grind (arith, only_top, order_is)
 
 pub places_are_latches : (n : PlainNetlist) → AreLatches (library_of n) (model_of n) (places_from 0 (length n.latches))
 places_are_latches n = record { at = refl; order = flat [] (none (no_subckts n) refl) (sym (append-nil (own_places is_latch [] 0 (model_of n).commands) ∙ places_are n)) }
 
 -- the state of the latch at a place
 state_there : (i j count : ℕ) (s : List Bool) → j < count → state_of (places_from i count) s [] (i + j) ≡ slice_index_or s j false
-state_there i j zero s h = absurd (omega (arith, h))
-state_there i j (suc count) [] h = refl
-state_there i zero (suc count) (b ∷ s) h =
-    ap (λ (t : Bool). cond t b (state_of (places_from (suc i) count) s [] (i + 0))) (eq-eqb (i + 0) i (omega arith))
-state_there i (suc j) (suc count) (b ∷ s) h =
-    let e : i + suc j ≡ suc i + j = omega arith in
-    ap (λ (t : Bool). cond t b (state_of (places_from (suc i) count) s [] (i + suc j))) (ne_eqb (i + suc j) i (λ w. omega (arith, w)))
-    ∙ ap (λ (k : ℕ). state_of (places_from (suc i) count) s [] k) e ∙ state_there (suc i) j count s (omega (arith, h))
+state_there i zero (suc count) (b ∷ s) h = grind arith
+state_there i (suc j) (suc count) (b ∷ s) h = grind (arith, cond, places_from, ne_eqb, state_there (suc i) j count s (omega (arith, h)))
+state_there i j count s h = search rules
 
 -- a main input, and a clock
 pub input_is : (n : PlainNetlist) (name : List ℕ) → In (all_inputs n) name → IsTrue (is_input (model_of n) name)
@@ -207,28 +189,22 @@ length_places i zero = refl
 length_places i (suc count) = ap suc (length_places (suc i) count)
 
 latch_found : (n : PlainNetlist) (i : ℕ) (l : LatchValue) → LatchAt (library_of n) [] i (read_latch l) → latch_at (library_of n) (record { path = []; command = i }) ≡ Some (read_latch l)
-latch_found n i l at =
-    let top : at.model ≡ model_of n = (only_top n [] at.model at.at).1 in
-    ap (option_and_then latch_in) (ap (λ (m : ModelValue). body_at m i) (sym top) ∙ at.is)
+latch_found n i l at = grind arith
 
 next_there : (n : PlainNetlist) (value : Path → List ℕ → Bool) (ls : List LatchValue) (i : ℕ) → ((j : ℕ) (l : LatchValue) → slice_get ls j ≡ Some l → slice_get n.latches (i + j) ≡ Some l)
     → next_states (library_of n) value (places_from i (length ls)) ≡ map (λ (l : LatchValue). value [] l.input) ls
 next_there n value [] i h = refl
 next_there n value (l ∷ ls) i h =
-    let e : i + 0 ≡ i = omega arith in
-    let at : LatchAt (library_of n) [] i (read_latch l) = latch_at_top n i l (subst (λ (k : ℕ). slice_get n.latches k ≡ Some l) e (h 0 l refl)) in
+    let at : LatchAt (library_of n) [] i (read_latch l) = latch_at_top n i l (subst (λ (k : ℕ). slice_get n.latches k ≡ Some l) (omega arith) (h 0 l refl)) in
     let found : latch_at (library_of n) (record { path = []; command = i }) ≡ Some (read_latch l) = latch_found n i l at in
-    ap (λ (o : Option LatchValue). next_state (value []) o ∷ next_states (library_of n) value (places_from (suc i) (length ls))) found
-    ∙ ap (λ (t : List Bool). value [] l.input ∷ t) (next_there n value ls (suc i) (λ j k f. let g : i + suc j ≡ suc i + j = omega arith in subst (λ (m : ℕ). slice_get n.latches m ≡ Some k) g (h (suc j) k f)))
+    grind (arith, places_from, next_there n value ls (suc i) (λ j k f. let g : i + suc j ≡ suc i + j = omega arith in subst (λ (m : ℕ). slice_get n.latches m ≡ Some k) g (h (suc j) k f)))
 
 inits_there : (n : PlainNetlist) (ls : List LatchValue) (i : ℕ) → ((j : ℕ) (l : LatchValue) → slice_get ls j ≡ Some l → slice_get n.latches (i + j) ≡ Some l)
     → inits_of (library_of n) (places_from i (length ls)) ≡ map (λ (l : LatchValue). l.init) ls
 inits_there n [] i h = refl
 inits_there n (l ∷ ls) i h =
-    let e : i + 0 ≡ i = omega arith in
-    let at : LatchAt (library_of n) [] i (read_latch l) = latch_at_top n i l (subst (λ (k : ℕ). slice_get n.latches k ≡ Some l) e (h 0 l refl)) in
-    ap (λ (o : Option LatchValue). init_state o ∷ inits_of (library_of n) (places_from (suc i) (length ls))) (latch_found n i l at)
-    ∙ ap (λ (t : List Bool). l.init ∷ t) (inits_there n ls (suc i) (λ j k f. let g : i + suc j ≡ suc i + j = omega arith in subst (λ (m : ℕ). slice_get n.latches m ≡ Some k) g (h (suc j) k f)))
+    let at : LatchAt (library_of n) [] i (read_latch l) = latch_at_top n i l (subst (λ (k : ℕ). slice_get n.latches k ≡ Some l) (omega arith) (h 0 l refl)) in
+    grind (arith, places_from, latch_found, inits_there n ls (suc i) (λ j k f. let g : i + suc j ≡ suc i + j = omega arith in subst (λ (m : ℕ). slice_get n.latches m ≡ Some k) g (h (suc j) k f)))
 
 -- the latches' inits
 pub plain_inits : (n : PlainNetlist) (main : ModelValue) (latches : List Place) → AreLatches (library_of n) main latches → inits_of (library_of n) latches ≡ map (λ (l : LatchValue). l.init) n.latches

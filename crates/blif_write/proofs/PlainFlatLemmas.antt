@@ -1,5 +1,5 @@
 -- A netlist without hierarchy has a flat circuit. Its covers, of which each reads covers of lower ranks alone, have a postorder.
-use Rattle.blif_write.proofs.Common.{◌≡◌, ◌⊎◌, ℕ, zero, suc, ◌+◌, ◌<◌, Bool, true, false, not, List, [], ◌∷◌, ◌++◌, length, map, filter, reverse, slice_get, bytes_eq, Option, Some, None, is_some, refl, sym, ap, subst, ◌∙◌, inl, inr, arith, append-nil, option_map, option_map_or, length-map, reverse-reverse, none-some, same_Some, slice_get-map, slice_get_within, bytes_eq-Decides, PostsAll, In, In-get, In-append, in_filter, place_in, get_right, Body, Subckt, Command, FlatLatch, OutPort, LatchValue, CoverValue, FlatValue, Places, IsNumbered, an_input, a_latch, a_cover, IsNetOf, AreNetsOf, no_nets, more_nets, TellsClocks, IsControl, some_latch, no_latch, with_control_net, cover_numbers, inputs_at, most_underscores, IsFlatCover, IsFlatLatch, IsFlat, CoverAt, LatchAt, Net, input_net, latch_net, cover_net, Drives, main_input, latch_output, cover_output, IsClock, controls, Place, FlatOrder, flat, is_cover, own_places, Cover, Latch, none, PlainNetlist, all_inputs, read_control, read_latch, latch_commands, cover_commands, model_of, library_of, ◌≤◌, Posts, skips, posts, in_or}
+use Rattle.blif_write.proofs.Common.{◌≡◌, ◌⊎◌, ℕ, zero, suc, ◌+◌, ◌<◌, Bool, true, false, not, List, [], ◌∷◌, ◌++◌, length, map, filter, reverse, slice_get, bytes_eq, Option, Some, None, is_some, refl, sym, ap, subst, ◌∙◌, inl, inr, arith, append-nil, option_map, option_map_or, length-map, reverse-reverse, none-some, same_Some, slice_get-map, slice_get_within, bytes_eq-Decides, PostsAll, In, In-get, In-append, in_filter, place_in, get_right, Body, Subckt, Command, FlatLatch, OutPort, LatchValue, CoverValue, FlatValue, Places, IsNumbered, an_input, a_latch, a_cover, IsNetOf, AreNetsOf, no_nets, more_nets, TellsClocks, IsControl, some_latch, no_latch, with_control_net, cover_numbers, inputs_at, most_underscores, IsFlatCover, IsFlatLatch, IsFlat, CoverAt, LatchAt, Net, input_net, latch_net, cover_net, Drives, main_input, latch_output, cover_output, IsClock, controls, Place, FlatOrder, flat, is_cover, own_places, Cover, Latch, none, PlainNetlist, all_inputs, read_control, read_latch, latch_commands, cover_commands, model_of, library_of, ◌≤◌, Posts, skips, posts, in_or, rules}
 use Rattle.netlist.specs.declared.flat.Net.{Net as FlatNet}
 use Rattle.netlist.specs.FlatCoverValue.{FlatCoverValue}
 use Rattle.blif_write.proofs.PlainCycleLemmas.{bodies_of, body_got, body_is, no_subckts, cover_body, latch_there, latch_at_top, IsControlName, places_from, places_are_latches, length_places, main_there, clock_there, not_clock}
@@ -46,10 +46,7 @@ top_at i = record { path = []; command = i }
 place_is : (i count k : ℕ) (p : Place) → slice_get (places_from i count) k ≡ Some p → (k < count) × (p ≡ top_at (i + k))
 place_is i zero k p e = absurd (none-some p e)
 place_is i (suc count) zero p e = let here : i ≡ i + 0 = omega arith in (omega arith, sym (same_Some (top_at i) p e) ∙ ap top_at here)
-place_is i (suc count) (suc k) p e =
-    let rest : (k < count) × (p ≡ top_at (suc i + k)) = place_is (suc i) count k p e in
-    let here : suc i + k ≡ i + suc k = omega arith in
-    (omega (arith, rest.0), rest.1 ∙ ap top_at here)
+place_is i (suc count) (suc k) p e = grind (arith, top_at, place_is (suc i) count k p e)
 
 place_at : (i count k : ℕ) → k < count → slice_get (places_from i count) k ≡ Some (top_at (i + k))
 place_at i zero k low = absurd (omega (arith, low))
@@ -66,9 +63,7 @@ cover_places i line [] = refl
 cover_places i line (c ∷ cs) = ap (λ (t : List Place). top_at i ∷ t) (cover_places (suc i) (suc line + length c.rows) cs)
 
 covers_are : (n : PlainNetlist) → own_places is_cover [] 0 (model_of n).commands ≡ places_from (length n.latches) (length n.covers)
-covers_are n =
-    after_latches 0 (length n.latches) (3 + length n.inputs) n.latches (cover_commands (3 + length n.inputs + length n.latches) n.covers) (omega arith)
-    ∙ cover_places (length n.latches) (3 + length n.inputs + length n.latches) n.covers
+covers_are n = grind (arith, after_latches, cover_places)
 
 places_are_covers : (n : PlainNetlist) → FlatOrder (library_of n) is_cover [] (model_of n) (places_from (length n.latches) (length n.covers))
 places_are_covers n = flat [] (none (no_subckts n) refl) (sym (append-nil (own_places is_cover [] 0 (model_of n).commands) ∙ covers_are n))
@@ -85,13 +80,11 @@ cover_at n j c e =
 cover_of : (n : PlainNetlist) (j : ℕ) (c : CoverValue) → CoverAt (library_of n) [] (length n.latches + j) c → slice_get n.covers j ≡ Some c
 cover_of n j c at =
     let behind : (k : ℕ) × (length n.latches + j ≡ length n.latches + k) × (slice_get n.covers k ≡ Some c) = body_got n.latches n.covers (length n.latches + j) (Cover c) (cover_body n [] (length n.latches + j) c at).1 in
-    let same : j ≡ behind.0 = omega (arith, behind.1) in
-    ap (slice_get n.covers) same ∙ behind.2
+    ap (slice_get n.covers) (omega (arith, behind.1)) ∙ behind.2
 
 -- what is made for each item of a list
 first_made : {B : Type 0} (P : ℕ → B → Type 0) (first : B) (rest : List B) → P 0 first → ((k : ℕ) (b : B) → slice_get rest k ≡ Some b → P (suc k) b) → (k : ℕ) (b : B) → slice_get (first ∷ rest) k ≡ Some b → P k b
-first_made P first rest p ps zero b e = subst (P 0) (same_Some first b e) p
-first_made P first rest p ps (suc k) b e = ps k b e
+first_made P first rest p ps b' b e = grind arith
 
 each_made : {A B : Type 0} (P : ℕ → B → Type 0) (xs : List A) → ((k : ℕ) (x : A) → slice_get xs k ≡ Some x → (b : B) × P k b) → (bs : List B) × (length bs ≡ length xs) × ((k : ℕ) (b : B) → slice_get bs k ≡ Some b → P k b)
 each_made P [] make = ([], refl, λ k b e. absurd (none-some b e))
@@ -177,16 +170,13 @@ module _ (n : PlainNetlist) (h : IsOrderly n) (test : List ℕ → Bool) (tells 
 
   -- the cover of a number
   numbered_cover : (net : Net) (f : FlatNet) → IsNumbered places net f → (j : ℕ) → f ≡ number.Cover j → (p : Place) × (net ≡ cover_net p.path p.command) × (slice_get places.covers j ≡ Some p)
-  numbered_cover net f (an_input name k e s q) j is = absurd (let wrong : ⊥ = cc in wrong)
-  numbered_cover net f (a_latch p k e s q) j is = absurd (let wrong : ⊥ = cc in wrong)
-  numbered_cover net f (a_cover p k e s q) j is = let same : j ≡ k = cc in (p, e, ap (slice_get places.covers) same ∙ s)
+  numbered_cover net f h j is = search rules
 
   cover_read : (name : List ℕ) (j : ℕ) → IsNetOf (library_of n) places [] name (number.Cover j) → (d : CoverValue) × (slice_get n.covers j ≡ Some d) × (name ≡ d.output)
   cover_read name j is =
       let at : (p : Place) × (is.net ≡ cover_net p.path p.command) × (slice_get places.covers j ≡ Some p) = numbered_cover is.net (number.Cover j) is.numbered j refl in
-      let here : (j < length n.covers) × (at.0 ≡ top_at (length n.latches + j)) = place_is (length n.latches) (length n.covers) j at.0 at.2 in
       let driver : (d : CoverValue) × CoverAt (library_of n) at.0.path at.0.command d × (name ≡ d.output) = cover_drives n [] name at.0.path at.0.command (subst (λ (net : Net). Drives (library_of n) [] name net) at.1 is.drives) in
-      (driver.0, cover_of n j driver.0 (subst (λ (p : Place). CoverAt (library_of n) p.path p.command driver.0) here.1 driver.1), driver.2)
+      (driver.0, cover_of n j driver.0 (subst (λ (p : Place). CoverAt (library_of n) p.path p.command driver.0) (place_is (length n.latches) (length n.covers) j at.0 at.2).1 driver.1), driver.2)
 
   read_among : (names : List (List ℕ)) (nets : List FlatNet) → AreNetsOf (library_of n) places [] names nets → (j : ℕ) → In (cover_numbers nets) j → (name : List ℕ) × In names name × IsNetOf (library_of n) places [] name (number.Cover j)
   read_among names nets no_nets j i = elim i [ ]
@@ -214,11 +204,9 @@ module _ (n : PlainNetlist) (h : IsOrderly n) (test : List ℕ → Bool) (tells 
       let upper : slice_get n.covers k ≡ Some is.cover = cover_of n k is.cover is.is in
       let read : (name : List ℕ) × In is.cover.inputs name × IsNetOf (library_of n) places [] name (number.Cover j) = read_among is.cover.inputs f.inputs is.inputs j i in
       let lower : (d : CoverValue) × (slice_get n.covers j ≡ Some d) × (read.0 ≡ d.output) = cover_read read.0 j read.2 in
-      let falls : h.rank lower.0.output < h.rank is.cover.output =
-      h.falls is.cover lower.0 (In-get n.covers k is.cover upper) (In-get n.covers j lower.0 lower.1) (subst (In is.cover.inputs) lower.2 read.1) in
       let high : rank_at k ≡ h.rank is.cover.output = ap (λ (o : Option CoverValue). h.rank (option_map_or (λ (c : CoverValue). c.output) o [])) upper in
       let low : rank_at j ≡ h.rank lower.0.output = ap (λ (o : Option CoverValue). h.rank (option_map_or (λ (c : CoverValue). c.output) o [])) lower.1 in
-      omega (arith, falls, high, low)
+      omega (arith, h.falls is.cover lower.0 (In-get n.covers k is.cover upper) (In-get n.covers j lower.0 lower.1) (subst (In is.cover.inputs) lower.2 read.1), high, low)
 
   flat_with : (control : Option (List ℕ)) → IsControl (library_of n) control → (again : FlatValue) × IsFlat (library_of n) again
   flat_with control is_control =
@@ -251,13 +239,9 @@ module _ (n : PlainNetlist) (h : IsOrderly n) (test : List ℕ → Bool) (tells 
           covers_order = places_are_covers n;
           latches_order = (places_are_latches n).order;
           cover_count = covers_made.1 ∙ sym (length_places (length n.latches) (length n.covers));
-          covers = λ k p c at e.
-              let there : (k < length n.covers) × (p ≡ top_at (length n.latches + k)) = place_is (length n.latches) (length n.covers) k p at in
-              subst (λ (q : Place). IsFlatCover (library_of n) places q c) (sym there.1) (covers_made.2 k c e);
+          covers = λ k p c at e. grind (arith, top_at, place_is, places);
           latch_count = latches_made.1 ∙ sym (length_places 0 (length n.latches));
-          latches = λ k p l at e.
-              let same : 0 + k ≡ k = omega arith in
-              subst (λ (q : Place). IsFlatLatch (library_of n) places q l) (sym ((place_is 0 (length n.latches) k p at).1 ∙ ap top_at same)) (latches_made.2 k l e);
+          latches = λ k p l at e. grind (arith, places, place_is, top_at);
           output_names = port_names n.outputs outs.0 outs.1;
           outputs = subst (AreNetsOf (library_of n) places [] n.outputs) (sym (port_nets n.outputs outs.0 outs.1)) outs.1;
           order = subst (PostsAll next [] roots) (sym (reverse-reverse order.0)) order.1;
@@ -287,14 +271,11 @@ flat_by n h (inl (name, has)) =
     let control : IsControlName n name = record { latch = has.latch; in' = In-get n.latches has.place has.latch has.there; is = has.control } in
     let latch : LatchAt (library_of n) [] has.place (read_latch has.latch) = latch_at_top n has.place has.latch has.there in
     let drives : Drives (library_of n) [] name (input_net name) = main_input refl (main_there n name (h.controls name control)) refl in
-    let clock : IsClock (library_of n) name = controls [] has.place (read_latch has.latch) name latch has.control drives in
     flat_with n h (λ other. bytes_eq other name) (record {
-      yes = λ other e. subst (IsClock (library_of n)) (sym ((bytes_eq-Decides other name).0 e)) clock;
+      yes = λ other e. subst (IsClock (library_of n)) (sym ((bytes_eq-Decides other name).0 e)) (controls [] has.place (read_latch has.latch) name latch has.control drives);
       no = λ other e is.
-          let same : other ≡ name = h.one_control other name (clock_there n other is) control in
-          let t : bytes_eq other name ≡ true = (bytes_eq-Decides other name).1 same in
-          let wrong : ⊥ = cc in
-          wrong;
+          let t : bytes_eq other name ≡ true = (bytes_eq-Decides other name).1 (h.one_control other name (clock_there n other is) control) in
+          cc;
     }) (Some name) (some_latch [] has.place (read_latch has.latch) name name latch has.control drives refl)
 flat_by n h (inr free) =
     flat_with n h (λ other. false) (record {

@@ -1,5 +1,5 @@
 -- A netlist without hierarchy is sound where each name that is read has one driver, and its covers can be put in order.
-use Rattle.blif_write.proofs.Common.{◌≡◌, ℕ, zero, suc, ◌<◌, Bool, true, false, not, ◌||◌, ◌&&◌, IsTrue, List, [], ◌∷◌, ◌++◌, length, map, slice_get, Some, refl, sym, ap, subst, ◌∙◌, inl, inr, arith, option_map, none-some, same_Some, slice_get-map, In, In-get, In-append, In-left, place_in, from_map, AreOnce, has_in, Body, Subckt, Command, LatchValue, CoverValue, SubcktValue, ModelValue, IsWellFormedBody, IsWellFormedModel, IsWellFormed, Path, subckts_of, has_name, is_input, is_output, CoverAt, cover_net, Drives, main_input, latch_output, cover_output, from_inside, from_outside, Place, IsData, cover_data, latch_data, IsSound, and_parts, apart_once, right_apart, not_in_both, Cover, Latch, PlainNetlist, IsPlain, all_inputs, read_latch, model_of, library_of}
+use Rattle.blif_write.proofs.Common.{◌≡◌, ℕ, zero, suc, ◌<◌, Bool, true, false, ◌||◌, List, [], ◌∷◌, ◌++◌, length, map, slice_get, Some, refl, sym, ap, subst, ◌∙◌, inl, inr, arith, option_map, none-some, same_Some, slice_get-map, In, In-get, In-append, In-left, place_in, from_map, AreOnce, has_in, Body, Subckt, Command, LatchValue, CoverValue, SubcktValue, ModelValue, IsWellFormedBody, IsWellFormed, Path, subckts_of, CoverAt, cover_net, Drives, main_input, latch_output, cover_output, from_inside, from_outside, Place, IsData, cover_data, latch_data, IsSound, and_parts, apart_once, right_apart, not_in_both, Cover, Latch, PlainNetlist, IsPlain, all_inputs, read_latch, model_of, library_of, rules}
 use Rattle.netlist.specs.Loops.{ReadsCover, Depends, direct, through}
 use Rattle.netlist.specs.Drivers.{Driver, by_input, by_latch, by_cover, IsDriver, input, latch, cover, output, IsRead, cover_input, latch_input, latch_control, input_actual, model_output, Ends, ends, IsDriven}
 use Rattle.blif_write.proofs.DenoteLemmas.{ports_once}
@@ -41,8 +41,7 @@ data Drivers (n : PlainNetlist) (name : List ℕ) (driver : Driver) : Type 0 whe
   a_command : (i : ℕ) (body : Body) → slice_get (bodies_of n) i ≡ Some body → body_output body ≡ name → driver ≡ driver_of i body → Drivers n name driver
 
 or_false : (b : Bool) → (b || false) ≡ true → b ≡ true
-or_false true h = refl
-or_false false h = h
+or_false b h = search rules
 
 pub mapped : (bodies : List Body) (i : ℕ) (name : List ℕ) → slice_get (map body_output bodies) i ≡ Some name → (body : Body) × (slice_get bodies i ≡ Some body) × (body_output body ≡ name)
 mapped [] i name e = absurd (none-some name e)
@@ -50,9 +49,7 @@ mapped (body ∷ bodies) zero name e = (body, refl, same_Some (body_output body)
 mapped (body ∷ bodies) (suc i) name e = mapped bodies i name e
 
 driver_there : (n : PlainNetlist) (path : Path) (name : List ℕ) (driver : Driver) → IsDriver (library_of n) path name driver → Drivers n name driver
-driver_there n path name driver (input at t e) =
-    let top : at.model ≡ model_of n = (only_top n path at.model at.at).1 in
-    an_input (has_in (all_inputs n) name (or_false (has_name (all_inputs n) name) (subst (λ (m : ModelValue). IsTrue (is_input m name)) top t))) e
+driver_there n path name driver (input at t e) = grind (arith, only_top, has_in, or_false)
 driver_there n path name driver (latch i l at o e) = a_command i (Latch l) (latch_body n path i l at).1 (sym o) e
 driver_there n path name driver (cover i c at o e) = a_command i (Cover c) (cover_body n path i c at).1 (sym o) e
 driver_there n path name driver (output k pair at t o e) = absurd (no_connection n path k pair at)
@@ -63,8 +60,7 @@ one_driver n h name driver other (an_input i e) (a_command j b at o f) = absurd 
 one_driver n h name driver other (a_command j b at o f) (an_input i e) = absurd (not_in_both (all_inputs n) (command_outputs n) name h.once i (In-get (command_outputs n) j name (output_at n j name b at o)))
 one_driver n h name driver other (a_command i b at o f) (a_command j d there p e) =
     let same : i ≡ j = apart_once (command_outputs n) i j name (right_apart (all_inputs n) (command_outputs n) h.once) (output_at n i name b at o) (output_at n j name d there p) in
-    let body : b ≡ d = same_Some b d (sym at ∙ ap (slice_get (bodies_of n)) same ∙ there) in
-    f ∙ ap (driver_of i) body ∙ ap (λ (k : ℕ). driver_of k d) same ∙ sym e
+    f ∙ ap (driver_of i) (same_Some b d (sym at ∙ ap (slice_get (bodies_of n)) same ∙ there)) ∙ ap (λ (k : ℕ). driver_of k d) same ∙ sym e
 
 -- what is driven has a driver
 body_driver : (n : PlainNetlist) (i : ℕ) (name : List ℕ) (body : Body) → slice_get (bodies_of n) i ≡ Some body → body_output body ≡ name → (driver : Driver) × IsDriver (library_of n) [] name driver
@@ -84,10 +80,7 @@ has_driver n name i = elim (In-append (all_inputs n) (command_outputs n) name i)
 pub cover_drives : (n : PlainNetlist) (path : Path) (name : List ℕ) (q : Path) (i : ℕ) → Drives (library_of n) path name (cover_net q i) → (d : CoverValue) × CoverAt (library_of n) q i d × (name ≡ d.output)
 cover_drives n path name q i (main_input p m e) = absurd (let wrong : ⊥ = cc in wrong)
 cover_drives n path name q i (latch_output j l at o e) = absurd (let wrong : ⊥ = cc in wrong)
-cover_drives n path name q i (cover_output j c at o e) =
-    let p : q ≡ path = cc in
-    let k : i ≡ j = cc in
-    (c, subst (λ (r : Path). CoverAt (library_of n) r i c) (sym p) (subst (λ (m : ℕ). CoverAt (library_of n) path m c) (sym k) at), o)
+cover_drives n path name q i (cover_output j c at o e) = grind arith
 cover_drives n path name q i (from_inside k pair at t o d) = absurd (no_connection n path k pair at)
 cover_drives n path name q i (from_outside k outer pair at t p o d) = absurd (no_connection n outer k pair at)
 
@@ -118,15 +111,13 @@ depends_falls n h p q (direct r) = read_falls n h p q r
 depends_falls n h p q (through between r d) =
     let a : Falls n h p between = read_falls n h p between r in
     let b : Falls n h between q = depends_falls n h between q d in
-    let same : a.lower ≡ b.upper = same_cover n between.path between.command a.lower b.upper a.lower_at b.upper_at in
-    let lower : h.rank a.lower.output ≡ h.rank b.upper.output = ap (λ (c : CoverValue). h.rank c.output) same in
+    let lower : h.rank a.lower.output ≡ h.rank b.upper.output = ap (λ (c : CoverValue). h.rank c.output) (same_cover n between.path between.command a.lower b.upper a.lower_at b.upper_at) in
     record { upper = a.upper; lower = b.lower; upper_at = a.upper_at; lower_at = b.lower_at; falls = omega (arith, a.falls, b.falls, lower) }
 
 no_loop : (n : PlainNetlist) (h : IsOrderly n) (p : Place) → Depends (library_of n) p p → ⊥
 no_loop n h p d =
     let f : Falls n h p p = depends_falls n h p p d in
-    let same : h.rank f.upper.output ≡ h.rank f.lower.output = ap (λ (c : CoverValue). h.rank c.output) (same_cover n p.path p.command f.upper f.lower f.upper_at f.lower_at) in
-    omega (arith, f.falls, same)
+    omega (arith, f.falls, ap (λ (c : CoverValue). h.rank c.output) (same_cover n p.path p.command f.upper f.lower f.upper_at f.lower_at))
 
 -- well formed
 body_formed : (n : PlainNetlist) → IsPlain n → (body : Body) → In (bodies_of n) body → IsWellFormedBody body
@@ -141,11 +132,7 @@ command_formed n h command i =
     body_formed n h command.body (In-get (bodies_of n) at.0 command.body (sym (body_is n at.0) ∙ ap (option_map (λ (c : Command). c.body)) at.1))
 
 plain_formed : (n : PlainNetlist) → IsPlain n → IsWellFormed (library_of n)
-plain_formed n h = record {
-  some = omega arith;
-  once = (λ i. i, tt);
-  each = λ m i. elim i [ inl e ↦ subst IsWellFormedModel (sym e) (record { ports = ports_once n h; commands = command_formed n h }) | inr j ↦ elim j [ ] ];
-}
+plain_formed n h = search (rules, ports_once, command_formed)
 
 -- drivers
 no_child : (k : ℕ) (path : Path) → k ∷ path ≡ [] → ⊥
@@ -160,9 +147,7 @@ read_there n h path name (latch_control i l at e) =
     let t : (path ≡ []) × IsControlName n name = control_there n path i l name at e in
     (t.0, In-left (all_inputs n) (command_outputs n) name (h.controls name t.1))
 read_there n h path name (input_actual k pair at t e) = absurd (no_connection n path k pair at)
-read_there n h path name (model_output m at o) =
-    let top : (path ≡ []) × (m ≡ model_of n) = only_top n path m at in
-    (top.0, (h.outputs name (has_in n.outputs name (and_parts (not (is_input (model_of n) name)) (has_name n.outputs name) (subst (λ (k : ModelValue). IsTrue (is_output k name)) top.1 o)).1)).0)
+read_there n h path name (model_output m at o) = grind (arith, only_top, has_in, and_parts)
 
 plain_driven : (n : PlainNetlist) → IsOrderly n → IsDriven (library_of n)
 plain_driven n h = record {

@@ -1,5 +1,5 @@
 -- The flat circuit of a sound library has ports as they are written.
-use Rattle.blif_write.proofs.Common.{◌≡◌, ◌⊎◌, ℕ, ◌<◌, ◌≤◌, true, false, not, List, ◌++◌, length, slice_get, Option, Some, is_some, refl, sym, ap, subst, ◌∙◌, inl, inr, arith, none-some, same_Some, slice_get_within, In, at_within, place_in, In-get, In-left, In-right, In-map, In-filter, IsClean, AreOnce, ModelValue, LibraryValue, input_ports, output_ports, clock_ports, HasCleanNames, LatchValue, FlatLatch, OutPort, FlatValue, underscores, IsControl, some_latch, no_latch, IsFlatLatch, IsFlat, is_latch, Path, has_name, IsMainInput, Net, input_net, Drives, main_input, latch_output, cover_output, from_inside, from_outside, IsClock, controls, IsSound, has_in, or_cases, not-true, filtered_apart, Latch, few_underscores, IsPortName, HasPorts}
+use Rattle.blif_write.proofs.Common.{◌≡◌, ◌⊎◌, ℕ, ◌<◌, ◌≤◌, true, false, not, List, ◌++◌, length, slice_get, Option, Some, is_some, refl, sym, ap, subst, ◌∙◌, inl, inr, arith, none-some, same_Some, slice_get_within, In, at_within, place_in, In-get, In-left, In-right, In-map, In-filter, IsClean, AreOnce, ModelValue, LibraryValue, input_ports, output_ports, clock_ports, HasCleanNames, LatchValue, FlatLatch, OutPort, FlatValue, underscores, IsControl, some_latch, no_latch, IsFlatLatch, IsFlat, Path, has_name, IsMainInput, Net, input_net, Drives, main_input, latch_output, cover_output, from_inside, from_outside, IsClock, controls, IsSound, has_in, or_cases, not-true, filtered_apart, few_underscores, IsPortName, HasPorts}
 use Rattle.netlist.proofs.OrderLemmas.{flat_all}
 use Rattle.netlist.proofs.PlaceLemmas.{place_of, one_latch}
 
@@ -52,8 +52,7 @@ module _ (library : LibraryValue) (flat : FlatValue) (sound : IsSound library) (
   -- and a latch has it
   clocked_by : (control : Option (List ℕ)) (name : List ℕ) → IsControl library control → control ≡ Some name → (l : FlatLatch) × In flat.latches l × (l.clocked ≡ true)
   clocked_by control name (some_latch path i l own net at is d e) same =
-      let p : (k : ℕ) × (slice_get fields.at.latches k ≡ Some (place_of path i)) =
-      place_in fields.at.latches (place_of path i) (flat_all library is_latch main fields.at.latches fields.is_main fields.latches_order path at.model i (Latch l) at.at at.is refl) in
+      let p : (k : ℕ) × (slice_get fields.at.latches k ≡ Some (place_of path i)) = grind (arith, place_in, place_of, flat_all, main) in
       let small : p.0 < length flat.latches = let s : p.0 < length fields.at.latches = slice_get_within fields.at.latches p.0 (place_of path i) p.1 in omega (arith, s, fields.latch_count) in
       let f : (k : FlatLatch) × (slice_get flat.latches p.0 ≡ Some k) = at_within flat.latches p.0 small in
       let written : IsFlatLatch library fields.at (place_of path i) f.0 = fields.latches p.0 (place_of path i) f.0 p.1 f.1 in

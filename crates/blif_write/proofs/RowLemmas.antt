@@ -1,5 +1,5 @@
 -- The bytes of the rows of a LUT, as its loops add them, and their value, which is that of the bit that the values of its leaves ask for.
-use Rattle.blif_write.proofs.Common.{◌≡◌, ℕ, zero, suc, ◌+◌, ◌-◌, ◌<◌, ◌^◌, Bool, true, false, cond, List, [], ◌∷◌, ◌++◌, length, map, replicate, get_or, refl, sym, ap, ◌∙◌, arith, append_assoc, length-append, flat_map, filter, range_with_len, map-append, flat_map_single, flat_map-map, length-map-range_with_len, digit, Cell, One, Any, RowValue, cell_character, map-map, row_line, line_text, digit_cell, digit_cells, chosen_cells, fixed_rows, tunable_rows, ◌⊎◌, ◌*◌, ◌/◌, ◌%◌, ◌≤◌, eqb, ◌&&◌, ◌||◌, slice_index_or, inl, inr, and_parts, and_from, eqb-true, In, bit_value, number, number-small, lowest, half, In-map, In-filter, from_map, in_filter, in_range, of_range, allows, matches, some_row, false_from_ne_true, eqb-false}
+use Rattle.blif_write.proofs.Common.{◌≡◌, ℕ, zero, suc, ◌+◌, ◌-◌, ◌<◌, ◌^◌, Bool, true, false, cond, List, [], ◌∷◌, ◌++◌, length, map, replicate, get_or, refl, sym, ap, ◌∙◌, arith, append_assoc, length-append, flat_map, filter, range_with_len, map-append, flat_map_single, flat_map-map, length-map-range_with_len, digit, Cell, One, Any, RowValue, cell_character, map-map, row_line, line_text, digit_cell, digit_cells, chosen_cells, fixed_rows, tunable_rows, ◌*◌, ◌/◌, ◌%◌, eqb, ◌&&◌, ◌||◌, slice_index_or, inl, inr, and_parts, and_from, In, bit_value, number, number-small, lowest, half, In-map, In-filter, from_map, in_filter, in_range, of_range, allows, matches, some_row, false_from_ne_true, rules}
 use Rattle.std.proofs.Math.Nat.{pow-succ', div-div-eq-div-mul}
 use Rattle.std.proofs.Math.Bool.{or-true, and-true}
 
@@ -8,8 +8,7 @@ abbrev pub digit_text : ℕ → ℕ → List ℕ
 digit_text v place = cell_character (digit_cell (digit v place)) ∷ []
 
 pub digits_are : (leaves v : ℕ) → flat_map (digit_text v) (range_with_len 0 leaves) ≡ map cell_character (digit_cells leaves v)
-digits_are leaves v =
-    flat_map_single (λ (place : ℕ). cell_character (digit_cell (digit v place))) (range_with_len 0 leaves) ∙ sym (map-map cell_character (λ (place : ℕ). digit_cell (digit v place)) (range_with_len 0 leaves))
+digits_are leaves v = grind (arith, flat_map_single, map-map)
 
 -- the rows of a table whose bits are fixed
 abbrev pub fixed_row_text : List Bool → ℕ → ℕ → ℕ → List ℕ
@@ -25,34 +24,25 @@ filtered {X = X} f test (x ∷ xs) = one_filtered f x (test x) (filter test xs) 
 
 pub fixed_rows_are : (config : List Bool) (base leaves : ℕ)
     → flat_map (fixed_row_text config base leaves) (range_with_len 0 (2 ^ leaves)) ≡ flat_map line_text (map (λ (row : RowValue). row_line row.cells) (fixed_rows config base leaves))
-fixed_rows_are config base leaves =
-    let row : ℕ → RowValue = λ (v : ℕ). record { cells = digit_cells leaves v } in
-    let chosen : List ℕ = filter (λ (v : ℕ). get_or config (base + v) false) (range_with_len 0 (2 ^ leaves)) in
-    sym (flat_map-map line_text (λ (r : RowValue). row_line r.cells) (map row chosen) ∙ flat_map-map (λ (r : RowValue). line_text (row_line r.cells)) row chosen
-    ∙ filtered (λ (v : ℕ). line_text (row_line (digit_cells leaves v))) (λ (v : ℕ). get_or config (base + v) false) (range_with_len 0 (2 ^ leaves)))
+fixed_rows_are config base leaves = grind (arith, filter, flat_map-map, filtered)
 
 -- the rows of a table whose bits are inputs
 abbrev pub tunable_row_text : ℕ → ℕ → List ℕ
 tunable_row_text leaves v = line_text (row_line (digit_cells leaves v ++ chosen_cells (2 ^ leaves) v))
 
 pub tunable_rows_are : (leaves : ℕ) → flat_map (tunable_row_text leaves) (range_with_len 0 (2 ^ leaves)) ≡ flat_map line_text (map (λ (row : RowValue). row_line row.cells) (tunable_rows leaves))
-tunable_rows_are leaves =
-    let row : ℕ → RowValue = λ (v : ℕ). record { cells = digit_cells leaves v ++ chosen_cells (2 ^ leaves) v } in
-    sym (flat_map-map line_text (λ (r : RowValue). row_line r.cells) (map row (range_with_len 0 (2 ^ leaves))) ∙ flat_map-map (λ (r : RowValue). line_text (row_line r.cells)) row (range_with_len 0 (2 ^ leaves)))
+tunable_rows_are leaves = grind (arith, flat_map-map)
 
 -- a row of some cells: their characters, and the output character
 pub with_cells : (cells : List Cell) → 0 < length cells → map cell_character cells ++ (32 ∷ 49 ∷ 10 ∷ []) ≡ line_text (row_line cells)
-with_cells [] h = absurd (omega arith)
-with_cells (cell ∷ cells) h = refl
+with_cells cells h = search rules
 
 any_characters : (count : ℕ) → map cell_character (replicate count Any) ≡ replicate count 45
 any_characters zero = refl
 any_characters (suc count) = ap (λ (t : List ℕ). 45 ∷ t) (any_characters count)
 
 chosen_characters : (bits v : ℕ) → map cell_character (chosen_cells bits v) ≡ replicate v 45 ++ 49 ∷ replicate (bits - suc v) 45
-chosen_characters bits v =
-    map-append cell_character (replicate v Any) (One ∷ replicate (bits - suc v) Any) ∙ ap (λ (t : List ℕ). t ++ 49 ∷ map cell_character (replicate (bits - suc v) Any)) (any_characters v)
-    ∙ ap (λ (t : List ℕ). replicate v 45 ++ 49 ∷ t) (any_characters (bits - suc v))
+chosen_characters bits v = grind (arith, map-append, any_characters)
 
 -- a tunable row, as it is added
 pub chosen_row : (leaves v rest : ℕ) → rest ≡ 2 ^ leaves - suc v
@@ -60,17 +50,15 @@ pub chosen_row : (leaves v rest : ℕ) → rest ≡ 2 ^ leaves - suc v
 chosen_row leaves v rest e =
     let digits : List Cell = digit_cells leaves v in
     let chosen : List Cell = chosen_cells (2 ^ leaves) v in
-    let some : 0 < length (digits ++ chosen) = omega (arith, length-append digits chosen, length-append (replicate v Any) (One ∷ replicate (2 ^ leaves - suc v) Any)) in
     let last : List ℕ = 32 ∷ 49 ∷ 10 ∷ [] in
     ap (λ (n : ℕ). map cell_character digits ++ (replicate v 45 ++ (49 ∷ (replicate n 45 ++ last)))) e
     ∙ sym (ap (λ (t : List ℕ). map cell_character digits ++ t) (ap (λ (t : List ℕ). t ++ last) (chosen_characters (2 ^ leaves) v) ∙ append_assoc (replicate v 45) (49 ∷ replicate (2 ^ leaves - suc v) 45) last))
     ∙ sym (append_assoc (map cell_character digits) (map cell_character chosen) last) ∙ ap (λ (t : List ℕ). t ++ last) (sym (map-append cell_character digits chosen))
-    ∙ with_cells (digits ++ chosen) some
+    ∙ with_cells (digits ++ chosen) (omega (arith, length-append digits chosen, length-append (replicate v Any) (One ∷ replicate (2 ^ leaves - suc v) Any)))
 
 -- a fixed row, as it is added
 pub with_digits : (leaves v : ℕ) → 0 < leaves → map cell_character (digit_cells leaves v) ++ (32 ∷ 49 ∷ 10 ∷ []) ≡ line_text (row_line (digit_cells leaves v))
-with_digits leaves v h =
-    with_cells (digit_cells leaves v) (let n : length (digit_cells leaves v) ≡ leaves = length-map-range_with_len (λ (place : ℕ). digit_cell (digit v place)) 0 leaves in omega (arith, n, h))
+with_digits leaves v h = grind arith
 
 -- the cells of a number's digits, one by one
 abbrev cells_of : ℕ → ℕ → List Cell
@@ -84,40 +72,30 @@ cells_from (suc leaves) place v =
     let p : 2 ^ suc place ≡ 2 * 2 ^ place = pow-succ' 2 place in
     let c : 2 * 2 ^ place ≡ 2 ^ place * 2 = omega arith in
     let q : v / 2 ^ place / 2 ≡ v / (2 ^ place * 2) = div-div-eq-div-mul v (2 ^ place) 2 in
-    ap (λ (t : List Cell). digit_cell (digit v place) ∷ t)
-    (cells_from leaves (place + 1) v ∙ ap (λ (k : ℕ). cells_of leaves (v / 2 ^ k)) e ∙ ap (λ (k : ℕ). cells_of leaves (v / k)) (p ∙ c) ∙ ap (cells_of leaves) (sym q))
+    grind (arith, cells_of, cells_from leaves (place + 1) v)
 
 cells_are : (leaves v : ℕ) → digit_cells leaves v ≡ cells_of leaves v
 cells_are leaves v = let e : v / 1 ≡ v = omega arith in cells_from leaves 0 v ∙ ap (cells_of leaves) e
 
 -- a cell of a digit allows this digit alone
 allowed : (d b : Bool) → allows (digit_cell d) b ≡ true → b ≡ d
-allowed true b h = h
-allowed false true h = absurd (let wrong : ⊥ = cc in wrong)
-allowed false false h = refl
+allowed d b h = search rules
 
 allows_own : (b : Bool) → allows (digit_cell b) b ≡ true
 allows_own b = grind arith
 
 digit_value : (v : ℕ) (b : Bool) → b ≡ eqb (v % 2) 1 → bit_value b ≡ v % 2
-digit_value v true h = sym (eqb-true (v % 2) 1 (sym h))
-digit_value v false h = let off : v % 2 ≡ 1 → ⊥ = eqb-false (v % 2) 1 (sym h) in let zero_rest : 0 ≡ v % 2 = omega (arith, off) in zero_rest
+digit_value v b h = grind arith
 
 pub matches_number : (v : ℕ) (ins : List Bool) → v < 2 ^ length ins → matches (cells_of (length ins) v) ins ≡ true → number ins ≡ v
 matches_number v [] small h = omega (arith, small)
 matches_number v (b ∷ bs) small h =
-    let p : 2 ^ length (b ∷ bs) ≡ 2 * 2 ^ length bs = pow-succ' 2 (length bs) in
     let parts : (allows (digit_cell (eqb (v % 2) 1)) b ≡ true) × (matches (cells_of (length bs) (v / 2)) bs ≡ true) = and_parts (allows (digit_cell (eqb (v % 2) 1)) b) (matches (cells_of (length bs) (v / 2)) bs) h in
-    let low : bit_value b ≡ v % 2 = digit_value v b (allowed (eqb (v % 2) 1) b parts.0) in
-    let high : number bs ≡ v / 2 = matches_number (v / 2) bs (omega (arith, small, p)) parts.1 in
-    omega (arith, low, high)
+    omega (arith, digit_value v b (allowed (eqb (v % 2) 1) b parts.0), matches_number (v / 2) bs (omega (arith, small, pow-succ' 2 (length bs))) parts.1)
 
 pub matches_own : (ins : List Bool) → matches (cells_of (length ins) (number ins)) ins ≡ true
 matches_own [] = refl
-matches_own (b ∷ bs) =
-    and_from (allows (digit_cell (eqb (number (b ∷ bs) % 2) 1)) b) (matches (cells_of (length bs) (number (b ∷ bs) / 2)) bs)
-    (ap (λ (d : Bool). allows (digit_cell d) b) (lowest b (number bs)) ∙ allows_own b)
-    (ap (λ (k : ℕ). matches (cells_of (length bs) k) bs) (half b (number bs)) ∙ matches_own bs)
+matches_own (b ∷ bs) = grind (arith, and_from, eqb, cells_of, lowest, allows_own, half, matches_own bs)
 
 -- rows
 row_matches : (rows : List RowValue) (row : RowValue) (ins : List Bool) → In rows row → matches row.cells ins ≡ true → some_row rows ins ≡ true
@@ -134,22 +112,19 @@ digits_match : (v : ℕ) (ins : List Bool) → matches (digit_cells (length ins)
 digits_match v ins = ap (λ (cells : List Cell). matches cells ins) (cells_are (length ins) v)
 
 one_row : (rows : List RowValue) (ins : List Bool) (bit : Bool) → (bit ≡ true → (row : RowValue) × In rows row × (matches row.cells ins ≡ true)) → ((row : RowValue) → In rows row → matches row.cells ins ≡ true → bit ≡ true) → some_row rows ins ≡ bit
-one_row rows ins true there only = let r : (row : RowValue) × In rows row × (matches row.cells ins ≡ true) = there refl in row_matches rows r.0 ins r.1 r.2
-one_row rows ins false there only = no_row_matches rows ins (λ row i. false_from_ne_true (matches row.cells ins) (λ h. let t : false ≡ true = only row i h in let wrong : ⊥ = cc in wrong))
+one_row rows ins bit there only = search (rules, row_matches, no_row_matches, false_from_ne_true)
 
 pub fixed_value : (config : List Bool) (base : ℕ) (ins : List Bool) → some_row (fixed_rows config base (length ins)) ins ≡ slice_index_or config (base + number ins) false
 fixed_value config base ins =
-    let count : ℕ = 2 ^ length ins in
     let test : ℕ → Bool = λ v. slice_index_or config (base + v) false in
     let make : ℕ → RowValue = λ v. record { cells = digit_cells (length ins) v } in
     let below : number ins < 2 ^ length ins = number-small ins in
     one_row (fixed_rows config base (length ins)) ins (test (number ins))
-    (λ e. (make (number ins), In-map make (filter test (range_with_len 0 count)) (number ins) (in_filter test (range_with_len 0 count) (number ins) (in_range 0 count (number ins) (omega arith) (omega (arith, below))) e), digits_match (number ins) ins ∙ matches_own ins))
+    (λ e. (make (number ins), In-map make (filter test (range_with_len 0 _)) (number ins) (in_filter test (range_with_len 0 _) (number ins) (in_range 0 _ (number ins) (omega arith) (omega (arith, below))) e), digits_match (number ins) ins ∙ matches_own ins))
     (λ row i h.
-    let at : (v : ℕ) × In (filter test (range_with_len 0 count)) v × (row ≡ make v) = from_map make (filter test (range_with_len 0 count)) row i in
-    let kept : In (range_with_len 0 count) at.0 × (test at.0 ≡ true) = In-filter test (range_with_len 0 count) at.0 at.1 in
-    let small : (0 ≤ at.0) × (at.0 < 0 + count) = of_range 0 count at.0 kept.0 in
-    ap test (matches_number at.0 ins (omega (arith, small.1)) (sym (digits_match at.0 ins) ∙ ap (λ (r : RowValue). matches r.cells ins) (sym at.2) ∙ h)) ∙ kept.1)
+    let at : (v : ℕ) × In (filter test (range_with_len 0 _)) v × (row ≡ make v) = from_map make (filter test (range_with_len 0 _)) row i in
+    let kept : In (range_with_len 0 _) at.0 × (test at.0 ≡ true) = In-filter test (range_with_len 0 _) at.0 at.1 in
+    ap test (matches_number at.0 ins (omega (arith, (of_range 0 _ at.0 kept.0).1)) (sym (digits_match at.0 ins) ∙ ap (λ (r : RowValue). matches r.cells ins) (sym at.2) ∙ h)) ∙ kept.1)
 
 -- the rows of a table whose bits are inputs
 and_moved : (a b c : Bool) → (a && (b && c)) ≡ ((a && b) && c)
@@ -157,8 +132,7 @@ and_moved a b c = grind arith
 
 matches_both : (front back : List Cell) (xs ys : List Bool) → length front ≡ length xs → matches (front ++ back) (xs ++ ys) ≡ (matches front xs && matches back ys)
 matches_both [] back [] ys h = refl
-matches_both (c ∷ front) back (x ∷ xs) ys h =
-    ap (λ (t : Bool). allows c x && t) (matches_both front back xs ys (omega (arith, h))) ∙ and_moved (allows c x) (matches front xs) (matches back ys)
+matches_both (c ∷ front) back (x ∷ xs) ys h = grind (arith, and_moved, matches_both front back xs ys (omega (arith, h)))
 matches_both front back xs ys h = absurd (omega (arith, h))
 
 matches_any : (count : ℕ) (bits : List Bool) → length bits ≡ count → matches (replicate count Any) bits ≡ true
@@ -173,10 +147,7 @@ matches_chosen (suc v) rest (b ∷ bits) h = matches_chosen v rest bits (omega (
 
 row_value : (ins bits : List Bool) (v : ℕ) → length bits ≡ 2 ^ length ins → v < 2 ^ length ins
     → matches (digit_cells (length ins) v ++ chosen_cells (2 ^ length ins) v) (ins ++ bits) ≡ (matches (cells_of (length ins) v) ins && get_or bits v false)
-row_value ins bits v count small =
-    matches_both (digit_cells (length ins) v) (chosen_cells (2 ^ length ins) v) ins bits (length-map-range_with_len (λ (place : ℕ). digit_cell (digit v place)) 0 (length ins))
-    ∙ ap (λ (t : Bool). t && matches (chosen_cells (2 ^ length ins) v) bits) (digits_match v ins)
-    ∙ ap (λ (t : Bool). matches (cells_of (length ins) v) ins && t) (matches_chosen v (2 ^ length ins - suc v) bits (omega (arith, count, small)))
+row_value ins bits v count small = grind (arith, matches_both, length-map-range_with_len, digits_match, cells_of, matches_chosen)
 
 pub tunable_value : (ins bits : List Bool) → length bits ≡ 2 ^ length ins → some_row (tunable_rows (length ins)) (ins ++ bits) ≡ get_or bits (number ins) false
 tunable_value ins bits count =
@@ -190,8 +161,6 @@ tunable_value ins bits count =
     ))
     (λ row i h.
     let at : (v : ℕ) × In (range_with_len 0 (2 ^ length ins)) v × (row ≡ make v) = from_map make (range_with_len 0 (2 ^ length ins)) row i in
-    let small : (0 ≤ at.0) × (at.0 < 0 + 2 ^ length ins) = of_range 0 (2 ^ length ins) at.0 at.1 in
-    let fits : at.0 < 2 ^ length ins = omega (arith, small.1) in
-    let parts : (matches (cells_of (length ins) at.0) ins ≡ true) × (get_or bits at.0 false ≡ true) =
-    and_parts (matches (cells_of (length ins) at.0) ins) (get_or bits at.0 false) (sym (row_value ins bits at.0 count fits) ∙ ap (λ (r : RowValue). matches r.cells (ins ++ bits)) (sym at.2) ∙ h) in
+    let fits : at.0 < 2 ^ length ins = omega (arith, (of_range 0 (2 ^ length ins) at.0 at.1).1) in
+    let parts : (matches (cells_of (length ins) at.0) ins ≡ true) × (get_or bits at.0 false ≡ true) = grind (arith, and_parts, cells_of, row_value) in
     ap (λ (k : ℕ). get_or bits k false) (matches_number at.0 ins fits parts.0) ∙ parts.1)

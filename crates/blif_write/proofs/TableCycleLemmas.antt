@@ -1,7 +1,7 @@
 -- The cycles of a written netlist are those of its LUTs. Its inputs, read again: the regular ones, a control `NIL`, and the configuration bits.
-use Rattle.blif_write.proofs.Common.{◌≡◌, ◌⊎◌, ℕ, zero, suc, ◌+◌, ◌-◌, ◌*◌, ◌^◌, ◌<◌, ◌≤◌, Bool, true, false, cond, ◌&&◌, ◌||◌, nat_le, nat_lt, not, List, [], ◌∷◌, ◌++◌, length, map, get_or, slice_get, slice_index_or, bytes_eq, codes, Option, Some, None, refl, sym, ap, subst, ◌∙◌, inl, inr, arith, flat_map, range_with_len, map-append, length-map, get_or-map, leb-true, le-leb, ltb-true, and_parts, get_or-map-range_with_len, length-map-range_with_len, bytes_eq-Decides, none-some, In, number, number-small, In-get_or, In-left, In-right, In-filter, LatchValue, CoverValue, cover_value, some_row, OutPort, FlatLatch, FlatValue, Param, regular_names, param_names, has_name, Lit, lits_of, Lut, TemplateValue, bits_of, Shape, last_source, is_regular, source_value, leaf_values, address, IsTableCycle, false_from_ne_true, map-map, read_control, Naming, naming_of, table_name, latch_name, bit_name, source_name, literal_name, leaf_names, bit_names, fixed_rows, tunable_rows, fixed_table, tunable_table, wire_of, wire, wires, clock_of, written_latch, written_latches, control_names, with_tables, HasPorts, AreTablesOf, input_bits, if◌then◌else◌, filter, ap₂, append_assoc, sum_by-cons, same_Some, place_in, ranges_join, ModelValue, TellsClocks, IsFlat, main_input, controls, HaveBases, PlainNetlist, all_inputs, read_latch, library_of, free_control, cases_Bool, In-map}
+use Rattle.blif_write.proofs.Common.{◌≡◌, ◌⊎◌, ℕ, zero, suc, ◌+◌, ◌-◌, ◌*◌, ◌^◌, ◌<◌, ◌≤◌, Bool, true, false, cond, ◌&&◌, ◌||◌, nat_le, nat_lt, not, List, [], ◌∷◌, ◌++◌, length, map, get_or, slice_get, slice_index_or, bytes_eq, codes, Option, Some, None, refl, sym, ap, subst, ◌∙◌, inl, inr, arith, flat_map, range_with_len, map-append, length-map, get_or-map, leb-true, le-leb, get_or-map-range_with_len, length-map-range_with_len, bytes_eq-Decides, In, number, number-small, In-get_or, In-left, In-right, In-filter, LatchValue, CoverValue, cover_value, some_row, OutPort, FlatLatch, FlatValue, Param, regular_names, param_names, has_name, Lit, lits_of, Lut, TemplateValue, bits_of, Shape, last_source, is_regular, source_value, leaf_values, address, IsTableCycle, false_from_ne_true, map-map, read_control, Naming, naming_of, table_name, latch_name, bit_name, source_name, literal_name, leaf_names, bit_names, fixed_rows, tunable_rows, fixed_table, tunable_table, wire_of, wire, wires, clock_of, written_latch, written_latches, control_names, with_tables, HasPorts, AreTablesOf, input_bits, if◌then◌else◌, filter, ap₂, append_assoc, sum_by-cons, same_Some, place_in, ranges_join, ModelValue, TellsClocks, IsFlat, main_input, controls, HaveBases, PlainNetlist, all_inputs, read_latch, library_of, free_control, cases_Bool, In-map, rules}
 use Rattle.cover_pick.proofs.BitsLemmas.{base_within}
-use Rattle.blif_write.proofs.PlainCycleLemmas.{not_clock, IsControlName, PlainFits, main_there, clock_there, only_top, latch_at_top}
+use Rattle.blif_write.proofs.PlainCycleLemmas.{not_clock, IsControlName, PlainFits, main_there, only_top, latch_at_top}
 use Rattle.blif_write.proofs.RowLemmas.{fixed_value, tunable_value}
 use Rattle.blif_write.proofs.OwnNameLemmas.{no_port_name, source_literal, table_literal}
 use Rattle.std.proofs.lemmas.List.Elements.{filter-append}
@@ -10,41 +10,30 @@ use Rattle.blif_write.proofs.PartLemmas.{control_named_in, in_lines}
 -- the latches of a written netlist
 pub latch_written : (g : Naming) (control : Option (List ℕ)) (ordinal : ℕ) (ls : List FlatLatch) (nexts : List Lit) (j : ℕ) → length nexts ≡ length ls → j < length ls
     → (l : LatchValue) × (slice_get (written_latches g control ordinal ls nexts) j ≡ Some l) × (l.output ≡ latch_name g (ordinal + j))
-latch_written g control ordinal [] nexts j same small = absurd (omega (arith, small))
-latch_written g control ordinal (l ∷ ls) [] j same small = absurd (omega (arith, same))
 latch_written g control ordinal (l ∷ ls) (next ∷ nexts) zero same small = let e : ordinal ≡ ordinal + 0 = omega arith in (written_latch g control ordinal l next, refl, ap (latch_name g) e)
-latch_written g control ordinal (l ∷ ls) (next ∷ nexts) (suc j) same small =
-    let r : (k : LatchValue) × (slice_get (written_latches g control (suc ordinal) ls nexts) j ≡ Some k) × (k.output ≡ latch_name g (suc ordinal + j)) =
-    latch_written g control (suc ordinal) ls nexts j (omega (arith, same)) (omega (arith, small)) in
-    let e : suc ordinal + j ≡ ordinal + suc j = omega arith in
-    (r.0, r.1, r.2 ∙ ap (latch_name g) e)
+latch_written g control ordinal (l ∷ ls) (next ∷ nexts) (suc j) same small = grind (arith, g, latch_written g control (suc ordinal) ls nexts j (omega (arith, same)) (omega (arith, small)))
+latch_written g control ordinal ls nexts j same small = search rules
 
 latch_inputs_are : (g : Naming) (value : List ℕ → Bool) (control : Option (List ℕ)) (ordinal : ℕ) (ls : List FlatLatch) (nexts : List Lit) → length nexts ≡ length ls
     → map (λ (l : LatchValue). value l.input) (written_latches g control ordinal ls nexts) ≡ map (λ lit. value (literal_name g lit)) (lits_of nexts)
 latch_inputs_are g value control ordinal [] [] same = refl
-latch_inputs_are g value control ordinal (l ∷ ls) (next ∷ nexts) same =
-    ap (λ (t : List Bool). value (literal_name g next.0) ∷ t) (latch_inputs_are g value control (suc ordinal) ls nexts (omega (arith, same)))
+latch_inputs_are g value control ordinal (l ∷ ls) (next ∷ nexts) same = grind (arith, g, latch_inputs_are g value control (suc ordinal) ls nexts (omega (arith, same)))
 latch_inputs_are g value control ordinal ls nexts same = absurd (omega (arith, same))
 
 -- the control of a written latch is the flat circuit's
 named_by : (own name : List ℕ) (nil : Bool) → cond nil None (Some own) ≡ Some name → Some own ≡ Some name
-named_by own name true e = absurd (none-some name e)
-named_by own name false e = e
+named_by own name nil e = grind arith
 
 read_given : (control : Option (List ℕ)) (name : List ℕ) → read_control control ≡ Some name → control ≡ Some name
-read_given None name e = absurd (none-some name e)
-read_given (Some own) name e = named_by own name (bytes_eq own (codes "NIL")) e
+read_given control name e = grind arith
 
 clock_given : (control : Option (List ℕ)) (clocked : Bool) (name : List ℕ) → clock_of control clocked ≡ Some name → control ≡ Some name
-clock_given control true name e = e
-clock_given control false name e = absurd (none-some name e)
+clock_given control clocked name e = grind arith
 
 pub latch_next : (g : Naming) (control : Option (List ℕ)) (ordinal : ℕ) (ls : List FlatLatch) (nexts : List Lit) (l : LatchValue) → In (written_latches g control ordinal ls nexts) l
     → (lit : Lit) × In nexts lit × (l.input ≡ literal_name g lit.0) × ((name : List ℕ) → l.control ≡ Some name → control ≡ Some name)
 latch_next g control ordinal (k ∷ ls) (next ∷ nexts) l (inl e) = (next, inl refl, ap (λ (m : LatchValue). m.input) e, λ c f. clock_given control k.clocked c (sym (ap (λ (m : LatchValue). m.control) e) ∙ f))
-latch_next g control ordinal (k ∷ ls) (next ∷ nexts) l (inr i) =
-    let r : (lit : Lit) × In nexts lit × (l.input ≡ literal_name g lit.0) × ((name : List ℕ) → l.control ≡ Some name → control ≡ Some name) = latch_next g control (suc ordinal) ls nexts l i in
-    (r.0, inr r.1, r.2, r.3)
+latch_next g control ordinal (k ∷ ls) (next ∷ nexts) l (inr i) = grind (arith, g, latch_next g control (suc ordinal) ls nexts l i)
 latch_next g control ordinal ls nexts l i = elim i [ ]
 
 pub latch_named : (g : Naming) (control : Option (List ℕ)) (ordinal : ℕ) (ls : List FlatLatch) (nexts : List Lit) (l : LatchValue) (name : List ℕ) → In (written_latches g control ordinal ls nexts) l → read_control l.control ≡ Some name → control ≡ Some name
@@ -76,10 +65,7 @@ in_all f xs x y i j = in_lines (map f xs) (f x) y (In-map f xs x i) j
 -- the sources
 parts_by : (shape : Shape) (n : ℕ) (first : Bool) → (nat_le 1 n && nat_le n shape.regular) ≡ first → (first || (nat_lt (shape.regular + shape.params) n && nat_le n (last_source shape))) ≡ true
     → ((1 ≤ n) × (n ≤ shape.regular)) ⊎ ((shape.regular + shape.params < n) × (n ≤ last_source shape))
-parts_by shape n true e h = let p : (nat_le 1 n ≡ true) × (nat_le n shape.regular ≡ true) = and_parts (nat_le 1 n) (nat_le n shape.regular) e in inl (leb-true 1 n p.0, leb-true n shape.regular p.1)
-parts_by shape n false e h =
-    let p : (nat_lt (shape.regular + shape.params) n ≡ true) × (nat_le n (last_source shape) ≡ true) = and_parts (nat_lt (shape.regular + shape.params) n) (nat_le n (last_source shape)) h in
-    inr (ltb-true (shape.regular + shape.params) n p.0, leb-true n (last_source shape) p.1)
+parts_by shape n first e h = grind arith
 
 pub regular_parts : (shape : Shape) (n : ℕ) → is_regular shape n ≡ true → ((1 ≤ n) × (n ≤ shape.regular)) ⊎ ((shape.regular + shape.params < n) × (n ≤ last_source shape))
 regular_parts shape n h = parts_by shape n (nat_le 1 n && nat_le n shape.regular) refl h
@@ -114,22 +100,10 @@ module _ (flat : FlatValue) (params : List Param) (t : TemplateValue) (bits : Li
   latch_fit : (j : ℕ) → j < length flat.latches → value (latch_name named j) ≡ slice_index_or s j false
   latch_fit j small =
       let r : (l : LatchValue) × (slice_get (written_latches named flat.control 0 flat.latches t.next) j ≡ Some l) × (l.output ≡ latch_name named (0 + j)) = latch_written named flat.control 0 flat.latches t.next j are.roots.next small in
-      let e : 0 + j ≡ j = omega arith in
-      ap value (sym (r.2 ∙ ap (latch_name named) e)) ∙ fits.latches j r.0 r.1
+      ap value (sym (r.2 ∙ ap (latch_name named) (omega arith))) ∙ fits.latches j r.0 r.1
 
   source_fit : (n : ℕ) → is_regular named.shape n ≡ true → value (source_name named n) ≡ source_value named.shape (map x named.regular) s n
-  source_fit n h = elim (regular_parts named.shape n h) [
-    | inl p ↦ let small : n - 1 < length named.regular = omega (arith, p.0, p.1) in
-        let yes : nat_le n named.shape.regular ≡ true = le-leb n named.shape.regular p.1 in
-        ap (λ (b : Bool). value (cond b (get_or named.regular (n - 1) []) (latch_name named (n - 1 - (named.shape.regular + named.shape.params))))) yes
-        ∙ regular_fit (n - 1) small ∙ sym (get_or-map x named.regular (n - 1) [] false small)
-        ∙ sym (ap (λ (b : Bool). cond b (slice_index_or (map x named.regular) (n - 1) false) (slice_index_or s (n - 1 - (named.shape.regular + named.shape.params)) false)) yes)
-    | inr p ↦ let no : nat_le n named.shape.regular ≡ false = past_regular n named.shape.regular (omega (arith, p.0)) in
-        let j : ℕ = n - 1 - (named.shape.regular + named.shape.params) in
-        ap (λ (b : Bool). value (cond b (get_or named.regular (n - 1) []) (latch_name named j))) no
-        ∙ latch_fit j (omega (arith, p.0, p.1))
-        ∙ sym (ap (λ (b : Bool). cond b (slice_index_or (map x named.regular) (n - 1) false) (slice_index_or s j false)) no)
-  ]
+  source_fit n h = search (rules, regular_parts, n, nat_le, le-leb, cond, named, regular_fit, get_or-map, slice_index_or, past_regular, latch_fit)
 
   -- the values of the literals
   abbrev valued : ℕ → Bool
@@ -154,10 +128,9 @@ module _ (flat : FlatValue) (params : List Param) (t : TemplateValue) (bits : Li
   pub fixed_valued : (config : List Bool) (u : Lut) → In tables (fixed_table named config u) → value (table_name named u.lit.0) ≡ slice_index_or config (address valued u) false
   fixed_valued config u i =
       let ins : List Bool = leaf_values valued u.leaves in
-      let count : length ins ≡ length u.leaves = length-map u.leaves (λ (m : ℕ). valued (2 * m)) in
       fits.covers (fixed_table named config u) (In-left tables (wires named flat.outputs t.outputs) (fixed_table named config u) i)
       ∙ ap (some_row (fixed_rows config u.base (length u.leaves))) (leaves_valued u)
-      ∙ ap (λ (k : ℕ). some_row (fixed_rows config u.base k) ins) (sym count)
+      ∙ ap (λ (k : ℕ). some_row (fixed_rows config u.base k) ins) (sym (length-map u.leaves (λ (m : ℕ). valued (2 * m))))
       ∙ fixed_value config u.base ins
 
   pub tunable_valued : (u : Lut) → In t.luts u → In tables (tunable_table named u) → ((b : ℕ) → u.base ≤ b → b < u.base + 2 ^ length u.leaves → In (flat_map (λ (l : List (List ℕ)). l) bits) (bit_name named b))
@@ -167,21 +140,17 @@ module _ (flat : FlatValue) (params : List Param) (t : TemplateValue) (bits : Li
       let count : length ins ≡ length u.leaves = length-map u.leaves (λ (m : ℕ). valued (2 * m)) in
       let chosen : List Bool = map value (bit_names named u) in
       let own : chosen ≡ map (λ b. value (bit_name named b)) (range_with_len u.base (2 ^ length u.leaves)) = map-map value (bit_name named) (range_with_len u.base (2 ^ length u.leaves)) in
-      let size : length chosen ≡ 2 ^ length ins =
-      ap length own ∙ length-map-range_with_len (λ b. value (bit_name named b)) u.base (2 ^ length u.leaves) ∙ ap (λ (k : ℕ). 2 ^ k) (sym count) in
       let small : number ins < 2 ^ length u.leaves = subst (λ (k : ℕ). number ins < 2 ^ k) count (number-small ins) in
-      let within : u.base + 2 ^ length u.leaves ≤ 0 + bits_of t.luts = base_within 0 t.luts u are.playable.bases there in
       let b : ℕ = u.base + number ins in
-      let sum : t.bits ≡ bits_of t.luts = are.playable.sum in
       fits.covers (tunable_table named u) (In-left tables (wires named flat.outputs t.outputs) (tunable_table named u) i)
       ∙ ap (some_row (tunable_rows (length u.leaves))) (map-append value (leaf_names named u) (bit_names named u))
       ∙ ap (λ (l : List Bool). some_row (tunable_rows (length u.leaves)) (l ++ chosen)) (leaves_valued u)
       ∙ ap (λ (k : ℕ). some_row (tunable_rows k) (ins ++ chosen)) (sym count)
-      ∙ tunable_value ins chosen size
+      ∙ tunable_value ins chosen (ap length own ∙ length-map-range_with_len (λ b. value (bit_name named b)) u.base (2 ^ length u.leaves) ∙ ap (λ (k : ℕ). 2 ^ k) (sym count))
       ∙ ap (λ (l : List Bool). get_or l (number ins) false) own
       ∙ get_or-map-range_with_len (λ c. value (bit_name named c)) u.base (2 ^ length u.leaves) (number ins) b false small refl
       ∙ bit_fit b (input b (omega arith) (omega (arith, small)))
-      ∙ sym (get_or-map-range_with_len (λ c. x (bit_name named c)) 0 t.bits b b false (omega (arith, small, within, sum)) (omega arith))
+      ∙ sym (get_or-map-range_with_len (λ c. x (bit_name named c)) 0 t.bits b b false (omega (arith, small, base_within 0 t.luts u are.playable.bases there, are.playable.sum)) (omega arith))
 
 -- names that are no clocks stay
 kept_all : (test : List ℕ → Bool) (names : List (List ℕ)) → ((name : List ℕ) → In names name → test name ≡ false) → filter (λ name. not (test name)) names ≡ names
@@ -191,22 +160,17 @@ kept_all test (name ∷ names) h = rw (h name (inl refl)) (ap (λ (t : List (Lis
 -- a clocked latch is written with the control
 clocked_written : (g : Naming) (control : Option (List ℕ)) (ordinal : ℕ) (ls : List FlatLatch) (nexts : List Lit) (l : FlatLatch) → length nexts ≡ length ls → In ls l → l.clocked ≡ true
     → (k : LatchValue) × In (written_latches g control ordinal ls nexts) k × (k.control ≡ control)
-clocked_written g control ordinal [] nexts l same i c = elim i [ ]
-clocked_written g control ordinal (m ∷ ls) [] l same i c = absurd (omega (arith, same))
 clocked_written g control ordinal (m ∷ ls) (next ∷ nexts) l same (inl e) c =
     (written_latch g control ordinal m next, inl refl, ap (clock_of control) (sym (ap (λ (k : FlatLatch). k.clocked) e) ∙ c))
-clocked_written g control ordinal (m ∷ ls) (next ∷ nexts) l same (inr i) c =
-    let r : (k : LatchValue) × In (written_latches g control (suc ordinal) ls nexts) k × (k.control ≡ control) = clocked_written g control (suc ordinal) ls nexts l (omega (arith, same)) i c in
-    (r.0, inr r.1, r.2)
+clocked_written g control ordinal (m ∷ ls) (next ∷ nexts) l same (inr i) c = grind (arith, g, clocked_written g control (suc ordinal) ls nexts l (omega (arith, same)) i c)
+clocked_written g control ordinal ls nexts l same i c = search rules
 
 -- a control that is read isn't `NIL`
 unless_nil : (own name : List ℕ) (b : Bool) → bytes_eq own (codes "NIL") ≡ b → (if b then None else Some own) ≡ Some name → bytes_eq name (codes "NIL") ≡ false
-unless_nil own name true f e = absurd (none-some name e)
-unless_nil own name false f e = sym (ap (λ (k : List ℕ). bytes_eq k (codes "NIL")) (same_Some own name e)) ∙ f
+unless_nil own name b f e = grind arith
 
 read_named : (control : Option (List ℕ)) (name : List ℕ) → read_control control ≡ Some name → bytes_eq name (codes "NIL") ≡ false
-read_named None name e = absurd (none-some name e)
-read_named (Some own) name e = unless_nil own name (bytes_eq own (codes "NIL")) refl e
+read_named control name e = grind arith
 
 -- the configuration bits in the order of their addresses
 pub bits_in_order : (g : Naming) (b : ℕ) (luts : List Lut) → HaveBases b luts → flat_map (λ (l : List (List ℕ)). l) (map (bit_names g) luts) ≡ map (bit_name g) (range_with_len b (bits_of luts))
@@ -214,10 +178,7 @@ bits_in_order g b [] h = refl
 bits_in_order g b (t ∷ ts) h =
     let count : ℕ = 2 ^ length t.leaves in
     let sum : bits_of (t ∷ ts) ≡ count + bits_of ts = sum_by-cons (λ (k : Lut). 2 ^ length k.leaves) t ts in
-    ap (λ (rest : List (List ℕ)). bit_names g t ++ rest) (bits_in_order g (b + count) ts h.1)
-    ∙ ap (λ (k : ℕ). map (bit_name g) (range_with_len k count) ++ map (bit_name g) (range_with_len (b + count) (bits_of ts))) h.0
-    ∙ sym (map-append (bit_name g) (range_with_len b count) (range_with_len (b + count) (bits_of ts)))
-    ∙ ap (map (bit_name g)) (sym (ranges_join b count (bits_of ts)) ∙ ap (range_with_len b) (sym sum))
+    grind (arith, g, map-append, ranges_join, bits_in_order g (b + count) ts h.1)
 
 module _ (flat : FlatValue) (params : List Param) (t : TemplateValue) (bits : List (List (List ℕ))) (tables : List CoverValue) (ports : HasPorts flat) (nexts : length t.next ≡ length flat.latches) where
   abbrev g : Naming
@@ -271,8 +232,7 @@ module _ (flat : FlatValue) (params : List Param) (t : TemplateValue) (bits : Li
       → again.inputs ≡ g.regular ++ (free_control flat.control ++ bit_inputs)
   inputs_again own again h =
       let off : List ℕ → Bool = λ name. not (h.test name) in
-      let all : filter off h.main.inputs ≡ filter off ((g.regular ++ control_names flat.control) ++ bit_inputs) = ap (λ (m : ModelValue). filter off m.inputs) (only_top n [] h.main h.is_main).1 in
-      h.inputs ∙ all ∙ filter-append off (g.regular ++ control_names flat.control) bit_inputs
+      h.inputs ∙ (ap (λ (m : ModelValue). filter off m.inputs) (only_top n [] h.main h.is_main).1) ∙ filter-append off (g.regular ++ control_names flat.control) bit_inputs
       ∙ ap₂ (λ (a b : List (List ℕ)). a ++ b)
       (filter-append off g.regular (control_names flat.control) ∙ ap₂ (λ (a b : List (List ℕ)). a ++ b) (regular_kept h.test h.tells) (control_kept h.test h.tells flat.control refl))
       (bits_kept h.test h.tells own)

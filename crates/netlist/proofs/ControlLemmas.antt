@@ -1,5 +1,5 @@
 -- Where the walks of the clocks and of the data find no fault, every latch control has one main input as its net, and no clock net is data; at a sound library they find none.
-use Rattle.netlist.proofs.Common.{◌≡◌, ◌⊎◌, ℕ, List, [], ◌∷◌, Option, Some, None, refl, sym, ap, ◌∙◌, subst, inl, inr, none-some, same_Some, false, IsTrue, both_ways, cases_Bool, ◌++◌, Latch, LatchValue, LatchAt, Net, input_net, latch_net, cover_net, Drives, IsClock, Place, is_latch, FlatOrder, IsSound, own_of, has_name, listed, controls, LibraryValue}
+use Rattle.netlist.proofs.Common.{◌≡◌, ℕ, List, [], Option, Some, None, refl, sym, ap, ◌∙◌, subst, inl, inr, none-some, same_Some, false, IsTrue, both_ways, cases_Bool, Latch, LatchValue, LatchAt, Net, input_net, latch_net, cover_net, Drives, IsClock, Place, is_latch, FlatOrder, IsSound, own_of, has_name, listed, controls, LibraryValue}
 use Rattle.netlist.proofs.NetLemmas.{one_net}
 use Rattle.netlist.proofs.OrderLemmas.{flat_all, order_exists}
 use Rattle.netlist.proofs.PlaceLemmas.{place_of, one_latch, has_latch}

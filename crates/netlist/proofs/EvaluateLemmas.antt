@@ -1,9 +1,9 @@
 -- Evaluating a flat circuit in its order gives each cover the value of any map that fits, by the numbers of the nets.
-use Rattle.netlist.proofs.Common.{◌≡◌, ℕ, Bool, false, List, [], ◌∷◌, map, Some, refl, sym, ap, ap₂, ◌∙◌, subst, inl, inr, unwrap_or, ◌<◌, eqb, length, replicate, Option, ◌⊎◌, arith, slice_set, slice_get, option_and_then, In, both_ways, cases_Bool, length-set, length-replicate, same_Some, slice_get_within, at_within, set_here, set_other, zero, suc, true, subst₂, option_map, cond-true, cond-false, length-map, none-some, slice_get-map, In-left, In-right, In-get, AreApart, reversed_in, nodes_done, In-map, same_list, mapped_at, not, filter, or_left, not-true, In-filter, has_name, IsMainInput, IsClock, CoverValue, LibraryValue, FlatCoverValue, FlatValue, Runs, eqb-true, eq-eqb}
+use Rattle.netlist.proofs.Common.{◌≡◌, ℕ, Bool, false, List, [], ◌∷◌, map, Some, refl, sym, ap, ap₂, ◌∙◌, subst, inl, inr, unwrap_or, ◌<◌, eqb, length, replicate, Option, ◌⊎◌, arith, slice_set, slice_get, option_and_then, In, both_ways, cases_Bool, length-set, length-replicate, same_Some, slice_get_within, at_within, set_here, set_other, zero, suc, true, subst₂, option_map, cond-true, cond-false, length-map, none-some, slice_get-map, In-left, In-right, In-get, AreApart, reversed_in, nodes_done, In-map, same_list, mapped_at, not, or_left, not-true, In-filter, has_name, IsMainInput, IsClock, CoverValue, LibraryValue, FlatCoverValue, FlatValue, Runs, eqb-true, eq-eqb}
 use Rattle.netlist.specs.Flat.{Places, none, more}
 use Rattle.netlist.specs.{cover_value, ModelValue, Path, body_at, CoverAt, input_net, latch_net, cover_net, Place, cover_in, FlatNet, Fits, an_input, a_latch, a_cover, IsNetOf, AreNetsOf, cover_numbers, IsFlat, reads_at, inputs_at, IsFlatCover, net_value, AreGiven, cover_behind, value_of, gate_value, evaluated, flat_values, Evaluates, same_place, latch_at, is_latch, FlatOrder, OutPort, FlatLatch, flat_roots, IsFlatLatch, init_state, inits_of, state_of, next_state, next_states, IsCycle, stops, steps, IsRun, flat_outputs, flat_next, flat_inits, run_outputs, run_states, input_values, HasCycles, IsSound, latch_nets}
 use Rattle.std.proofs.lemmas.Simd.{map-map}
-use Rattle.netlist.specs.declared.flat.Net.TheVariants.{Input, Latch, Cover}
+use Rattle.netlist.specs.declared.flat.Net.TheVariants.{Cover}
 use Rattle.netlist.proofs.OrderLemmas.{order_once, places_apart}
 use Rattle.tl_text.proofs.NameSetLemmas.{in_has}
 use Rattle.netlist.proofs.PlaceLemmas.{latch_at-some, cover_at-is, same_place-is, same_place-refl}
@@ -30,15 +30,13 @@ IsKnown library at value values j = (p : Place) (c : CoverValue) → slice_get a
 
 -- the cover of a net, and those of others, among them all
 pub cover_first : (net : FlatNet) (nets : List FlatNet) (m : ℕ) → In (cover_numbers (net ∷ [])) m → In (cover_numbers (net ∷ nets)) m
-cover_first (Input j) nets m i = absurd i
-cover_first (Latch j) nets m i = absurd i
 cover_first (Cover j) nets m (inl e) = inl e
 cover_first (Cover j) nets m (inr i) = absurd i
+cover_first net nets m i = absurd i
 
 pub cover_later : (net : FlatNet) (nets : List FlatNet) (m : ℕ) → In (cover_numbers nets) m → In (cover_numbers (net ∷ nets)) m
-cover_later (Input j) nets m i = i
-cover_later (Latch j) nets m i = i
 cover_later (Cover j) nets m i = inr i
+cover_later net nets m i = i
 
 cover_among : (net : FlatNet) (nets : List FlatNet) (m : ℕ) → In nets net → In (cover_numbers (net ∷ [])) m → In (cover_numbers nets) m
 cover_among net [] m i j = absurd i
@@ -136,10 +134,9 @@ module _ (library : LibraryValue) (flat : FlatValue) (f : IsFlat library flat) (
 
 -- the cover of a net's number
 number_cover : (number : FlatNet) (m : ℕ) → In (cover_numbers (number ∷ [])) m → number ≡ Cover m
-number_cover (Input j) m i = absurd i
-number_cover (Latch j) m i = absurd i
 number_cover (Cover j) m (inl e) = ap Cover (sym e)
 number_cover (Cover j) m (inr i) = absurd i
+number_cover number m i = absurd i
 
 pub flat_evaluates : (library : LibraryValue) (flat : FlatValue) (f : IsFlat library flat) → Evaluates library flat f.at
 flat_evaluates library flat f = record {

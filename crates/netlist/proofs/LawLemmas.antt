@@ -12,14 +12,6 @@ abbrev pub input_value : {C : Type 0} → Bool → Decided C → Bool
 input_value b (inl on) = false
 input_value b (inr off) = b
 
-pub input_value-off : {C : Type 0} (b : Bool) (d : Decided C) → (C → ⊥) → input_value b d ≡ b
-input_value-off b (inl on) h = absurd (h on)
-input_value-off b (inr off) h = refl
-
-pub input_value-on : {C : Type 0} (b : Bool) (d : Decided C) → C → input_value b d ≡ false
-input_value-on b (inl on) h = refl
-input_value-on b (inr off) h = absurd (off h)
-
 -- the value of a net
 abbrev pub net_value : (List ℕ → Bool) → (Path → ℕ → Bool) → (Place → Bool) → Option Net → Bool
 net_value x s covers None = false
@@ -39,18 +31,14 @@ abbrev pub value_at : LibraryValue → (Path → List ℕ → Option Net) → (L
 value_at library net x s p covers = value_in x s (net p.path) (cover_at library p) covers
 
 pub in_rest : (o : Option Net) (places : List Place) (p : Place) → In places p → In (with_cover o places) p
-in_rest None places p i = i
-in_rest (Some (input_net name)) places p i = i
-in_rest (Some (latch_net path k)) places p i = i
 in_rest (Some (cover_net path k)) places p i = inr i
+in_rest o places p i = i
 
 -- it depends on the covers that it reads alone
 module _ (x : List ℕ → Bool) (s : Path → ℕ → Bool) (v w : Place → Bool) where
   net_local : (o : Option Net) (places : List Place) → ((p : Place) → In (with_cover o places) p → v p ≡ w p) → net_value x s v o ≡ net_value x s w o
-  net_local None places h = refl
-  net_local (Some (input_net name)) places h = refl
-  net_local (Some (latch_net path k)) places h = refl
   net_local (Some (cover_net path k)) places h = h (place_of path k) (inl refl)
+  net_local o places h = refl
 
   names_local : (net : List ℕ → Option Net) (names : List (List ℕ)) → ((p : Place) → In (covers_among net names) p → v p ≡ w p) → values_in x s net v names ≡ values_in x s net w names
   names_local net [] h = refl
@@ -118,8 +106,8 @@ module _ (library : LibraryValue) (net : Path → List ℕ → Option Net) (nets
 
   pub made-fits : ((path : Path) (k : ℕ) (pair : Pair) (at : ConnectionAt library path k pair) → IsTrue (is_input at.child pair.formal) ⊎ IsTrue (is_output at.child pair.formal)) → Fits library x s made
   made-fits formals = record {
-    inputs = λ name m off. made-net [] name (input_net name) (main_input refl m refl) ∙ input_value-off (x name) (clock name) off;
-    clocks = λ name m on. made-net [] name (input_net name) (main_input refl m refl) ∙ input_value-on (x name) (clock name) on;
+    inputs = λ name m off. made-net [] name (input_net name) (main_input refl m refl) ∙ elim (clock name) as (λ d. input_value (x name) d ≡ x name) [ inl on ↦ absurd (off on) | inr o ↦ refl ];
+    clocks = λ name m on. made-net [] name (input_net name) (main_input refl m refl) ∙ elim (clock name) as (λ d. input_value (x name) d ≡ false) [ inl o ↦ refl | inr off ↦ absurd (off on) ];
     covers = made-cover;
     latches = λ path i l a. made-net path l.output (latch_net path i) (latch_output i l a refl refl);
     connections = made-connection formals;

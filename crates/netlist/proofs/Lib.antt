@@ -1,7 +1,6 @@
 mod Common
 pub mod ControlLemmas
 pub mod EvaluateLemmas
-mod InstanceLemmas
 pub mod LawLemmas
 pub mod LoopLemmas
 pub mod MeetLemmas

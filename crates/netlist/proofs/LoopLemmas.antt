@@ -1,6 +1,5 @@
 -- Loops of covers: none depends on itself exactly where the walk meets none again, and then they have an order in which each comes after those that it reads.
-use Rattle.netlist.proofs.Common.{◌≡◌, ℕ, List, [], ◌∷◌, Option, Some, None, refl, sym, ap, ◌∙◌, subst, inl, inr, ◌⊎◌, true, ◌++◌, In, both_ways, cases_Bool, false≢true, In-right, In-append, own_of, ModelValue, Body, Cover, Latch, Subckt, LatchValue, Path, body_at, model_at, CoverAt, Net, IsMainInput, input_net, latch_net, cover_net, Drives, main_input, latch_output, cover_output, from_inside, from_outside, Place, same_place, cover_at, latch_at, is_cover, is_latch, FlatOrder, IsDriven, AreNets, with_cover, covers_among, reads_in, reads_of, ReadsCover, Depends, direct, through, Ordered, latch_covers, all_latch_covers, roots_of, LoopWalk, CoverValue, LibraryValue}
-use Rattle.netlist.proofs.NetLemmas.{same_nets}
+use Rattle.netlist.proofs.Common.{◌≡◌, ℕ, List, [], ◌∷◌, Option, Some, None, refl, sym, ap, subst, inl, inr, ◌⊎◌, true, ◌++◌, In, both_ways, cases_Bool, false≢true, In-right, In-append, own_of, ModelValue, Body, Cover, LatchValue, Path, body_at, model_at, CoverAt, Net, IsMainInput, input_net, latch_net, cover_net, Drives, main_input, latch_output, cover_output, from_inside, from_outside, Place, same_place, cover_at, latch_at, is_cover, is_latch, FlatOrder, IsDriven, AreNets, with_cover, covers_among, reads_in, reads_of, ReadsCover, Depends, direct, through, Ordered, latch_covers, all_latch_covers, roots_of, LoopWalk, CoverValue, LibraryValue}
 use Rattle.netlist.proofs.OrderLemmas.{flat_all, order_exists, IsOfKind, flat_only}
 use Rattle.netlist.proofs.PlaceLemmas.{cover_at-is, place_of, same_place-is, same_place-refl}
 use Rattle.netlist.proofs.NameLemmas.{Decided, find_member}
@@ -98,8 +97,7 @@ module _ (library : LibraryValue) where
 
   body_cover : (p : Place) (m : ModelValue) → model_at library p.path ≡ Some m → (b : Body) → body_at m p.command ≡ Some b → is_cover b ≡ true → HasCover p
   body_cover p m at (Cover c) e t = (c, record { model = m; at = at; is = e })
-  body_cover p m at (Latch l) e t = absurd (false≢true t)
-  body_cover p m at (Subckt s) e t = absurd (false≢true t)
+  body_cover p m at b e t = absurd (false≢true t)
 
   pub kind_cover : (p : Place) → IsOfKind library is_cover p → HasCover p
   kind_cover p k = body_cover p k.model k.at k.body k.is k.kind_is
@@ -122,10 +120,6 @@ module _ (library : LibraryValue) where
         only = r.only;
       }
 
-  -- no F10, whatever function gives the nets
-  pub loops-ordered : LoopWalk library None → (net : Path → List ℕ → Option Net) → AreNets library net → Ordered library net
-  loops-ordered w net nets = subst (Ordered library) (same_nets library w.net net w.nets nets) (walk_ordered w)
-
 module _ (library : LibraryValue) (driven : IsDriven library) (no_loop : (p : Place) → Depends library p p → ⊥) (main : ModelValue) (at : model_at library [] ≡ Some main)
     (net : Path → List ℕ → Option Net) (nets : AreNets library net) where
   module _ (covers : List Place) (covers_are : FlatOrder library is_cover [] main covers) where
@@ -141,7 +135,7 @@ module _ (library : LibraryValue) (driven : IsDriven library) (no_loop : (p : Pl
       | inr j ↦ j
     ]
 
-    walk_through : (latches : List Place) → FlatOrder library is_latch [] main latches → LoopWalk library None
+    abbrev walk_through : (latches : List Place) → FlatOrder library is_latch [] main latches → LoopWalk library None
     walk_through latches latches_are = record {
       main = main;
       at = at;
@@ -160,4 +154,4 @@ module _ (library : LibraryValue) (driven : IsDriven library) (no_loop : (p : Pl
   covers_ordered =
       let c = order_exists library (own_of is_cover) driven.known main (driven.finite [] main at) [] at in
       let l = order_exists library (own_of is_latch) driven.known main (driven.finite [] main at) [] at in
-      loops-ordered library (walk_through c.0 c.1 l.0 l.1) net nets
+      walk_ordered library (walk_through c.0 c.1 l.0 l.1)

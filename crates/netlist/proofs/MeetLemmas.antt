@@ -1,6 +1,6 @@
 -- Depth-first walks: several starts in turn, and walks along edges that lead to nodes alone.
 use Rattle.netlist.proofs.Common.{◌≡◌, ℕ, List, [], ◌∷◌, ◌++◌, Option, Some, None, refl, sym, ap, ◌∙◌, subst, none-some, In, inl, inr, ◌⊎◌, map, zero, suc, ◌+◌, ◌≤◌, length, arith, same_Some, In-map, AreApart, apart_short, leads, Repeat, Meets, met, goes, MeetsAll, IsAfter}
-use Rattle.depth_first.specs.DepthFirst.{Way, stops, Ending, repeats, halts, Meets as MeetsBy, MeetsAll as MeetAllBy, met as met_by, goes as goes_by, none as none_by, stop as stop_by, first as first_by, later as later_by}
+use Rattle.depth_first.specs.DepthFirst.{Way, Ending, repeats, halts, Meets as MeetsBy, MeetsAll as MeetAllBy, met as met_by, goes as goes_by, none as none_by, first as first_by, later as later_by, stop as stop_by}
 use Rattle.depth_first.specs.Walk.{leads_to}
 use Rattle.netlist.specs.DepthFirst.{none, first, later}
 use Rattle.netlist.proofs.PostLemmas.{Reaches, at_once, one_more}
@@ -30,18 +30,16 @@ module _ {S : Type 0} (ways : ℕ → List (Way ℕ S)) (next : ℕ → List ℕ
   MetAll path ns (Some (halts s p)) = ⊥
 
   goes_met : (path : List ℕ) (n : ℕ) (r : Option (Ending ℕ S)) → (In path n → ⊥) → MetAll (n ∷ path) (next n) r → Met path n r
-  goes_met path n None off h = goes off h
-  goes_met path n (Some (repeats m p)) off h = goes off h
   goes_met path n (Some (halts s p)) off h = h
+  goes_met path n r off h = goes off h
 
   first_met : (path ns : List ℕ) (n : ℕ) (rest : List ℕ) (end : Ending ℕ S) → ns ≡ n ∷ rest → Met path n (Some end) → MetAll path ns (Some end)
   first_met path ns n rest (repeats m p) e h = first n rest (record { node = m; path = p }) e h refl
   first_met path ns n rest (halts s p) e h = h
 
   later_met : (path ns : List ℕ) (n : ℕ) (rest : List ℕ) (r : Option (Ending ℕ S)) → ns ≡ n ∷ rest → Met path n None → MetAll path rest r → MetAll path ns r
-  later_met path ns n rest None e h hs = later n rest e h hs
-  later_met path ns n rest (Some (repeats m p)) e h hs = later n rest e h hs
   later_met path ns n rest (Some (halts s p)) e h hs = hs
+  later_met path ns n rest r e h hs = later n rest e h hs
 
   mutual
     node_met : {path : List ℕ} {n : ℕ} {r : Option (Ending ℕ S)} → MeetsBy ways path n r → Met path n r

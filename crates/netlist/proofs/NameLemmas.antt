@@ -1,5 +1,5 @@
 -- Names and other members of lists: what can be decided of them, and lists that are taken apart in two ways.
-use Rattle.netlist.proofs.Common.{◌≡◌, ℕ, zero, suc, List, [], ◌∷◌, Some, refl, sym, subst, inl, inr, ◌⊎◌, bytes_eq, Option, None, ap, ◌∙◌, true, not, slice_get, filter, both_ways, cases_Bool, or_cases, or_left, or_right, not_from_false, none-some, same_Some, bytes_decides, In, In-left, In-right, In-append, ◌+◌, ◌<◌, ◌||◌, ◌++◌, get_or, if◌then◌else◌, slice_get-get_or, All, In-get, ModelValue, has_name, is_input, inputs_of, AreOnce, model_names, In-filter, in_filter, place_in, apart_once, slice_get-map, option_map}
+use Rattle.netlist.proofs.Common.{◌≡◌, ℕ, zero, suc, List, [], ◌∷◌, Some, refl, sym, subst, inl, inr, ◌⊎◌, bytes_eq, ap, ◌∙◌, true, not, slice_get, filter, both_ways, cases_Bool, or_cases, or_left, or_right, not_from_false, none-some, same_Some, bytes_decides, In, In-left, In-right, In-append, get_or, slice_get-get_or, All, In-get, ModelValue, has_name, is_input, inputs_of, AreOnce, model_names, In-filter, in_filter, place_in, apart_once, slice_get-map, option_map}
 pub use Rattle.tl_text.proofs.NameSetLemmas.{has_in, in_has}
 
 -- a type that has an element, or none

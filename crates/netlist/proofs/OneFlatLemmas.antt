@@ -1,11 +1,10 @@
 -- A sound library has one flat circuit at most: each name has one net, and each net one number.
-use Rattle.netlist.proofs.Common.{◌≡◌, ℕ, List, [], ◌∷◌, Some, sym, ap, ap₂, ◌∙◌, subst, refl, suc, Bool, not, ◌++◌, map, length, filter, Option, subst₂, inl, inr, arith, slice_get, reverse, is_some, AreApart, apart_once, cases_Bool, reverse-reverse, none-some, same_Some, In-get, LibraryValue, ModelValue, input_ports, LatchValue, Path, Net, input_net, latch_net, cover_net, IsDriven, Place, is_cover, is_latch, FlatOrder, FlatNet, IsNumbered, an_input, a_latch, a_cover, IsNetOf, AreNetsOf, TellsClocks, IsControl, some_latch, no_latch, with_control_net, cover_numbers, inputs_at, reads_at, flat_roots, most_underscores, IsFlatCover, IsFlatLatch, IsFlat, OutPort, FlatLatch, PostsAll, HasOneFlat, IsSound, CoverValue, FlatCoverValue, FlatValue, filtered_apart, same_list, item_there}
+use Rattle.netlist.proofs.Common.{◌≡◌, ℕ, List, [], ◌∷◌, Some, sym, ap, ap₂, ◌∙◌, subst, refl, Bool, not, ◌++◌, map, length, filter, Option, subst₂, inl, inr, slice_get, reverse, is_some, AreApart, apart_once, cases_Bool, reverse-reverse, none-some, same_Some, In-get, LibraryValue, ModelValue, input_ports, LatchValue, Path, Net, IsDriven, Place, is_cover, is_latch, FlatOrder, FlatNet, IsNumbered, an_input, a_latch, a_cover, IsNetOf, AreNetsOf, TellsClocks, IsControl, some_latch, no_latch, with_control_net, cover_numbers, inputs_at, reads_at, flat_roots, most_underscores, IsFlatCover, IsFlatLatch, IsFlat, OutPort, FlatLatch, PostsAll, HasOneFlat, IsSound, CoverValue, FlatCoverValue, FlatValue, filtered_apart, same_list, item_there}
 use Rattle.netlist.specs.Flat.{Places, none, more}
 use Rattle.netlist.specs.declared.flat.Net.TheVariants.{Input, Latch, Cover}
-use Rattle.netlist.proofs.ControlLemmas.{name_of}
 use Rattle.netlist.proofs.NetLemmas.{one_net}
 use Rattle.netlist.proofs.OrderLemmas.{order_once, places_apart}
-use Rattle.netlist.proofs.PlaceLemmas.{place_of, cover_at-is, one_latch}
+use Rattle.netlist.proofs.PlaceLemmas.{cover_at-is, one_latch}
 use Rattle.netlist.proofs.NameLemmas.{same_number}
 use Rattle.netlist.proofs.PostLemmas.{nodes_once}
 
@@ -52,13 +51,12 @@ same_along ps xs ys m n h = same_list xs ys (m ∙ sym n) (λ k x y a b. let p =
 -- outputs are equal where their names and their nets are
 same_ports : (xs ys : List OutPort) → map (λ (o : OutPort). o.name) xs ≡ map (λ (o : OutPort). o.name) ys → map (λ (o : OutPort). o.net) xs ≡ map (λ (o : OutPort). o.net) ys → xs ≡ ys
 same_ports [] [] a b = refl
-same_ports [] (y ∷ ys) a b = absurd (cc)
-same_ports (x ∷ xs) [] a b = absurd (cc)
 same_ports (x ∷ xs) (y ∷ ys) a b =
     let name : x.name ≡ y.name = cc in
     let net : x.net ≡ y.net = cc in
     let first : x ≡ y = λ i. record { name = name i; net = net i } in
     ap₂ (λ (z : OutPort) (zs : List OutPort). z ∷ zs) first (same_ports xs ys (cc) (cc))
+same_ports xs ys a b = absurd (cc)
 
 module _ (library : LibraryValue) where
   -- two tests that tell the clock nets are one

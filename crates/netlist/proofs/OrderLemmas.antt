@@ -1,7 +1,7 @@
 -- Flat order, of whatever the instances have of their own: an instance whose hierarchy ends has one, and one only; all that the instances within it have stands there, and nothing else.
 use Rattle.netlist.proofs.Common.{◌≡◌, ℕ, zero, suc, ◌+◌, ◌≤◌, Bool, true, false, ◌⊎◌, List, [], ◌∷◌, ◌++◌, length, Some, refl, sym, ap, ap₂, ◌∙◌, subst, subst₂, inl, inr, append_assoc, arith, slice_get, option_and_then, if◌then◌else◌, both_ways, length-append, none-some, same_Some, choose, In, In-left, In-right, In-append, AreApart, joined_apart, Body, Command, ModelValue, Path, body_at, subckts_of, model_named, placed, model_at, Ends, ends, Place, own_places, own_of, InFlatOrder, InFlatOrderUnder, FlatOrder, flat, SubcktValue, LibraryValue, none, more, get_end}
 use Rattle.netlist.proofs.PlaceLemmas.{place_of, command_of, body_of, placed-is, inside}
-use Rattle.netlist.proofs.NameLemmas.{not_empty, same_first, same_rest}
+use Rattle.netlist.proofs.NameLemmas.{same_first, same_rest, not_empty}
 use Rattle.netlist.specs.DepthFirst.{none}
 
 -- the subcircuits from number k on are those of the model there

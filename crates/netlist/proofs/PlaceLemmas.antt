@@ -1,5 +1,5 @@
 -- Places, and what stands at them: a place has one cover or latch, and a connection leads to the model that it places.
-use Rattle.netlist.proofs.Common.{◌≡◌, ℕ, true, eqb, ◌∷◌, Option, Some, None, refl, sym, ap, ap₂, ◌∙◌, inl, inr, bytes_eq, slice_get, option_map, option_and_then, and_parts, and_from, none-some, same_Some, option_and_then_some, bytes_decides, ◌++◌, [], ◌<◌, ◌+◌, ◌≤◌, ◌^◌, Body, Cover, Latch, Subckt, Command, LatchValue, Pair, ModelValue, Path, body_at, subckts_of, model_named, placed, model_at, CoverAt, LatchAt, ConnectionAt, Place, same_place, latch_in, cover_at, latch_at, CoverValue, SubcktValue, LibraryValue, eqb-true, eq-eqb}
+use Rattle.netlist.proofs.Common.{◌≡◌, ℕ, true, eqb, ◌∷◌, Option, Some, None, refl, sym, ap, ap₂, ◌∙◌, inl, inr, bytes_eq, slice_get, option_map, option_and_then, and_parts, and_from, none-some, same_Some, option_and_then_some, bytes_decides, Body, Latch, Command, LatchValue, Pair, ModelValue, Path, body_at, subckts_of, model_named, placed, model_at, CoverAt, LatchAt, ConnectionAt, Place, same_place, latch_in, cover_at, latch_at, CoverValue, SubcktValue, LibraryValue, eqb-true, eq-eqb}
 use Rattle.netlist.proofs.NameLemmas.{Decided}
 
 abbrev pub place_of : Path → ℕ → Place

@@ -3,7 +3,7 @@ use Rattle.netlist.proofs.Common.{◌≡◌, List, [], ◌∷◌, sym, subst, su
 use Rattle.depth_first.specs.DepthFirst.{Posts, skips, posts, none, more}
 use Rattle.depth_first.specs.Reach.{Reaches as ReachesOrIs, here, through}
 use mathlib.Core.List.{reverse_aux}
-use Rattle.netlist.proofs.NameLemmas.{not_empty, same_first, same_rest}
+use Rattle.netlist.proofs.NameLemmas.{same_first, same_rest, not_empty}
 
 module _ {N : Type 0} (next : N → List N) where
   -- n leads to m by one step or more

@@ -1,5 +1,5 @@
 -- The walk of the covers, depth first and left to right, from the outputs, the latch inputs, and then all covers in flat order; and an order in which each cover stands behind those that it reads.
-use Rattle.std.specs.Prelude.{◌≡◌, ℕ, ◌+◌, if◌then◌else◌, List, [], ◌∷◌, Some, ◌++◌, Option, None, ◌<◌, ◌≤◌}
+use Rattle.std.specs.Prelude.{◌≡◌, ℕ, ◌+◌, List, [], ◌∷◌, Some, ◌++◌, Option, None}
 use Rattle.depth_first.specs.Order.{IsAfter}
 use Rattle.netlist.specs.Circuits.{In, ModelValue, LibraryValue, Path, model_at, Place, is_cover, is_latch, LatchValue, CoverValue, FlatOrder, CoverAt, Net, latch_at}
 use Rattle.netlist.specs.DepthFirst.{Repeat, MeetsAll}

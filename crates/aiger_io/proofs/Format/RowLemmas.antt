@@ -1,6 +1,6 @@
 -- Words and lines as they are spelled: the number that a word is read as is the one that it spells, a line's words are those that one blank joins, and what a
 -- header, an item or a symbol is read as is what its line spells.
-use Rattle.aiger_io.proofs.Common.{◌≡◌, ◌⊎◌, ℕ, ◌≤◌, true, ◌&&◌, eqb, leb, List, [], ◌∷◌, length, Option, Some, None, Ok, Err, codes, inl, inr, refl, sym, ap, ◌∙◌, subst, arith, bytes_eq, bytes_decides, header_with, header_by, header_of, other_header, words_of, numbers_of, AagErr, Header, cond, true≢false, Bool, false, ◌||◌, join_with_byte, option_map, or_cases, or_right, cond-true, false_from_ne_true, In, one_number, init_of, latch_with, latch_of, and_with, and_of, item_of, number_of, IsNumber, AreNumbers, Item, Input, Latch, Output, And, Kind, suc, ◌+◌, ◌<◌, get_or, drop, ◌++◌, length-append, length-drop, position_or_len, before_first, after_first, eqb-true, position_or_len_is, split_at_first, passes_at_first, take-append_seam, In-get_or, Symbol, IsLetterOf, IsSymbolRow, kind_of, symbol_by, symbol_with, symbol_of, nat_tests, some_then, le-leb, get_or-append, get_or-append_seam, rules, ◌-◌, ◌*◌, not, append_assoc, append-nil, list_all, slice_split_none, slice_split_at, join_with_byte-slice_split, is_digit, is_decimal, number_from, number_from-push, in_front, and_from, and_parts, or_left, not-true, not_from_false, leb-true, eqb-false, ne_eqb}
+use Rattle.aiger_io.proofs.Common.{◌≡◌, ◌⊎◌, ℕ, ◌≤◌, true, eqb, leb, List, [], ◌∷◌, length, Option, Some, None, Ok, Err, codes, inl, inr, refl, sym, ap, ◌∙◌, subst, arith, bytes_eq, bytes_decides, header_with, header_by, header_of, other_header, words_of, numbers_of, AagErr, Header, cond, true≢false, Bool, false, ◌||◌, join_with_byte, option_map, or_cases, or_right, cond-true, false_from_ne_true, In, one_number, init_of, latch_with, latch_of, and_with, and_of, item_of, number_of, IsNumber, AreNumbers, Item, Input, Latch, Output, And, Kind, suc, ◌+◌, ◌<◌, get_or, drop, ◌++◌, length-append, length-drop, position_or_len, before_first, after_first, eqb-true, position_or_len_is, split_at_first, passes_at_first, take-append_seam, In-get_or, Symbol, IsLetterOf, IsSymbolRow, kind_of, symbol_by, symbol_with, symbol_of, nat_tests, some_then, le-leb, get_or-append, get_or-append_seam, rules, ◌-◌, ◌*◌, not, append_assoc, append-nil, list_all, slice_split_none, slice_split_at, join_with_byte-slice_split, is_digit, is_decimal, number_from, number_from-push, in_front, and_from, and_parts, or_left, not-true, not_from_false, leb-true, eqb-false, ne_eqb}
 use Rattle.aiger_io.specs.AigerText.{is_header, header_numbers, IsNumbersRow, IsHeaderRow, IsLaterRow, kind_of_item, IsInit, IsLatchRow, IsItemRow, digit, more}
 use Rattle.aiger_io.specs.declared.aag_err.AagErr.TheVariants as aag_err
 use Rattle.aiger_io.proofs.LineLemmas.{chosen, five, ok_then, with_is}

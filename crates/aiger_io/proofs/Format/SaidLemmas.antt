@@ -1,6 +1,6 @@
 -- What symbols say, at the places of inputs, latches and outputs: a symbol may stand where its place is free, and then its name stands there.
 -- The names of inputs and outputs that are read are their symbols', or the default ones, and these are one list alone. The lines of symbols one by one.
-use Rattle.aiger_io.proofs.Common.{◌≡◌, ℕ, ◌+◌, ◌<◌, true, false, not, ltb, List, [], ◌∷◌, ◌++◌, length, map, Option, Some, None, inl, inr, refl, sym, ap, ◌∙◌, subst, arith, true≢false, slice_get, slice_set, slice_index_or, is_some, and_from, and_parts, ltb-true, lt-ltb, not-true, length-replicate, map-append, get_or_from_slice_get, In, In-left, In-push, In-pushed, at_within, set_here, set_other, set_length, same_or, named_count, SymbolsValue, no_name, no_symbols, first_of, place_of, may_stand, with_symbol, Header, Kind, zero, suc, ◌≤◌, Bool, ◌&&◌, take, drop, unwrap_or, bytes_eq, bytes_decides, same_Some, slice_get_within, In-get, same_list, has_name, in_has, Circuit, input_names, output_names, port_names, is_twice, is_port, name_at, first_twice, IsPort, IsAlike, Symbol, count_of, AagErr, BadSymbol, nat_tests, or_left, or_right, cond-true, cond-false, cases_Bool, MayStand, is_bad_name, default_name, IsNameOf, by_symbol, AreNamesOf, Ok, Err, codes, append_assoc, append-nil, false_from_ne_true, IsSymbolRow, AreSymbolRows, AllStand, IsComment, symbol_of, symbol_at, symbols_from, rules}
+use Rattle.aiger_io.proofs.Common.{◌≡◌, ℕ, ◌+◌, ◌<◌, true, false, not, ltb, List, [], ◌∷◌, ◌++◌, length, map, Option, Some, None, inl, inr, refl, sym, ap, ◌∙◌, subst, arith, true≢false, slice_get, slice_set, slice_index_or, is_some, and_from, and_parts, ltb-true, lt-ltb, not-true, length-replicate, map-append, get_or_from_slice_get, In, In-left, In-push, In-pushed, at_within, set_here, set_other, set_length, same_or, named_count, SymbolsValue, no_name, no_symbols, first_of, place_of, may_stand, with_symbol, Header, Kind, zero, suc, Bool, ◌&&◌, take, drop, unwrap_or, bytes_eq, bytes_decides, same_Some, slice_get_within, In-get, same_list, has_name, in_has, Circuit, input_names, output_names, port_names, is_twice, is_port, name_at, first_twice, IsPort, IsAlike, Symbol, count_of, AagErr, BadSymbol, nat_tests, or_left, or_right, cond-true, cond-false, cases_Bool, MayStand, is_bad_name, default_name, IsNameOf, by_symbol, AreNamesOf, Ok, Err, codes, append_assoc, append-nil, false_from_ne_true, IsSymbolRow, AreSymbolRows, AllStand, IsComment, symbol_of, symbol_at, symbols_from, rules}
 use Rattle.aiger_io.specs.declared.item.Kind.TheVariants.{Input, Latch, Output}
 use Rattle.aiger_io.proofs.PortLemmas.{none_at, names_at, take_at, drop_at, inputs_length, outputs_length, two_places}
 use Rattle.aiger_io.specs.declared.aag_err.AagErr.TheVariants as aag_err

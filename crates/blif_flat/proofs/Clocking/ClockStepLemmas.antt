@@ -1,12 +1,12 @@
 -- The walk over the controls: what the net of one control says, and where the walk comes to.
-use Rattle.blif_flat.proofs.Common.{◌≡◌, ℕ, ◌+◌, ◌<◌, ◌≤◌, List, [], ◌∷◌, length, drop, drop_of_length-le, Option, Some, None, refl, sym, ap, ◌∙◌, subst, inl, inr, arith, slice_get, same_Some, slice_get_within, at_within, drop_get, Bool, true, false, Result, Ok, Err, ap₂, IfOk, IfErr, option_map, slice_get-map, OrMemory-map, suc, ltb, not, ◌||◌, ◌++◌, map, bytes_eq, filter, IsTrue, option_and_then, ltb-true, ltb-false, lt-ltb, le-ltb, or_parts, cases_Bool, both_ways, none-some, some_then, bytes_decides, list_any-append, list_any-position_none, LibraryValue, position_or_len, net_of_driver, one_net, latch_at-some, flat_all, has_with_names, LatchValue, ModelValue, Path, model_at, inputs_of, LatchAt, input_net, latch_net, cover_net, Drives, IsDriven, IsRead, latch_control, Place, latch_at, is_cover, is_latch, Latch as LatchBody, FlatErr, ClockNotInput, Gate, Instance, places_at, AreInstances, paths_of, IsWritten, Clocks, free, no_input, second, same, IsControl, some_latch, no_latch, NetsValue, table_of, AreAllNets, IsGateAt, AreGatesAt, IsControlled, IsWrittenAt, input_at, IsKeptInput, IsSecond, IsMetInput, IsRefused, not_input, another, ControlNext, ControlFault, AreFree, IsControlSoFar, CameTo, OrMemory, IsClock, FlatNet, refusal_of, is_gate, data_of, ClockAmong, ClockData, outputs, here as clock_here, AreClockMarks, or_later, Tells, marked_name, clock_named, clock_fault, names_fault, place_of as index_place, has_name, listed, controls, FlatOrder, with_names, input_name, is_control, clock_test, TellsClocks}
+use Rattle.blif_flat.proofs.Common.{◌≡◌, ℕ, ◌+◌, ◌<◌, ◌≤◌, List, [], ◌∷◌, length, drop, drop_of_length-le, Option, Some, None, refl, sym, ap, ◌∙◌, subst, inl, inr, arith, slice_get, same_Some, slice_get_within, at_within, drop_get, Bool, true, false, Result, Ok, Err, ap₂, IfOk, IfErr, option_map, slice_get-map, OrMemory-map, suc, ltb, not, ◌||◌, ◌++◌, map, bytes_eq, filter, IsTrue, option_and_then, ltb-true, ltb-false, lt-ltb, le-ltb, or_parts, cases_Bool, both_ways, none-some, some_then, bytes_decides, list_any-append, list_any-position_none, LibraryValue, position_or_len, net_of_driver, one_net, latch_at-some, flat_all, has_with_names, LatchValue, ModelValue, Path, model_at, inputs_of, LatchAt, input_net, latch_net, cover_net, Drives, IsDriven, IsRead, latch_control, Place, latch_at, is_cover, is_latch, Latch as LatchBody, FlatErr, ClockNotInput, Gate, Instance, places_at, AreInstances, paths_of, IsWritten, Clocks, free, no_input, second, same, IsControl, some_latch, no_latch, NetsValue, table_of, AreAllNets, IsGateAt, AreGatesAt, IsControlled, IsWrittenAt, input_at, IsKeptInput, IsSecond, IsMetInput, IsRefused, not_input, another, ControlNext, ControlFault, IsControlSoFar, CameTo, OrMemory, IsClock, FlatNet, refusal_of, is_gate, data_of, ClockAmong, ClockData, outputs, here as clock_here, AreClockMarks, or_later, Tells, marked_name, clock_named, clock_fault, names_fault, place_of as index_place, has_name, listed, controls, FlatOrder, with_names, input_name, is_control, clock_test, TellsClocks, fun_ext}
 use Rattle.blif_flat.specs.ClockFaults.{stop, none, first as clock_first, later}
 use Rattle.netlist.specs.declared.flat.Net.TheVariants.{Input, Latch, Cover}
 use Rattle.blif_flat.proofs.Clocking.ControlLemmas.{clocks-one}
 use Rattle.blif_flat.proofs.Connections.NetCopyLemmas.{latch_of, cover_of, none_found, input_found, latch_found, cover_found}
 use Rattle.blif_flat.proofs.Hierarchy.GateLemmas.{HasPlace, has_place, flat_places, place_within, latch_place}
 use Rattle.blif_flat.proofs.Hierarchy.InstanceRowLemmas.{paths_of-length}
-use Rattle.blif_flat.proofs.Hierarchy.OrderLemmas.{order_first, order_places}
+use Rattle.blif_flat.proofs.Hierarchy.OrderLemmas.{order_first, rows_order}
 use Rattle.netlist.proofs.PlaceLemmas.{place_of, one_latch}
 
 -- inputs by their numbers
@@ -82,16 +82,13 @@ module _ (library : LibraryValue) (p : Place) (found l : LatchValue) (is : latch
 -- the walk, place by place
 module _ (library : LibraryValue) (places : List Place) where
   module _ (p : Place) (rest : List Place) (l : LatchValue) (at : LatchAt library p.path p.command l) where
-    free_first : l.control ≡ None → AreFree library rest → AreFree library (p ∷ rest)
-    free_first e f = record {
+    free_on : l.control ≡ None → (first : Option (List ℕ)) → IsControlSoFar library places (p ∷ rest) first → IsControlSoFar library places rest first
+    free_on e None h = λ f. h (record {
       each = λ q r i a. elim i [
         | inl s ↦ ap (λ (x : LatchValue). x.control) (one_latch library p.path p.command r l (subst (λ (x : Place). LatchAt library x.path x.command r) s a) at) ∙ e
         | inr j ↦ f.each q r j a
       ];
-    }
-
-    free_on : l.control ≡ None → (first : Option (List ℕ)) → IsControlSoFar library places (p ∷ rest) first → IsControlSoFar library places rest first
-    free_on e None h = λ f. h (free_first e f)
+    })
     free_on e (Some name) h = h
 
     module _ (first : Option (List ℕ)) (came : CameTo library places (p ∷ rest) first) where
@@ -102,16 +99,10 @@ module _ (library : LibraryValue) (places : List Place) where
         control = record { path = p.path; command = p.command; latch = l; at = at; control = control; is = e; drives = m.drives };
       })
 
-      pub came_next : (next : Option (List ℕ)) → ControlNext library p.path l.control first next → CameTo library places rest next
-      came_next next s = step_by l.control next refl s
-
       refused_by : (o : Option (List ℕ)) (fault : FlatErr) → l.control ≡ o → ControlFault library p.path o first fault → Clocks library None places (Some fault)
       refused_by None fault e s = absurd s
       refused_by (Some control) fault e (not_input net text t off w q) = came.clocks (Some fault) (no_input p rest l control net text refl at e t off w (ap Some q))
       refused_by (Some control) fault e (another name earlier t f off q) = came.clocks (Some fault) (second p rest l control name earlier refl at e t f off (ap Some q))
-
-      pub came_refused : (fault : FlatErr) → ControlFault library p.path l.control first fault → Clocks library None places (Some fault)
-      came_refused fault s = refused_by l.control fault refl s
 
 -- gate by gate
 module _ (library : LibraryValue) (instances : List Instance) (are : AreInstances library instances) (latches : List Gate) (ats : AreGatesAt (paths_of instances) latches (places_at library is_latch (paths_of instances)))
@@ -132,23 +123,20 @@ module _ (library : LibraryValue) (instances : List Instance) (are : AreInstance
     pub gate_passed : (next : Option (List ℕ))
         → ((p : Place) (l : LatchValue) → IsGateAt (paths_of instances) g p → LatchAt library p.path p.command l → ControlNext library p.path l.control first next)
         → CameTo library (places_at library is_latch (paths_of instances)) (drop (i + 1) (places_at library is_latch (paths_of instances))) next
-    gate_passed next h = came_next library latch_places next_place.place (drop (i + 1) latch_places) next_latch.0 next_latch.1 first came_first next (h next_place.place next_latch.0 next_place.is next_latch.1)
+    gate_passed next h = step_by library latch_places next_place.place (drop (i + 1) latch_places) next_latch.0 next_latch.1 first came_first next_latch.0.control next refl (h next_place.place next_latch.0 next_place.is next_latch.1)
 
     pub gate_refused : (fault : FlatErr)
         → ((p : Place) (l : LatchValue) → IsGateAt (paths_of instances) g p → LatchAt library p.path p.command l → ControlFault library p.path l.control first fault)
         → Clocks library None (places_at library is_latch (paths_of instances)) (Some fault)
-    gate_refused fault h = came_refused library latch_places next_place.place (drop (i + 1) latch_places) next_latch.0 next_latch.1 first came_first fault (h next_place.place next_latch.0 next_place.is next_latch.1)
+    gate_refused fault h = refused_by library latch_places next_place.place (drop (i + 1) latch_places) next_latch.0 next_latch.1 first came_first next_latch.0.control fault refl (h next_place.place next_latch.0 next_place.is next_latch.1)
 
   pub all_passed : length latches ≤ i → CameTo library (places_at library is_latch (paths_of instances)) [] first
   all_passed h = subst (λ ps. CameTo library latch_places ps first) (drop_of_length-le latch_places (let n = ats.count in omega arith)) came
 
 -- all latches are passed
 module _ (library : LibraryValue) (instances : List Instance) (are : AreInstances library instances) where
-  no_latches : AreFree library []
-  no_latches = record { each = λ p l i a. absurd i }
-
   control_is : (o : Option (List ℕ)) → IsControlSoFar library (places_at library is_latch (paths_of instances)) [] o → IsControl library o
-  control_is None h = no_latch (λ path i l a. (h no_latches).each (place_of path i) l
+  control_is None h = no_latch (λ path i l a. (h (record { each = λ p r i b. absurd i })).each (place_of path i) l
       (flat_all library is_latch are.main (places_at library is_latch (paths_of instances)) are.first (flat_places library instances are is_latch) path a.model i (LatchBody l) a.at a.is refl) a) refl
   control_is (Some name) k = some_latch k.path k.command k.latch k.control name k.at k.is k.drives refl
 
@@ -249,10 +237,6 @@ module _ (library : LibraryValue) (driven : IsDriven library) (instances : List 
 
 -- The inputs of the main model as they are listed, and their marks, which tell the clock nets.
 
--- tests that agree at each name are equal
-same_tests : (f g : List ℕ → Bool) → ((x : List ℕ) → f x ≡ g x) → f ≡ g
-same_tests f g h i x = h x i
-
 -- the first place of a name in joined lists is in the first one exactly where the name is
 both_more : (p n : ℕ) → ltb (1 + p) (suc n) ≡ ltb p n
 both_more p n = elim (cases_Bool (ltb p n)) [
@@ -283,8 +267,7 @@ module _ (m : ModelValue) where
       → map (λ name. has_name clocks name || is_control (option_and_then (slice_get inputs) control) name) inputs ≡ map (clock_test m (input_name m control)) (inputs_of m)
   marked_inputs control given clocks inputs b e f =
       let same : (λ (name : List ℕ). has_name clocks name || is_control (input_name m control) name) ≡ clock_test m (input_name m control) =
-      same_tests (λ name. has_name clocks name || is_control (input_name m control) name) (clock_test m (input_name m control))
-      (λ x. ap (λ t. t || is_control (input_name m control) x) (ap (λ ns. has_name ns x) (e ∙ ap (with_names []) b) ∙ has_with_names [] m.clocks x)) in
+      fun_ext (λ x. ap (λ t. t || is_control (input_name m control) x) (ap (λ ns. has_name ns x) (e ∙ ap (with_names []) b) ∙ has_with_names [] m.clocks x)) in
       ap (λ (xs : List (List ℕ)). map (λ name. has_name clocks name || is_control (option_and_then (slice_get xs) control) name) xs) f ∙ ap (λ (test : List ℕ → Bool). map test (inputs_of m)) same
 
 module _ (library : LibraryValue) (main : ModelValue) (at : model_at library [] ≡ Some main) where
@@ -317,13 +300,9 @@ module _ (library : LibraryValue) (main : ModelValue) (at : model_at library [] 
         let is : control ≡ Some name = no_other control c path i l read name a e d in
         both_ways (bytes_eq name name) (sym (ap (λ o. is_control o name) is) ∙ (or_parts (has_name main.clocks name) (is_control control name) f).1) ((bytes_decides name name).1 refl)
 
-    tests_tell : (control : Option (List ℕ)) → IsControl library control → TellsClocks library (clock_test main control)
-    tests_tell control c = record { yes = test_clock control c; no = clock_tested control c }
-
 -- past the controls, the names that are listed as clocks and the net of the controls are the clock nets
 pub clocks_told : (library : LibraryValue) → IsDriven library → (instances : List Instance) → AreInstances library instances → (main : ModelValue) → model_at library [] ≡ Some main → (control : Option ℕ)
     → IsControlled library main (paths_of instances) control → TellsClocks library (clock_test main (input_name main control))
 clocks_told library driven instances are main at control is =
-    let order : FlatOrder library is_latch [] main (places_at library is_latch (paths_of instances)) =
-    subst (λ m. FlatOrder library is_latch [] m (places_at library is_latch (paths_of instances))) (same_Some are.main main (sym are.first ∙ at)) (order_places library is_latch are.order are.first) in
-    tests_tell library main at driven (paths_of instances) order is.clean (input_name main control) is.is
+    let order = rows_order library instances are is_latch main at in
+    record { yes = test_clock library main at (input_name main control) is.is; no = clock_tested library main at driven (paths_of instances) order is.clean (input_name main control) is.is }

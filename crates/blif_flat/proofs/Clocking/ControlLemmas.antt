@@ -1,23 +1,17 @@
 -- Where the walks of the clocks and of the data find no fault, every latch control has one main input as its net, and no clock net is data; at a sound library they find none.
-use Rattle.blif_flat.proofs.Common.{IsControlNet, ◌≡◌, ◌⊎◌, ℕ, List, [], ◌∷◌, Option, Some, None, refl, sym, ap, ◌∙◌, subst, inl, inr, option_and_then, none-some, same_Some, option_and_then_some, In, In-right, ap₂, subst₂, ◌++◌, LibraryValue, CoverValue, one_net, flat_all, not_empty, same_first, same_rest, Latch, Cover, Subckt, LatchValue, ModelValue, Body, Path, model_at, body_at, LatchAt, CoverAt, Net, input_net, Drives, IsClock, IsDriven, Place, is_latch, FlatOrder, cover_in, latch_in, cover_at, latch_at, FlatErr, SecondClock, ClockNotInput, ClockAsData, Clocks, free, no_input, second, same, is_gate, data_of, ClockAmong, ClockData, outputs, here, data_inputs, IsData, cover_data, latch_data, IsSound, IsWritten}
+use Rattle.blif_flat.proofs.Common.{IsControlNet, ◌≡◌, ◌⊎◌, ℕ, List, [], ◌∷◌, Option, Some, None, refl, sym, ap, ◌∙◌, subst, inl, inr, option_and_then, none-some, same_Some, option_and_then_some, In, In-right, ap₂, subst₂, ◌++◌, LibraryValue, CoverValue, one_net, flat_all, not_empty, same_first, same_rest, Latch, Cover, LatchValue, ModelValue, Body, Path, model_at, body_at, LatchAt, CoverAt, input_net, Drives, IsClock, IsDriven, Place, is_latch, FlatOrder, cover_in, latch_in, cover_at, latch_at, FlatErr, SecondClock, ClockNotInput, ClockAsData, Clocks, free, no_input, second, same, is_gate, data_of, ClockAmong, ClockData, outputs, here, data_inputs, IsData, cover_data, latch_data, IsSound, IsWritten, IsMetInput, ControlNext, ControlFault, not_input, another}
 use Rattle.blif_flat.specs.ClockFaults.{stop, none, first, later}
 use Rattle.netlist.proofs.PlaceLemmas.{place_of, one_latch}
 use Rattle.blif_flat.proofs.Hierarchy.PlaceLemmas.{written_once}
 use Rattle.netlist.proofs.ControlLemmas.{name_of}
 
 module _ (library : LibraryValue) where
-  -- the net of a latch's control is a main input, and the one that was met
-  record IsControlled (net : Option (List ℕ)) (path : Path) (latch : LatchValue) : Type 0 where
-    control : List ℕ
-    is : latch.control ≡ Some control
-    name : List ℕ
-    drives : Drives library path control (input_net name)
-    met : net ≡ Some name
+  same_control : (p : Place) (l m : LatchValue) → LatchAt library p.path p.command l → LatchAt library p.path p.command m → l.control ≡ m.control
+  same_control p l m a b = ap (λ (y : LatchValue). y.control) (one_latch library p.path p.command l m a b)
 
-  record IsUnder (net : Option (List ℕ)) (p : Place) : Type 0 where
-    latch : LatchValue
-    at : LatchAt library p.path p.command latch
-    controlled : (latch.control ≡ None) ⊎ IsControlled net p.path latch
+  -- the control of the latch at a place has a main input as its net, and the one that was met
+  abbrev IsUnder : Option (List ℕ) → Place → Type 0
+  IsUnder net p = (l : LatchValue) (control : List ℕ) → LatchAt library p.path p.command l → l.control ≡ Some control → IsMetInput library p.path control None net
 
   -- one net for all latches of a list, the one that was met before if there was one
   record HaveControl (chosen : Option (List ℕ)) (places : List Place) : Type 0 where
@@ -36,7 +30,7 @@ module _ (library : LibraryValue) where
   have_control {chosen} {places} (stop a q) e = record { net = chosen; keeps = λ name f. f; each = λ p i. absurd (subst (λ l. In l p) a i) }
   have_control {chosen} {places} (free p rest l a at off c) e =
       let r = have_control c e in
-      record { net = r.net; keeps = r.keeps; each = with_place r.net p rest places a (record { latch = l; at = at; controlled = inl off }) r.each }
+      record { net = r.net; keeps = r.keeps; each = with_place r.net p rest places a (λ m own b too. absurd (none-some own (sym off ∙ same_control p l m at b ∙ too))) r.each }
   have_control (no_input p rest l control net text a at is t off w q) e = absurd (none-some (ClockNotInput text) (sym e ∙ q))
   have_control (second p rest l control name earlier a at is t f off q) e = absurd (none-some (SecondClock earlier name) (sym e ∙ q))
   have_control {chosen} {places} (same p rest l control name a at is t f c) e =
@@ -45,29 +39,20 @@ module _ (library : LibraryValue) where
       record {
         net = r.net;
         keeps = keeps_first chosen r.net name f met;
-        each = with_place r.net p rest places a (record { latch = l; at = at; controlled = inr (record { control = control; is = is; name = name; drives = t; met = met }) }) r.each;
+        each = with_place r.net p rest places a (λ m own b too. record {
+          name = name;
+          drives = subst (λ y. Drives library p.path y (input_net name)) (same_Some control own (sym is ∙ same_control p l m at b ∙ too)) t;
+          before = inl refl;
+          after = met;
+        }) r.each;
       }
-
-  -- what it says of a latch whose control is known
-  pub record OfControl (net : Option (List ℕ)) (path : Path) (control : List ℕ) : Type 0 where
-    pub name : List ℕ
-    pub drives : Drives library path control (input_net name)
-    pub met : net ≡ Some name
-
-  of_control : (net : Option (List ℕ)) (path : Path) (i : ℕ) (l : LatchValue) (control : List ℕ) → LatchAt library path i l → l.control ≡ Some control → IsUnder net (place_of path i) → OfControl net path control
-  of_control net path i l control a is u =
-      let twin : (u.latch).control ≡ Some control = ap (λ (y : LatchValue). y.control) (one_latch library path i u.latch l u.at a) ∙ is in
-      elim u.controlled as (λ _. OfControl net path control) [
-        | inl off ↦ absurd (none-some control (sym off ∙ twin))
-        | inr c ↦ record { name = c.name; drives = subst (λ y. Drives library path y (input_net c.name)) (same_Some c.control control (sym c.is ∙ twin)) c.drives; met = c.met }
-      ]
 
   module _ (main : ModelValue) (at : model_at library [] ≡ Some main) (latches : List Place) (order : FlatOrder library is_latch [] main latches) (clocks : Clocks library None latches None) where
     controls_of : HaveControl None latches
     controls_of = have_control clocks refl
 
-    under_net : (path : Path) (i : ℕ) (l : LatchValue) (control : List ℕ) → LatchAt library path i l → l.control ≡ Some control → OfControl controls_of.net path control
-    under_net path i l control a is = of_control controls_of.net path i l control a is (controls_of.each (place_of path i) (flat_all library is_latch main latches at order path a.model i (Latch l) a.at a.is refl))
+    under_net : (path : Path) (i : ℕ) (l : LatchValue) (control : List ℕ) → LatchAt library path i l → l.control ≡ Some control → IsMetInput library path control None controls_of.net
+    under_net path i l control a is = controls_of.each (place_of path i) (flat_all library is_latch main latches at order path a.model i (Latch l) a.at a.is refl) l control a is
 
     -- no F8
     pub clocks-input : (path : Path) (i : ℕ) (l : LatchValue) (control : List ℕ) → LatchAt library path i l → l.control ≡ Some control → (name : List ℕ) × Drives library path control (input_net name)
@@ -79,7 +64,7 @@ module _ (library : LibraryValue) where
     clocks-one driven path other i j l r control own name last a b is too t u =
         let x = under_net path i l control a is in
         let y = under_net other j r own b too in
-        ap name_of (one_net library driven t x.drives) ∙ same_Some x.name y.name (sym x.met ∙ y.met) ∙ ap name_of (one_net library driven y.drives u)
+        ap name_of (one_net library driven t x.drives) ∙ same_Some x.name y.name (sym x.after ∙ y.after) ∙ ap name_of (one_net library driven y.drives u)
 
   -- the net of no name of a list is a clock
   pub among_none : {path : Path} {names : List (List ℕ)} {result : Option FlatErr} → ClockAmong library path names result → result ≡ None
@@ -95,43 +80,40 @@ module _ (library : LibraryValue) where
   latch-data path i l a = rw (a.at, a.is) refl
 
   module _ (main : ModelValue) where
-    outputs_clear : {places : List Place} {result : Option FlatErr} → ClockData library main places result → result ≡ None → ClockAmong library [] main.outputs None
-    outputs_clear (outputs a c) e = subst (ClockAmong library [] main.outputs) e c
-    outputs_clear (here p rest fault a c q) e = absurd (none-some fault (sym e ∙ q))
-    outputs_clear (later p rest a c d) e = outputs_clear d e
-
-    gates_clear : {places : List Place} {result : Option FlatErr} → ClockData library main places result → result ≡ None → (p : Place) → In places p → ClockAmong library p.path (data_of library p) None
-    gates_clear (outputs a c) e p i = absurd (subst (λ l. In l p) a i)
-    gates_clear (here q rest fault a c f) e p i = absurd (none-some fault (sym e ∙ f))
-    gates_clear (later q rest a c d) e p i = elim (subst (λ l. In l p) a i) as (λ _. ClockAmong library p.path (data_of library p) None) [
-      | inl s ↦ subst (λ (y : Place). ClockAmong library y.path (data_of library y) None) (sym s) c
-      | inr j ↦ gates_clear d e p j
-    ]
+    all_clear : {places : List Place} {result : Option FlatErr} → ClockData library main places result → result ≡ None
+        → ClockAmong library [] main.outputs None × ((p : Place) → In places p → ClockAmong library p.path (data_of library p) None)
+    all_clear (outputs a c) e = (subst (ClockAmong library [] main.outputs) e c, (λ p i. absurd (subst (λ l. In l p) a i)))
+    all_clear (here q rest fault a c f) e = absurd (none-some fault (sym e ∙ f))
+    all_clear (later q rest a c d) e = let r = all_clear d e in (
+      r.0,
+      (λ p i. elim (subst (λ l. In l p) a i) as (λ _. ClockAmong library p.path (data_of library p) None) [
+        | inl s ↦ subst (λ (y : Place). ClockAmong library y.path (data_of library y) None) (sym s) c
+        | inr j ↦ r.1 p j
+      ]),
+    )
 
     -- no F9 at the outputs
     pub data-output : {places : List Place} → ClockData library main places None → (name net : List ℕ) → In main.outputs name → Drives library [] name (input_net net) → IsClock library net → ⊥
-    data-output d = among_none (outputs_clear d refl) refl
+    data-output d = among_none (all_clear d refl).0 refl
 
     -- nor at the covers and latches
     module _ (at : model_at library [] ≡ Some main) (gates : List Place) (order : FlatOrder library is_gate [] main gates) (data_is : ClockData library main gates None) where
       pub data-clock : (path : Path) (name net : List ℕ) → IsData library path name → Drives library path name (input_net net) → IsClock library net → ⊥
       data-clock path name net (cover_data i c a j) =
-          among_none (gates_clear data_is refl (place_of path i) (flat_all library is_gate main gates at order path a.model i (Cover c) a.at a.is refl)) refl name net
+          among_none ((all_clear data_is refl).1 (place_of path i) (flat_all library is_gate main gates at order path a.model i (Cover c) a.at a.is refl)) refl name net
           (subst (λ l. In l name) (sym (cover-data path i c a)) j)
       data-clock path name net (latch_data i l a e) =
-          among_none (gates_clear data_is refl (place_of path i) (flat_all library is_gate main gates at order path a.model i (Latch l) a.at a.is refl)) refl name net
+          among_none ((all_clear data_is refl).1 (place_of path i) (flat_all library is_gate main gates at order path a.model i (Latch l) a.at a.is refl)) refl name net
           (subst (λ l. In l name) (sym (latch-data path i l a)) (inl e))
 
   -- what is found at a place stands there
   cover_body : (path : Path) (i : ℕ) (m : ModelValue) → model_at library path ≡ Some m → (b : Body) → body_at m i ≡ Some b → (c : CoverValue) → cover_in b ≡ Some c → CoverAt library path i c
   cover_body path i m at (Cover k) e c f = record { model = m; at = at; is = e ∙ ap (λ y. Some (Cover y)) (same_Some k c f) }
-  cover_body path i m at (Latch l) e c f = absurd (none-some c f)
-  cover_body path i m at (Subckt s) e c f = absurd (none-some c f)
+  cover_body path i m at b e c f = absurd (none-some c f)
 
   latch_body : (path : Path) (i : ℕ) (m : ModelValue) → model_at library path ≡ Some m → (b : Body) → body_at m i ≡ Some b → (l : LatchValue) → latch_in b ≡ Some l → LatchAt library path i l
   latch_body path i m at (Latch k) e l f = record { model = m; at = at; is = e ∙ ap (λ y. Some (Latch y)) (same_Some k l f) }
-  latch_body path i m at (Cover c) e l f = absurd (none-some l f)
-  latch_body path i m at (Subckt s) e l f = absurd (none-some l f)
+  latch_body path i m at b e l f = absurd (none-some l f)
 
   pub is_cover_at : (p : Place) (c : CoverValue) → cover_at library p ≡ Some c → CoverAt library p.path p.command c
   is_cover_at p c e = option_and_then_some (λ (m : ModelValue). option_and_then cover_in (body_at m p.command)) (model_at library p.path) c e (λ m a b.
@@ -182,26 +164,23 @@ module _ (library : LibraryValue) where
 
 -- The walks of the clocks and of the data have one result each.
 module _ (library : LibraryValue) (driven : IsDriven library) where
-  -- the walk behind a latch whose control has this net
-  data Behind (chosen : Option (List ℕ)) (net : Net) (rest : List Place) (result : Option FlatErr) : Type 0 where
-    at_none : (text : List ℕ) → ((name : List ℕ) → net ≡ input_net name → ⊥) → IsWritten library net text → result ≡ Some (ClockNotInput text) → Behind chosen net rest result
-    at_other : (name earlier : List ℕ) → net ≡ input_net name → chosen ≡ Some earlier → (name ≡ earlier → ⊥) → result ≡ Some (SecondClock earlier name) → Behind chosen net rest result
-    at_same : (name : List ℕ) → net ≡ input_net name → (chosen ≡ None) ⊎ (chosen ≡ Some name) → Clocks library (Some name) rest result → Behind chosen net rest result
-
-  -- the walk at a latch
+  -- the walk at a latch goes on or is refused
   data Step (chosen : Option (List ℕ)) (p : Place) (rest : List Place) (result : Option FlatErr) : Type 0 where
-    is_free : (l : LatchValue) → LatchAt library p.path p.command l → l.control ≡ None → Clocks library chosen rest result → Step chosen p rest result
-    has_net : (l : LatchValue) (control : List ℕ) (net : Net) → LatchAt library p.path p.command l → l.control ≡ Some control → Drives library p.path control net → Behind chosen net rest result → Step chosen p rest result
+    goes_on : (l : LatchValue) (next : Option (List ℕ)) → LatchAt library p.path p.command l → ControlNext library p.path l.control chosen next → Clocks library next rest result → Step chosen p rest result
+    is_refused : (l : LatchValue) (fault : FlatErr) → LatchAt library p.path p.command l → ControlFault library p.path l.control chosen fault → result ≡ Some fault → Step chosen p rest result
 
   moved : {chosen : Option (List ℕ)} {places : List Place} {result : Option FlatErr} (q p : Place) (others rest : List Place) → places ≡ q ∷ others → places ≡ p ∷ rest → Step chosen q others result → Step chosen p rest result
   moved {chosen} {places} {result} q p others rest a b s = subst₂ (λ (x : Place) (y : List Place). Step chosen x y result) (same_first q p others rest a b) (same_rest q p others rest a b) s
 
   step_of : {chosen : Option (List ℕ)} {places : List Place} {result : Option FlatErr} → Clocks library chosen places result → (p : Place) (rest : List Place) → places ≡ p ∷ rest → Step chosen p rest result
   step_of (stop a q) p rest e = absurd (not_empty p rest a e)
-  step_of (free q others l a at off c) p rest e = moved q p others rest a e (is_free l at off c)
-  step_of (no_input q others l control net text a at is t off w r) p rest e = moved q p others rest a e (has_net l control net at is t (at_none text off w r))
-  step_of (second q others l control name earlier a at is t f off r) p rest e = moved q p others rest a e (has_net l control (input_net name) at is t (at_other name earlier refl f off r))
-  step_of (same q others l control name a at is t f c) p rest e = moved q p others rest a e (has_net l control (input_net name) at is t (at_same name refl f c))
+  step_of {chosen} (free q others l a at off c) p rest e = moved q p others rest a e (goes_on l chosen at (subst (λ o. ControlNext library q.path o chosen chosen) (sym off) refl) c)
+  step_of {chosen} (no_input q others l control net text a at is t off w r) p rest e = moved q p others rest a e (is_refused l (ClockNotInput text) at
+      (subst (λ o. ControlFault library q.path o chosen (ClockNotInput text)) (sym is) (not_input net text t off w refl)) r)
+  step_of {chosen} (second q others l control name earlier a at is t f off r) p rest e = moved q p others rest a e (is_refused l (SecondClock earlier name) at
+      (subst (λ o. ControlFault library q.path o chosen (SecondClock earlier name)) (sym is) (another name earlier t f off refl)) r)
+  step_of {chosen} (same q others l control name a at is t f c) p rest e = moved q p others rest a e (goes_on l (Some name) at
+      (subst (λ o. ControlNext library q.path o chosen (Some name)) (sym is) (record { name = name; drives = t; before = f; after = refl })) c)
 
   end_of : {chosen : Option (List ℕ)} {places : List Place} {result : Option FlatErr} → Clocks library chosen places result → places ≡ [] → result ≡ None
   end_of (stop a q) e = q
@@ -213,40 +192,39 @@ module _ (library : LibraryValue) (driven : IsDriven library) where
   abbrev Once : List Place → Type 0
   Once places = (chosen : Option (List ℕ)) (result other : Option FlatErr) → Clocks library chosen places result → Clocks library chosen places other → result ≡ other
 
-  no_second : (chosen : Option (List ℕ)) (name earlier : List ℕ) → chosen ≡ Some earlier → (name ≡ earlier → ⊥) → (chosen ≡ None) ⊎ (chosen ≡ Some name) → ⊥
-  no_second chosen name earlier f off (inl e) = none-some earlier (sym e ∙ f)
-  no_second chosen name earlier f off (inr e) = off (same_Some name earlier (sym e ∙ f))
+  same_input : (path : Path) (control name other : List ℕ) → Drives library path control (input_net name) → Drives library path control (input_net other) → name ≡ other
+  same_input path control name other t u = ap name_of (one_net library driven t u)
 
-  same_input : (net : Net) (name other : List ℕ) → net ≡ input_net name → net ≡ input_net other → name ≡ other
-  same_input net name other p q = ap name_of (sym p ∙ q)
+  next_once : (path : Path) (o chosen next other : Option (List ℕ)) → ControlNext library path o chosen next → ControlNext library path o chosen other → next ≡ other
+  next_once path None chosen next other m n = m ∙ sym n
+  next_once path (Some control) chosen next other m n = m.after ∙ ap Some (same_input path control m.name n.name m.drives n.drives) ∙ sym n.after
 
-  module _ (rest : List Place) (once : Once rest) where
-    behind_once : (chosen : Option (List ℕ)) (net : Net) (result other : Option FlatErr) → Behind chosen net rest result → Behind chosen net rest other → result ≡ other
-    behind_once chosen net result other (at_none text off w q) (at_none last on v r) = q ∙ ap (λ t. Some (ClockNotInput t)) (written_once library net text last w v) ∙ sym r
-    behind_once chosen net result other (at_none text off w q) (at_other name earlier e f on r) = absurd (off name e)
-    behind_once chosen net result other (at_none text off w q) (at_same name e f c) = absurd (off name e)
-    behind_once chosen net result other (at_other name earlier e f off q) (at_none text on w r) = absurd (on name e)
-    behind_once chosen net result other (at_same name e f c) (at_none text on w r) = absurd (on name e)
-    behind_once chosen net result other (at_other name earlier e f off q) (at_other last before d g on r) =
-        q ∙ ap₂ (λ (x y : List ℕ). Some (SecondClock x y)) (same_Some earlier before (sym f ∙ g)) (same_input net name last e d) ∙ sym r
-    behind_once chosen net result other (at_other name earlier e f off q) (at_same last d g c) =
-        absurd (no_second chosen name earlier f off (subst (λ y. (chosen ≡ None) ⊎ (chosen ≡ Some y)) (same_input net last name d e) g))
-    behind_once chosen net result other (at_same last d g c) (at_other name earlier e f off q) =
-        absurd (no_second chosen name earlier f off (subst (λ y. (chosen ≡ None) ⊎ (chosen ≡ Some y)) (same_input net last name d e) g))
-    behind_once chosen net result other (at_same name e f c) (at_same last d g k) =
-        once (Some name) result other c (subst (λ y. Clocks library (Some y) rest other) (same_input net last name d e) k)
+  fault_once : (path : Path) (o chosen : Option (List ℕ)) (fault other : FlatErr) → ControlFault library path o chosen fault → ControlFault library path o chosen other → fault ≡ other
+  fault_once path None chosen fault other a b = absurd a
+  fault_once path (Some control) chosen fault other (not_input net text t off w q) (not_input own last u on v r) =
+      q ∙ ap ClockNotInput (written_once library own text last (subst (λ n. IsWritten library n text) (one_net library driven t u) w) v) ∙ sym r
+  fault_once path (Some control) chosen fault other (not_input net text t off w q) (another name earlier u f on r) = absurd (off name (one_net library driven t u))
+  fault_once path (Some control) chosen fault other (another name earlier t f off q) (not_input net text u on w r) = absurd (on name (one_net library driven u t))
+  fault_once path (Some control) chosen fault other (another name earlier t f off q) (another last before u g on r) =
+      q ∙ ap₂ (λ (x y : List ℕ). SecondClock x y) (same_Some earlier before (sym f ∙ g)) (same_input path control name last t u) ∙ sym r
 
-    same_control_net : (p : Place) (l m : LatchValue) → LatchAt library p.path p.command l → LatchAt library p.path p.command m → l.control ≡ m.control
-    same_control_net p l m a b = ap (λ (y : LatchValue). y.control) (one_latch library p.path p.command l m a b)
+  next_or_fault : (path : Path) (o chosen next : Option (List ℕ)) (fault : FlatErr) → ControlNext library path o chosen next → ControlFault library path o chosen fault → ⊥
+  next_or_fault path None chosen next fault m r = r
+  next_or_fault path (Some control) chosen next fault m (not_input net text t off w q) = off m.name (one_net library driven t m.drives)
+  next_or_fault path (Some control) chosen next fault m (another name earlier t f off q) = elim m.before [
+    | inl e ↦ none-some earlier (sym e ∙ f)
+    | inr e ↦ off (same_input path control name m.name t m.drives ∙ same_Some m.name earlier (sym e ∙ f))
+  ]
 
-    step_once : (chosen : Option (List ℕ)) (p : Place) (result other : Option FlatErr) → Step chosen p rest result → Step chosen p rest other → result ≡ other
-    step_once chosen p result other (is_free l a off c) (is_free m b on k) = once chosen result other c k
-    step_once chosen p result other (is_free l a off c) (has_net m control net b is t h) = absurd (none-some control (sym off ∙ same_control_net p l m a b ∙ is))
-    step_once chosen p result other (has_net m control net b is t h) (is_free l a off c) = absurd (none-some control (sym off ∙ same_control_net p l m a b ∙ is))
-    step_once chosen p result other (has_net l control net a is t h) (has_net m own last b too u k) =
-        let e : own ≡ control = same_Some own control (sym too ∙ same_control_net p m l b a ∙ is) in
-        let n : last ≡ net = one_net library driven (subst (λ y. Drives library p.path y last) e u) t in
-        behind_once chosen net result other h (subst (λ y. Behind chosen y rest other) n k)
+  step_once : (rest : List Place) → Once rest → (chosen : Option (List ℕ)) (p : Place) (result other : Option FlatErr) → Step chosen p rest result → Step chosen p rest other → result ≡ other
+  step_once rest once chosen p result other (goes_on l next a m c) (goes_on k last b n d) =
+      once next result other c (subst (λ x. Clocks library x rest other) (next_once p.path l.control chosen last next (subst (λ o. ControlNext library p.path o chosen last) (same_control library p k l b a) n) m) d)
+  step_once rest once chosen p result other (goes_on l next a m c) (is_refused k f b n q) =
+      absurd (next_or_fault p.path l.control chosen next f m (subst (λ o. ControlFault library p.path o chosen f) (same_control library p k l b a) n))
+  step_once rest once chosen p result other (is_refused k f b n q) (goes_on l next a m c) =
+      absurd (next_or_fault p.path l.control chosen next f m (subst (λ o. ControlFault library p.path o chosen f) (same_control library p k l b a) n))
+  step_once rest once chosen p result other (is_refused l f a m q) (is_refused k g b n r) =
+      q ∙ ap Some (fault_once p.path l.control chosen f g m (subst (λ o. ControlFault library p.path o chosen g) (same_control library p k l b a) n)) ∙ sym r
 
   pub clocks_once : (places : List Place) (chosen : Option (List ℕ)) (result other : Option FlatErr) → Clocks library chosen places result → Clocks library chosen places other → result ≡ other
   clocks_once [] chosen result other c k = end_of c refl ∙ sym (end_of k refl)

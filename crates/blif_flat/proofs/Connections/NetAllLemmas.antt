@@ -1,5 +1,5 @@
 -- How the instances of rows are connected: an inner one by the line that places it, and the main model's own by none.
-use Rattle.blif_flat.proofs.Common.{◌≡◌, ℕ, zero, suc, ◌<◌, List, [], ◌∷◌, ◌++◌, length, map, Option, Some, None, refl, sym, ap, ◌∙◌, subst, inl, inr, arith, slice_get, option_and_then, none-some, same_Some, slice_get_within, In, In-left, In-right, In-map, at_within, item_there, ◌≤◌, get_or, IsTrue, or_cases, slice_get_read, apart_once, Body, Cover, Latch, Subckt, Command, Pair, ModelValue, Path, with_subckt, subckts_of, model_at, ConnectionAt, Instance, path_of, paths_of, IsRow, AreInstances, body_names, commands_names, all_names, Link, line_of, link_of, link_under, link_at, has_name, is_input, is_output, inputs_of, IsDriven, is_cover, is_latch, Gate, places_at, AreGatesAt, IsSoundTable, HasOwn, HasOutputs, HasInputs, AreNetsAt, net_places, HasSlots, AreEmptyNets, IsNext, AreAllNets, NetsValue, table_of, IsNets, output_of_cover, output_of_latch, with_covers, with_latches, with_inputs, linked_out, linked_in, formal_of, actual_of, links_out, links_in, AreLinesOf, IsWellFormed, Ports, ports_value, IsLight, SubcktValue, LibraryValue, Places, Inside, inside, child_at, has_in}
+use Rattle.blif_flat.proofs.Common.{◌≡◌, ℕ, zero, suc, ◌<◌, List, [], ◌∷◌, ◌++◌, length, map, Option, Some, None, refl, sym, ap, ◌∙◌, subst, inl, inr, arith, slice_get, option_and_then, none-some, same_Some, slice_get_within, In, In-left, In-right, In-map, at_within, item_there, ◌≤◌, get_or, IsTrue, or_cases, slice_get_read, apart_once, Body, Cover, Latch, Subckt, Command, Pair, ModelValue, Path, with_subckt, subckts_of, model_at, ConnectionAt, Instance, path_of, paths_of, IsRow, AreInstances, body_names, commands_names, Link, line_of, link_of, link_under, link_at, has_name, is_input, is_output, inputs_of, IsDriven, is_cover, is_latch, Gate, places_at, AreGatesAt, IsSoundTable, HasOwn, HasOutputs, HasInputs, AreNetsAt, net_places, HasSlots, AreEmptyNets, IsNext, AreAllNets, NetsValue, table_of, IsNets, output_of_cover, output_of_latch, with_covers, with_latches, with_inputs, linked_out, linked_in, formal_of, actual_of, links_out, links_in, AreLinesOf, IsWellFormed, Ports, ports_value, IsLight, SubcktValue, LibraryValue, Places, Inside, inside, child_at, has_in}
 use Rattle.netlist.specs.declared.flat.Net.TheVariants.{Latch as LatchNumber, Cover as CoverNumber}
 use Rattle.blif_flat.proofs.Connections.NetCopyLemmas.{sound_empty, own_kept, inputs_start, outputs_start, inputs_step, outputs_step, next_same, next_on, pairs_next, pairs_known, IsConnection, passes_out, passes_in}
 use Rattle.blif_flat.proofs.Connections.NetLemmas.{HasParent, has_parent, formal_known, actual_known, table_found}
@@ -295,11 +295,7 @@ module _ (library : LibraryValue) (main : ModelValue) (instances : List Instance
       table = λ m e. subst (λ x. AreNetsAt library (net_places library x (paths_of instances)) (paths_of instances) (table_of pushed)) (same_Some main m (sym first ∙ e)) pushed_found.1;
     }
 
--- the main model is the first one, and its ports are the first ones
-main_first : (library : LibraryValue) (models : List ModelValue) (main : ModelValue) → models ≡ library.models → 0 < length library.models → main ≡ get_or models 0 main → model_at library [] ≡ Some main
-main_first library models main e h f =
-    subst (λ ms. slice_get ms 0 ≡ Some main) e (slice_get_read models (length models) 0 main refl (omega (arith, ap length e)) f)
-
+-- the first ports are those of the first model
 ports_first : (models : List ModelValue) (main : ModelValue) (p : Ports) → slice_get models 0 ≡ Some main → p ≡ get_or (map ports_value models) 0 p → p ≡ ports_value main
 ports_first [] main p e f = absurd (none-some main e)
 ports_first (m ∷ models) main p e f = f ∙ ap ports_value (same_Some m main e)
@@ -307,7 +303,7 @@ ports_first (m ∷ models) main p e f = f ∙ ap ports_value (same_Some m main e
 module _ (library : LibraryValue) (instances : List Instance) (models : List ModelValue) (main : ModelValue) (ports : List Ports) (p : Ports) (empty : NetsValue) (formed : IsWellFormed library) (are : AreInstances library instances)
     (ports_are : ports ≡ map ports_value library.models) (start : AreEmptyNets library (paths_of instances) empty) (models_are : models ≡ library.models) (main_is : main ≡ get_or models 0 main) (p_is : p ≡ get_or ports 0 p) where
   main_at : model_at library [] ≡ Some main
-  main_at = main_first library models main models_are formed.some main_is
+  main_at = subst (λ ms. slice_get ms 0 ≡ Some main) models_are (slice_get_read models (length models) 0 main refl (omega (arith, ap length models_are, formed.some)) main_is)
 
   inputs_are : p.inputs ≡ inputs_of main
   inputs_are = ap (λ (x : Ports). x.inputs) (ports_first library.models main p main_at (p_is ∙ ap (λ ps. get_or ps 0 p) ports_are))

@@ -1,5 +1,5 @@
 -- Slots of nets: the slot of a name, and the table when one more slot is filled.
-use Rattle.blif_flat.proofs.Common.{◌≡◌, ℕ, ◌+◌, ◌<◌, ◌≤◌, Bool, eqb, List, length, Option, Some, None, refl, sym, ap, ◌∙◌, inl, inr, bytes_eq, arith, slice_get, slice_set, ◌&&◌, option_map, option_and_then, get_or, slice_get_read, cases_Bool, cases_lt, both_ways, cond-true, cond-false, and_parts, and_from, bytes_decides, set_here, set_other, set_length, [], subst, zero, suc, ◌∷◌, ◌⊎◌, IsTrue, none-some, same_Some, slice_get_within, In, place_of, Pair, FlatNet, Start, with_net, NetsValue, name_place, slot_number, slot_at, table_of, with_slot, with_found, copied, pair_copied, pairs_copied, IsNets, most_weight, ModelValue, Path, model_at, inputs_of, Net, input_net, latch_net, cover_net, Drives, Place, is_cover, is_latch, Instance, places_at, AreInstances, paths_of, IsNumbered, an_input, a_latch, a_cover, net_places, IsNetFound, AreAllNets, is_input, is_output, ConnectionAt, IsNetOf, IsSoundTable, HasOwn, HasOutputs, HasInputs, IsKeptIn, IsNext, LibraryValue, Places, eqb-true, eq-eqb}
+use Rattle.blif_flat.proofs.Common.{◌≡◌, ℕ, ◌+◌, ◌<◌, ◌≤◌, Bool, eqb, List, length, Option, Some, None, refl, sym, ap, ◌∙◌, inl, inr, bytes_eq, arith, slice_get, slice_set, ◌&&◌, option_map, option_and_then, get_or, slice_get_read, cases_Bool, cases_lt, both_ways, cond-true, cond-false, and_parts, and_from, bytes_decides, set_here, set_other, set_length, [], subst, suc, ◌∷◌, ◌⊎◌, IsTrue, none-some, same_Some, slice_get_within, In, place_of, Pair, FlatNet, Start, with_net, NetsValue, name_place, slot_number, slot_at, table_of, with_slot, with_found, copied, pair_copied, pairs_copied, IsNets, most_weight, ModelValue, Path, model_at, inputs_of, Net, input_net, latch_net, cover_net, Drives, Place, is_cover, is_latch, Instance, places_at, AreInstances, paths_of, IsNumbered, an_input, a_latch, a_cover, net_places, IsNetFound, AreAllNets, is_input, is_output, ConnectionAt, IsNetOf, IsSoundTable, HasOwn, HasOutputs, HasInputs, IsKeptIn, IsNext, LibraryValue, Places, eqb-true, eq-eqb}
 use Rattle.netlist.specs.declared.flat.Net.TheVariants.{Input, Latch, Cover}
 use Rattle.blif_flat.proofs.Connections.NetLemmas.{outer_number, inner_number}
 
@@ -113,11 +113,9 @@ abbrev Table : Type 0
 Table = ℕ → List ℕ → Option FlatNet
 
 -- a number that is put in stands there, and nothing is lost
-pub with_net-here : (table : Table) (i : ℕ) (name : List ℕ) (number : FlatNet) → with_net table i name number i name ≡ Some number
-with_net-here table i name number = cond-true (eqb i i && bytes_eq name name) (Some number) (table i name) (and_from (eqb i i) (bytes_eq name name) (eq-eqb i i refl) ((bytes_decides name name).1 refl))
-
 pub with_net-known : (table : Table) (i : ℕ) (name : List ℕ) (number : FlatNet) → with_net table i name number i name ≡ None → ⊥
-with_net-known table i name number = λ b. none-some number (sym b ∙ (with_net-here table i name number))
+with_net-known table i name number =
+    λ b. none-some number (sym b ∙ cond-true (eqb i i && bytes_eq name name) (Some number) (table i name) (and_from (eqb i i) (bytes_eq name name) (eq-eqb i i refl) ((bytes_decides name name).1 refl)))
 
 pub with_net-kept : (table : Table) (i : ℕ) (name : List ℕ) (number : FlatNet) → IsKeptIn table (with_net table i name number)
 with_net-kept table i name number = record {
@@ -126,9 +124,6 @@ with_net-kept table i name number = record {
     | inr f ↦ (λ n. known (sym (cond-false (eqb j i && bytes_eq other name) (Some number) (table j other) f) ∙ n))
   ];
 }
-
-pub kept_on : (table middle next : Table) → IsKeptIn table middle → IsKeptIn middle next → IsKeptIn table next
-kept_on table middle next a b = record { each = λ i name known. b.each i name (a.each i name known) }
 
 module _ (library : LibraryValue) (at : Places) (paths : List Path) where
   -- a right number may be put in
@@ -235,7 +230,7 @@ module _ (library : LibraryValue) (at : Places) (paths : List Path) where
   next_same n is sound = record { nets = is; sound = sound; kept = record { each = λ i name known. known }; slots = λ j other. refl }
 
   pub next_on : (n middle next : NetsValue) → IsNext library at paths n middle → IsNext library at paths middle next → IsNext library at paths n next
-  next_on n middle next a b = record { nets = b.nets; sound = b.sound; kept = kept_on (table_of n) (table_of middle) (table_of next) a.kept b.kept; slots = λ j other. b.slots j other ∙ a.slots j other }
+  next_on n middle next a b = record { nets = b.nets; sound = b.sound; kept = record { each = λ i name known. b.kept.each i name (a.kept.each i name known) }; slots = λ j other. b.slots j other ∙ a.slots j other }
 
   -- nets are copied from an instance to another one along pairs of a kind, in which the net of the one name is that of the other
   module _ (test : List ℕ → Bool) (source target : Pair → List ℕ) (from to : ℕ) (there here : Path) (at_from : slice_get paths from ≡ Some there) (at_to : slice_get paths to ≡ Some here)

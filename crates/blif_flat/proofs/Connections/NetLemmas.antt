@@ -1,14 +1,9 @@
 -- Each driven name has one net, where no name is driven twice and each connection has a driver.
-use Rattle.blif_flat.proofs.Common.{◌≡◌, ℕ, List, [], ◌∷◌, Option, Some, None, refl, sym, ap, ◌∙◌, subst, inl, inr, IsTrue, none-some, same_Some, zero, suc, ◌+◌, ◌<◌, ◌≤◌, Bool, true, ◌++◌, length, take, arith, slice_get, option_and_then, cases_Bool, cond-true, length-append, slice_get_within, apart_once, place_in, get_left, item_there, Pair, ModelValue, Path, model_at, is_input, is_output, ConnectionAt, Net, input_net, Drives, main_input, from_inside, from_outside, Driver, by_input, IsDriver, input, latch, cover, output, input_actual, model_output, IsDriven, Body, Command, inputs_of, Place, own_places, Instance, FlatNet, itself, model_places, places_at, path_under, path_of, paths_of, IsRow, AreInstances, an_input, IsNetOf, net_places, IsNetFound, AreNetsAt, IsSoundTable, HasOwn, HasOutputs, HasInputs, kind_count, base_of, own_number, LibraryValue, get_right, Places, order_all, driver_of, Input as InputNumber}
+use Rattle.blif_flat.proofs.Common.{◌≡◌, ℕ, List, [], ◌∷◌, Option, Some, None, refl, sym, ap, ◌∙◌, subst, inl, inr, IsTrue, none-some, same_Some, zero, suc, ◌+◌, ◌<◌, ◌≤◌, Bool, true, ◌++◌, length, take, arith, slice_get, option_and_then, cases_Bool, cond-true, length-append, slice_get_within, apart_once, place_in, get_left, item_there, Pair, ModelValue, Path, model_at, is_input, is_output, ConnectionAt, input_net, main_input, from_inside, from_outside, Driver, by_input, IsDriver, input, latch, cover, output, input_actual, model_output, IsDriven, Body, Command, inputs_of, Place, own_places, Instance, FlatNet, itself, model_places, places_at, path_under, path_of, paths_of, IsRow, AreInstances, an_input, IsNetOf, net_places, IsNetFound, AreNetsAt, IsSoundTable, HasOwn, HasOutputs, HasInputs, kind_count, base_of, own_number, LibraryValue, get_right, Places, order_all, driver_of, Input as InputNumber}
 use Rattle.blif_flat.proofs.Hierarchy.InstanceRowLemmas.{paths_of-length}
 use Rattle.blif_flat.proofs.Hierarchy.OrderLemmas.{instances_apart}
 use Rattle.netlist.proofs.PlaceLemmas.{child_at, place_of}
 use Rattle.netlist.proofs.NetLemmas.{no_input}
-
-module _ (library : LibraryValue) (driven : IsDriven library) where
-  -- a name that has a net has a driver
-  pub has_its_driver : {path : Path} {name : List ℕ} {net : Net} → Drives library path name net → (driver : Driver) × IsDriver library path name driver
-  has_its_driver t = let r = driver_of library driven t in (r.0, r.1)
 
 -- Tables of nets: what stands where, how one is filled, and that the filled one has every net.
 
@@ -30,11 +25,6 @@ own_at kind path i (d ∷ cs) (suc j) c e t =
       | inr y ↦ (let none : count ≡ 0 + count = omega arith in
           rw y (subst (λ x. slice_get (own_places kind path (suc i) cs) x ≡ Some (place_of path (i + suc j))) none r))
     ]
-
--- a test that holds at None leaves a number
-pub is_some_of : {A : Type 0} (o : Option A) → (o ≡ None → ⊥) → (x : A) × (o ≡ Some x)
-is_some_of None h = absurd (h refl)
-is_some_of (Some x) h = (x, refl)
 
 module _ (library : LibraryValue) where
   -- the instances before one have its base as the number of their places, and its own ones stand behind them
@@ -143,15 +133,10 @@ module _ (library : LibraryValue) (instances : List Instance) (are : AreInstance
           let d = driven.driven path pair.actual (input_actual k pair a is refl) in any_known t inputs i path pair.actual d.0 h e d.1
 
       -- complete: a name without a number is driven by nothing
-      pub none_drives : HasInputs library (paths_of instances) table (length (paths_of instances)) → (i : ℕ) (path : Path) (name : List ℕ) → slice_get (paths_of instances) i ≡ Some path → table i name ≡ None
-          → (net : Net) → Drives library path name net → ⊥
-      none_drives inputs i path name e n net t =
-          let d = has_its_driver library driven t in
-          any_known (length (paths_of instances)) inputs i path name d.0 (slice_get_within (paths_of instances) i path e) e d.1 n
-
       found : (at : Places) → IsSoundTable library at (paths_of instances) table → HasInputs library (paths_of instances) table (length (paths_of instances)) → (i : ℕ) (path : Path) (name : List ℕ) → slice_get (paths_of instances) i ≡ Some path
           → (o : Option FlatNet) → table i name ≡ o → IsNetFound library at path name o
-      found at sound inputs i path name e None n = none_drives inputs i path name e n
+      found at sound inputs i path name e None n = λ net t. (let d = driver_of library driven t in
+          any_known (length (paths_of instances)) inputs i path name d.0 (slice_get_within (paths_of instances) i path e) e d.1 n)
       found at sound inputs i path name e (Some number) n = sound.each i path name number e n
 
       pub table_found : (at : Places) → IsSoundTable library at (paths_of instances) table → HasInputs library (paths_of instances) table (length (paths_of instances)) → AreNetsAt library at (paths_of instances) table

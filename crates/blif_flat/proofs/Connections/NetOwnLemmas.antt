@@ -1,9 +1,9 @@
 -- The covers and latches of all instances are put in at their outputs: the table stays right, and their outputs stand in it.
-use Rattle.blif_flat.proofs.Common.{◌≡◌, ℕ, zero, suc, ◌+◌, Bool, List, [], ◌∷◌, ◌++◌, Option, Some, None, refl, sym, ap, ◌∙◌, subst, inl, inr, arith, slice_get, IsTrue, option_and_then, apart_once, none-some, same_Some, option_and_then_some, In, In-left, In-right, item_there, true, is_some, or_cases, false≢true, In-get, CoverValue, LibraryValue, Places, place_is, has_in, in_has, in_input, input_in, place_some, Net, Place, Drives, Body, Cover, Latch, Subckt, Command, LatchValue, ModelValue, Path, body_at, model_at, latch_net, cover_net, is_cover, is_latch, FlatNet, Gate, Instance, latch_output as drives_latch, cover_output as drives_cover, places_at, paths_of, AreInstances, IsNumbered, a_latch, a_cover, IsNetOf, IsGateAt, AreGatesAt, body_names, commands_names, all_names, IsSoundTable, net_places, own_number, HasSlots, IsNext, NetsValue, table_of, IsNets, body_in, gate_body, output_of_cover, output_of_latch, with_named, with_gates, place_of as index_place, has_name, is_input, inputs_of, with_place, with_inputs}
+use Rattle.blif_flat.proofs.Common.{◌≡◌, ℕ, zero, suc, ◌+◌, Bool, List, [], ◌∷◌, ◌++◌, Option, Some, None, refl, sym, ap, ◌∙◌, subst, inl, inr, arith, slice_get, IsTrue, option_and_then, apart_once, none-some, same_Some, option_and_then_some, In, In-left, In-right, item_there, true, is_some, or_cases, false≢true, In-get, LibraryValue, Places, place_is, has_in, in_has, in_input, input_in, place_some, Net, Place, Drives, Body, Cover, Latch, Command, ModelValue, Path, body_at, model_at, latch_net, cover_net, is_cover, is_latch, FlatNet, Gate, Instance, latch_output as drives_latch, cover_output as drives_cover, places_at, paths_of, AreInstances, IsNumbered, a_latch, a_cover, IsNetOf, IsGateAt, AreGatesAt, body_names, commands_names, all_names, IsSoundTable, net_places, own_number, HasSlots, IsNext, NetsValue, table_of, IsNets, body_in, gate_body, output_of_cover, output_of_latch, with_named, with_gates, place_of as index_place, has_name, is_input, inputs_of, with_place, with_inputs}
 use Rattle.netlist.specs.declared.flat.Net.TheVariants.{Latch as LatchNumber, Cover as CoverNumber, Input as InputNumber}
 use Rattle.blif_flat.proofs.Connections.NetCopyLemmas.{copied-nets, copied-kept, copied-known, copied-slots, copied-sound, next_same, next_on}
 use Rattle.blif_flat.proofs.Connections.NetLemmas.{gate_place_at, input_number}
-use Rattle.blif_flat.proofs.Hierarchy.GateLemmas.{gate_place}
+use Rattle.blif_flat.proofs.Hierarchy.GateLemmas.{gate_place, gate_body-is}
 use Rattle.blif_flat.proofs.Hierarchy.OrderLemmas.{instances_apart, order_first}
 use Rattle.netlist.proofs.PlaceLemmas.{place_of, command_of}
 
@@ -20,11 +20,6 @@ command_named (d ∷ cs) (suc i) c name e h = In-right (body_names d.body) (comm
 pub commands_within : (m : ModelValue) (name : List ℕ) → In (commands_names m.commands) name → In (all_names m) name
 commands_within m name i =
     In-right m.inputs (m.outputs ++ (m.clocks ++ commands_names m.commands)) name (In-right m.outputs (m.clocks ++ commands_names m.commands) name (In-right m.clocks (commands_names m.commands) name i))
-
-pub body_named : (m : ModelValue) (i : ℕ) (b : Body) (name : List ℕ) → body_at m i ≡ Some b → In (body_names b) name → In (all_names m) name
-body_named m i b name e h =
-    let c = command_of (slice_get m.commands i) b e in
-    commands_within m name (command_named m.commands i c.0 name c.1 (subst (λ x. In (body_names x) name) (sym c.2) h))
 
 -- a name of an instance that has a net
 pub record IsOwn (library : LibraryValue) (at : Places) (paths : List Path) (row : ℕ) (name : List ℕ) (net : FlatNet) : Type 0 where
@@ -107,11 +102,6 @@ module _ (library : LibraryValue) (main : ModelValue) (instances : List Instance
       let place : gate_body library instances g ≡ body_in g.command (model_at library path) = gate_place library instances are g (record { path = path; command = g.command }) (record { row = here; command = refl }) in
       option_and_then_some (λ (m : ModelValue). body_at m g.command) (model_at library path) b (sym place ∙ e) (λ m f h. record { model = m; there = f; is = h })
 
-  -- and the body that a gate's row has at its command
-  command_body : (g : Gate) (path : Path) (m : ModelValue) (b : Body) → slice_get (paths_of instances) g.row ≡ Some path → model_at library path ≡ Some m → body_at m g.command ≡ Some b → gate_body library instances g ≡ Some b
-  command_body g path m b here there is =
-      gate_place library instances are g (record { path = path; command = g.command }) (record { row = here; command = refl }) ∙ ap (body_in g.command) there ∙ is
-
   -- the outputs of the gates of a kind have the gates' numbers
   gates_own : (kind : Body → Bool) (output : Body → Option (List ℕ)) (net : Place → Net) (number : ℕ → FlatNet) (gates : List Gate) → AreGatesAt (paths_of instances) gates (places_at library kind (paths_of instances))
       → ((i : ℕ) (p : Place) → slice_get (places_at library kind (paths_of instances)) i ≡ Some p → IsNumbered (net_places library main (paths_of instances)) (net p) (number i))
@@ -130,7 +120,9 @@ module _ (library : LibraryValue) (main : ModelValue) (instances : List Instance
         here = at.row;
         model = k.model;
         there = k.there;
-        named = body_named k.model (p.0).command b name is d.0;
+        named =
+            let c = command_of (slice_get (k.model).commands (p.0).command) b is in
+            commands_within k.model name (command_named (k.model).commands (p.0).command c.0 name c.1 (subst (λ x. In (body_names x) name) (sym c.2) d.0));
         right = record { net = net p.0; drives = d.1; numbered = subst (λ j. IsNumbered (net_places library main (paths_of instances)) (net p.0) (number j)) z (numbered i p.0 p.1) };
       })
 
@@ -138,15 +130,13 @@ module _ (library : LibraryValue) (main : ModelValue) (instances : List Instance
   cover_drives (Cover c) p m name e at is =
       let q : name ≡ c.output = sym (same_Some c.output name e) in
       (In-right c.inputs (c.output ∷ []) name (inl q), drives_cover p.command c (record { model = m; at = at; is = is }) q refl)
-  cover_drives (Latch l) p m name e at is = absurd (none-some name e)
-  cover_drives (Subckt s) p m name e at is = absurd (none-some name e)
+  cover_drives b p m name e at is = absurd (none-some name e)
 
   latch_drives : (b : Body) (p : Place) (m : ModelValue) (name : List ℕ) → output_of_latch b ≡ Some name → model_at library p.path ≡ Some m → body_at m p.command ≡ Some b → In (body_names b) name × Drives library p.path name (latch_net p.path p.command)
-  latch_drives (Cover c) p m name e at is = absurd (none-some name e)
   latch_drives (Latch l) p m name e at is =
       let q : name ≡ l.output = sym (same_Some l.output name e) in
       (inr (inl q), drives_latch p.command l (record { model = m; at = at; is = is }) q refl)
-  latch_drives (Subckt s) p m name e at is = absurd (none-some name e)
+  latch_drives b p m name e at is = absurd (none-some name e)
 
   pub covers_own : (covers : List Gate) → AreGatesAt (paths_of instances) covers (places_at library is_cover (paths_of instances))
       → AreOwn library (net_places library main (paths_of instances)) (paths_of instances) instances output_of_cover (λ j. CoverNumber j) 0 covers
@@ -180,7 +170,7 @@ module _ (library : LibraryValue) (main : ModelValue) (instances : List Instance
         gate = g.0;
         at = g.1;
         row = apart_once (paths_of instances) (g.0).row i path (instances_apart library are.order) stands.row here;
-        is = command_body g.0 path m b stands.row there (ap (body_at m) stands.command ∙ is);
+        is = gate_body-is library instances are g.0 (place_of path c) stands m b there is;
       }
 
 -- The inputs of the main model are put in by their places: they are few, the table stays right, and they stand in it.

@@ -1,8 +1,8 @@
 -- The parts of a flat circuit make its fields.
-use Rattle.blif_flat.proofs.Common.{◌≡◌, ℕ, ◌≤◌, List, [], ◌++◌, map, length, reverse, filter, Some, refl, sym, ap, ◌∙◌, subst, subst₂, arith, Bool, Option, not, slice_get, same_Some, length-map, ◌<◌, inl, inr, is_some, option_map, slice_get_within, slice_get-map, In, In-get, at_within, apart_once, reversed_in, in_reversed, nodes_done, LibraryValue, CoverValue, Places, none, more, FlatCoverValue, FlatValue, behind_is, nodes_only, nodes_after, reversed_forward, reversed_apart, reads_earlier, filtered_apart, length-filter_le, ModelValue, Path, model_at, inputs_of, is_cover, is_latch, Circuit, ClockNets, Instance, FlatNet, OutPort, FlatLatch, paths_of, IsLight, places_at, is_gate, input_name, clock_test, cover_reads, PostsAll, most_weight, own_weight, AreNetsOf, IsControl, with_control_net, most_underscores, IsFlat, regular_numbers, IsRegular, regular_places, AreFlatCovers, AreFlatLatches, IsLogic, AreCounted, root_numbers, IsCircuit, AreClockNets, input_ports, Place, AreOnce, IsWellFormed, FlatNet as Net, IsNumbered, an_input, a_latch, a_cover, reads_at, IsFlatCover, IsFlatLatch, cover_behind, IsThere, StandsBefore, IsWithinBounds}
+use Rattle.blif_flat.proofs.Common.{◌≡◌, ℕ, ◌≤◌, List, [], ◌++◌, map, length, reverse, filter, Some, refl, sym, ap, ◌∙◌, subst, subst₂, arith, Bool, Option, not, slice_get, same_Some, length-map, ◌<◌, inl, inr, is_some, option_map, slice_get_within, slice_get-map, In, In-get, at_within, apart_once, reversed_in, in_reversed, nodes_done, LibraryValue, CoverValue, Places, none, more, FlatCoverValue, FlatValue, behind_is, nodes_only, nodes_after, reversed_forward, reversed_apart, reads_earlier, filtered_apart, length-filter_le, ModelValue, Path, model_at, inputs_of, is_cover, is_latch, Circuit, ClockNets, Instance, OutPort, FlatLatch, paths_of, IsLight, places_at, is_gate, input_name, clock_test, cover_reads, PostsAll, most_weight, own_weight, AreNetsOf, IsControl, with_control_net, most_underscores, IsFlat, regular_numbers, IsRegular, regular_places, AreFlatCovers, AreFlatLatches, IsLogic, AreCounted, root_numbers, IsCircuit, AreClockNets, input_ports, AreOnce, IsWellFormed, FlatNet as Net, IsNumbered, an_input, a_latch, a_cover, reads_at, IsFlatLatch, IsThere, IsWithinBounds}
 use Rattle.blif_flat.proofs.Clocking.ControlLemmas.{data-output, data-clock}
-use Rattle.blif_flat.proofs.Faults.FaultOnceLemmas.{rows_order}
-use Rattle.blif_flat.proofs.Fields.NumberWalkLemmas.{flat_walked, in_range, root_below}
+use Rattle.blif_flat.proofs.Hierarchy.OrderLemmas.{rows_order}
+use Rattle.blif_flat.proofs.Fields.NumberWalkLemmas.{flat_walked, in_range, root_below, IsHere, here}
 use Rattle.blif_flat.proofs.Hierarchy.InstanceWeightLemmas.{few_inputs, places_few, inputs_few, ports_few}
 use Rattle.blif_flat.specs.declared.circuit.instances.GateKind.TheVariants as kinds
 
@@ -116,41 +116,17 @@ module _ (library : LibraryValue) (flat : FlatValue) (f : IsFlat library flat) w
   nets_long none = refl
   nets_long (more name names number numbers o os) = let e : length names ≡ length numbers = nets_long os in omega arith
 
-  -- the place and the cover of each flat cover, and the latch of each flat latch
-  record IsAt (k : ℕ) (c : FlatCoverValue) : Type 0 where
-    place : Place
-    is : IsFlatCover library f.at place c
+  abbrev nets : List Net
+  nets = map (λ (o : OutPort). o.net) flat.outputs
 
-  at_cover : (k : ℕ) (c : FlatCoverValue) → slice_get flat.covers k ≡ Some c → IsAt k c
-  at_cover k c e =
-      let p = at_within (f.at).covers k (omega (arith, slice_get_within flat.covers k c e)) in record { place = p.0; is = f.covers k p.0 c p.1 e }
-
-  latch_there : (k : ℕ) (l : FlatLatch) → slice_get flat.latches k ≡ Some l → IsThere flat l.input
-  latch_there k l e =
-      let p = at_within (f.at).latches k (omega (arith, slice_get_within flat.latches k l e)) in
-      let i : IsFlatLatch library f.at p.0 l = f.latches k p.0 l p.1 e in
-      numbered_there l.input (i.input).numbered
-
-  output_there : (k : ℕ) (o : OutPort) → slice_get flat.outputs k ≡ Some o → IsThere flat o.net
-  output_there k o e =
-      let nets : List Net = map (λ (x : OutPort). x.net) flat.outputs in
-      nets_there f.outputs o.net (In-get nets k o.net (slice_get-map (λ (x : OutPort). x.net) flat.outputs k ∙ ap (option_map (λ (x : OutPort). x.net)) e))
-
-  reads_long : (k : ℕ) (c : FlatCoverValue) (cover : CoverValue) → slice_get flat.covers k ≡ Some c → cover_behind library c ≡ Some cover → length cover.inputs ≡ length c.inputs
-  reads_long k c cover e b =
-      let h : IsAt k c = at_cover k c e in
-      let same : cover ≡ (h.is).cover = same_Some cover (h.is).cover (sym b ∙ behind_is library f.at h.place c h.is) in
-      ap (λ (x : CoverValue). length x.inputs) same ∙ nets_long (h.is).inputs
+  -- the place and the cover of each flat cover
+  at_cover : (k : ℕ) (c : FlatCoverValue) → slice_get flat.covers k ≡ Some c → IsHere library f.main f.at nets flat.covers flat.latches (flat_walked library flat f) k c
+  at_cover = here library f.main f.at nets flat.covers flat.latches (flat_walked library flat f)
 
   order_within : (k : ℕ) → In flat.order k → k < length flat.covers
   order_within k i =
-      nodes_only (reads_at flat) (λ n. n < length flat.covers) (λ n m h j. (in_range library f.main f.at (map (λ (o : OutPort). o.net) flat.outputs) flat.covers flat.latches (flat_walked library flat f)).each n m j)
-      f.order (λ n j. root_below library f.main f.at (map (λ (o : OutPort). o.net) flat.outputs) flat.covers flat.latches (flat_walked library flat f) n j) (λ n j. absurd j) k (in_reversed flat.order k i)
-
-  behind_order : (j k read : ℕ) → slice_get flat.order j ≡ Some k → In (reads_at flat k) read → StandsBefore flat.order j read
-  behind_order j k read e i =
-      let r = reads_earlier (reads_at flat) flat.order (reversed_forward (reads_at flat) flat.order (nodes_after (reads_at flat) f.order tt)) j k read e i in
-      record { place = r.0; earlier = r.1; at = r.2 }
+      nodes_only (reads_at flat) (λ n. n < length flat.covers) (λ n m h j. (in_range library f.main f.at nets flat.covers flat.latches (flat_walked library flat f)).each n m j)
+      f.order (λ n j. root_below library f.main f.at nets flat.covers flat.latches (flat_walked library flat f) n j) (λ n j. absurd j) k (in_reversed flat.order k i)
 
   pub flat_bounds : IsWellFormed library → IsLight library → IsWithinBounds library flat
   flat_bounds formed light =
@@ -164,16 +140,25 @@ module _ (library : LibraryValue) (flat : FlatValue) (f : IsFlat library flat) w
         few_latches = omega arith;
         few_covers = omega arith;
         few_outputs = omega arith;
-        few_reads = λ k c e. (let h : IsAt k c = at_cover k c e in
+        few_reads = λ k c e. (let h = at_cover k c e in
             omega (arith, nets_long (h.is).inputs, inputs_few library light (h.place).path (h.place).command (h.is).cover (h.is).is));
         inputs_once = subst AreOnce (sym f.inputs) (filtered_apart (λ name. not (f.test name)) (f.main).inputs ((formed.each f.main (In-get library.models 0 f.main f.is_main)).ports input_ports));
         cover_nets = λ k c net e i. nets_there ((at_cover k c e).is).inputs net i;
-        latch_nets = latch_there;
-        output_nets = output_there;
-        behind = λ k c e. (let h : IsAt k c = at_cover k c e in ap is_some (behind_is library f.at h.place c h.is));
-        reads = reads_long;
+        latch_nets = λ k l e.
+            let p = at_within (f.at).latches k (omega (arith, slice_get_within flat.latches k l e)) in
+            let i : IsFlatLatch library f.at p.0 l = f.latches k p.0 l p.1 e in
+            numbered_there l.input (i.input).numbered;
+        output_nets = λ k o e.
+            nets_there f.outputs o.net (In-get nets k o.net (slice_get-map (λ (x : OutPort). x.net) flat.outputs k ∙ ap (option_map (λ (x : OutPort). x.net)) e));
+        behind = λ k c e. (let h = at_cover k c e in ap is_some (behind_is library f.at h.place c h.is));
+        reads = λ k c cover e b.
+            let h = at_cover k c e in
+            let same : cover ≡ (h.is).cover = same_Some cover (h.is).cover (sym b ∙ behind_is library f.at h.place c h.is) in
+            ap (λ (x : CoverValue). length x.inputs) same ∙ nets_long (h.is).inputs;
         order_there = order_within;
         order_once = λ i j k a b. apart_once flat.order i j k (reversed_apart (reads_at flat) flat.order (nodes_after (reads_at flat) f.order tt)) a b;
-        order_behind = behind_order;
+        order_behind = λ j k read e i.
+            let r = reads_earlier (reads_at flat) flat.order (reversed_forward (reads_at flat) flat.order (nodes_after (reads_at flat) f.order tt)) j k read e i in
+            record { place = r.0; earlier = r.1; at = r.2 };
         order_roots = λ k i. reversed_in flat.order k (nodes_done (reads_at flat) f.order k i);
       }

@@ -1,5 +1,5 @@
 -- What a walk meets again leads to itself, so a sound library has no loop; and a walk has one result.
-use Rattle.blif_flat.proofs.Common.{◌≡◌, List, [], ◌∷◌, ◌++◌, Option, Some, refl, sym, ◌∙◌, subst, inl, inr, none-some, In, ℕ, ap, ap₂, same_Some, LibraryValue, Place, reads_of, roots_of, LoopWalk, IsSound, Repeat, Meets, met, goes, MeetsAll, ModelValue, Path, Net, is_cover, is_latch, FlatOrder, same_nets, not_empty, same_first, same_rest, reaches_depends, HasCover, read_cover, start_cover, Reaches, at_once, one_more, order_once}
+use Rattle.blif_flat.proofs.Common.{◌≡◌, List, [], ◌∷◌, ◌++◌, Option, Some, refl, sym, ◌∙◌, subst, inl, inr, none-some, In, ℕ, ap, ap₂, same_Some, LibraryValue, Place, reads_of, roots_of, LoopWalk, IsSound, Repeat, Meets, met, goes, MeetsAll, ModelValue, Path, Net, is_cover, is_latch, FlatOrder, same_nets, same_first, same_rest, reaches_depends, HasCover, read_cover, start_cover, Reaches, at_once, one_more, order_once, not_empty}
 use Rattle.netlist.specs.DepthFirst.{none, first, later}
 
 module _ {N : Type 0} (next : N → List N) where

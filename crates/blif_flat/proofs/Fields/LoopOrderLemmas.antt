@@ -1,9 +1,8 @@
 -- A loop of covers by their numbers is written by their gates, and the order of the numbers is one of the covers.
-use Rattle.blif_flat.proofs.Common.{◌≡◌, ℕ, ◌+◌, ◌<◌, List, [], ◌∷◌, ◌++◌, map, length, take, get_or, Some, None, refl, sym, ap, ap₂, ◌∙◌, subst, arith, slice_get, All, map-append, take_more, slice_get_within, slice_get-get_or, In, In-get, at_within, CoverValue, LibraryValue, Path, CoverAt, cover_net, IsDriven, Place, is_cover, FlatLatch, FlatNet, Gate, Instance, places_at, paths_of, AreInstances, IsGateAt, AreGatesAt, InRange, IsNumberLoop, all_starts, IsOrder, IsWritten, AreWritten, LoopWalk, IsLoop, AreCounted, root_numbers, IsWrittenAt, AreWrittenAt, FlatCoverValue, Loop, nets, are_nets, all_members}
-use Rattle.blif_flat.specs.LoopFault.{none}
+use Rattle.blif_flat.proofs.Common.{◌≡◌, ℕ, ◌+◌, ◌<◌, List, [], ◌∷◌, ◌++◌, map, length, take, get_or, Some, None, refl, sym, ap, ap₂, ◌∙◌, subst, arith, slice_get, All, map-append, take_more, slice_get-get_or, In, In-get, CoverValue, LibraryValue, Path, CoverAt, cover_net, IsDriven, Place, is_cover, FlatLatch, FlatNet, Gate, Instance, places_at, paths_of, AreInstances, AreGatesAt, InRange, IsNumberLoop, all_starts, IsOrder, IsWritten, AreWritten, LoopWalk, IsLoop, AreCounted, root_numbers, IsWrittenAt, AreWrittenAt, FlatCoverValue, Loop, nets, are_nets, all_members}
 use Rattle.blif_flat.proofs.Fields.NumberWalkLemmas.{place_or, place_at, in_range, root_below, order_mapped, loop_mapped, loop_fault}
 use Rattle.blif_flat.proofs.Fields.RegularNetLemmas.{cover_there}
-use Rattle.blif_flat.proofs.Hierarchy.GateLemmas.{row_within}
+use Rattle.blif_flat.proofs.Hierarchy.GateLemmas.{gate_within, has_place}
 use Rattle.blif_flat.proofs.Hierarchy.PlaceLemmas.{written_more}
 
 module _ (library : LibraryValue) where
@@ -11,19 +10,8 @@ module _ (library : LibraryValue) where
     abbrev gate_places : List Place
     gate_places = places_at library is_cover (paths_of instances)
 
-    -- the place of a cover's gate
-    record IsHere (k : ℕ) (g : Gate) : Type 0 where
-      place : Place
-      at : slice_get gate_places k ≡ Some place
-      gate : IsGateAt (paths_of instances) g place
-
-    here : (k : ℕ) (g : Gate) → slice_get gates k ≡ Some g → IsHere k g
-    here k g e =
-        let p = at_within gate_places k (omega (arith, slice_get_within gates k g e)) in record { place = p.0; at = p.1; gate = w.each k g p.0 e p.1 }
-
     pub number_row : (k : ℕ) (d : Gate) → k < length gates → (get_or gates k d).row < length instances
-    number_row k d b =
-        let h = here k (get_or gates k d) (slice_get-get_or gates k d b) in row_within instances (get_or gates k d).row h.place.path h.gate.row
+    number_row k d b = gate_within instances gates gate_places w k (get_or gates k d) (slice_get-get_or gates k d b)
 
     -- the text of a gate's cover is that of its number
     pub written_here : (k : ℕ) (d : Gate) (text : List ℕ) → k < length gates
@@ -32,14 +20,14 @@ module _ (library : LibraryValue) where
         → IsWrittenAt library (places_at library is_cover (paths_of instances)) k text
     written_here k d text b is =
         let g : Gate = get_or gates k d in
-        let h : IsHere k g = here k g (slice_get-get_or gates k d b) in
+        let h = has_place (paths_of instances) gates gate_places w k g (slice_get-get_or gates k d b) in
         let p : Place = h.place in
         let c = cover_there library instances are p (In-get gate_places k p h.at) in
-        let command : g.command ≡ p.command = h.gate.command in
+        let command : g.command ≡ p.command = h.is.command in
         record {
           place = p;
           at = h.at;
-          written = subst (λ i. IsWritten library (cover_net p.path i) text) command (is p.path c.0 h.gate.row (subst (λ i. CoverAt library p.path i c.0) (sym command) c.1));
+          written = subst (λ i. IsWritten library (cover_net p.path i) text) command (is p.path c.0 h.is.row (subst (λ i. CoverAt library p.path i c.0) (sym command) c.1));
         }
 
   -- the texts of several numbers, one by one
@@ -58,12 +46,11 @@ module _ (library : LibraryValue) where
   -- the places of numbers
   places_of : (covers : List Place) (numbers : List ℕ) (places : List Place) → map (slice_get covers) numbers ≡ map Some places → places ≡ map (λ k. place_or (slice_get covers k)) numbers
   places_of covers [] [] e = refl
-  places_of covers [] (p ∷ places) e = absurd (cc)
-  places_of covers (n ∷ numbers) [] e = absurd (cc)
   places_of covers (n ∷ numbers) (p ∷ places) e =
       let first : slice_get covers n ≡ Some p = cc in
       let rest : map (slice_get covers) numbers ≡ map Some places = cc in
       ap₂ (λ (x : Place) (xs : List Place). x ∷ xs) (sym (ap place_or first)) (places_of covers numbers places rest)
+  places_of covers numbers places e = absurd (cc)
 
   module _ (driven : IsDriven library) (paths : List Path) (outputs : List FlatNet) (covers : List FlatCoverValue) (latches : List FlatLatch) (w : AreCounted library paths outputs covers latches) where
     pub walked_range : InRange covers

@@ -1,10 +1,9 @@
 -- The covers as a graph: a walk along its edges is one of the covers that are read, and what the walks of the roots and of all covers find.
-use Rattle.blif_flat.proofs.Common.{choose, In-push, of_range, ◌≡◌, ℕ, ◌+◌, ◌<◌, List, [], ◌∷◌, ◌++◌, map, length, get_or, reverse, Some, None, refl, sym, ap, ◌∙◌, subst, subst₂, arith, slice_get, zero, suc, Bool, true, false, Option, ap₂, inl, inr, eqb, if◌then◌else◌, both_ways, cases_Bool, map-append, slice_get_within, In, In-append, at_within, apart_once, leads, PostsAll, WalkValue, FlatNet, cover_numbers, inputs_at, cover_reads, edge_of, cover_edges, InRange, IsReady, IsClear, IsNumberLoop, all_starts, IsOrder, MeetsAll, ModelValue, Path, Net, Place, same_place, latch_at, is_cover, OutPort, FlatLatch, AreNets, with_cover, covers_among, reads_in, reads_of, latch_covers, all_latch_covers, roots_of, from_node, AreWritten, LoopWalk, IsLoop, IsNumbered, an_input, a_latch, a_cover, IsNetOf, AreNetsOf, IsFlatCover, IsFlatLatch, IsFlat, AreWalked, latch_nets, root_numbers, Repeat, LibraryValue, range_with_len, nodes_of, ways_of, ways_from, successors, AreNodes, Places, none, more, FlatCoverValue, FlatValue, Loop, latch_at-some, places_apart, same_place-is, same_place-refl, cover_at-is, eqb-true, eq-eqb}
-use Rattle.std.proofs.Math.Path.{fun_ext}
+use Rattle.blif_flat.proofs.Common.{choose, In-push, of_range, ◌≡◌, ℕ, ◌+◌, ◌<◌, List, [], ◌∷◌, ◌++◌, map, length, get_or, reverse, Some, None, refl, sym, ap, ◌∙◌, subst, subst₂, arith, slice_get, suc, Bool, true, false, Option, ap₂, inl, inr, eqb, if◌then◌else◌, both_ways, cases_Bool, map-append, slice_get_within, In, In-append, at_within, apart_once, leads, PostsAll, WalkValue, FlatNet, cover_numbers, inputs_at, cover_reads, edge_of, cover_edges, InRange, IsClear, IsNumberLoop, all_starts, IsOrder, MeetsAll, ModelValue, Path, Net, Place, same_place, latch_at, is_cover, OutPort, FlatLatch, AreNets, with_cover, covers_among, reads_in, reads_of, latch_covers, all_latch_covers, roots_of, from_node, AreWritten, LoopWalk, IsLoop, IsNumbered, an_input, a_latch, a_cover, IsNetOf, AreNetsOf, IsFlatCover, IsFlatLatch, IsFlat, AreWalked, latch_nets, root_numbers, Repeat, LibraryValue, range_with_len, nodes_of, ways_of, ways_from, successors, AreNodes, Places, none, more, FlatCoverValue, FlatValue, Loop, latch_at-some, places_apart, same_place-is, same_place-refl, cover_at-is, eqb-true, eq-eqb, fun_ext}
 use Rattle.std.proofs.lemmas.List.FromFn.{length-range_with_len, get_or-range_with_len}
 use Rattle.depth_first.specs.Walk.{leads_to, from_node as from_number, VisitedAll}
 use Rattle.depth_first.specs.declared.edge.End.TheVariants.{Loop, Stop}
-use Rattle.netlist.specs.declared.flat.Net.TheVariants.{Input, Latch, Cover}
+use Rattle.netlist.specs.declared.flat.Net.TheVariants.{Cover}
 use Rattle.netlist.proofs.MeetLemmas.{meets_append, found_append, nodes_met, result_mapped, repeat_mapped, IsInside, nodes_inside, nodes_mapped}
 
 pub range_below : (ns : List ℕ) (count : ℕ) → ns ≡ range_with_len 0 count → (k d : ℕ) → k < length ns → get_or ns k d < count
@@ -14,9 +13,8 @@ range_below ns count e k d l =
 
 ways_are : (nets : List FlatNet) → ways_of (map (edge_of {S = Unit {0}}) nets) ≡ leads_to (cover_numbers nets)
 ways_are [] = refl
-ways_are (Input j ∷ nets) = ways_are nets
-ways_are (Latch j ∷ nets) = ways_are nets
 ways_are (Cover j ∷ nets) = ap (λ ws. leads j ∷ ws) (ways_are nets)
+ways_are (net ∷ nets) = ways_are nets
 
 nodes_are : (ns : List ℕ) → nodes_of (leads_to {S = Unit {0}} ns) ≡ ns
 nodes_are [] = refl
@@ -106,12 +104,8 @@ all_places at n e =
 
 -- a net before others
 first_numbers : (net : FlatNet) (nets : List FlatNet) → cover_numbers (net ∷ nets) ≡ cover_numbers (net ∷ []) ++ cover_numbers nets
-first_numbers (Input j) nets = refl
-first_numbers (Latch j) nets = refl
 first_numbers (Cover j) nets = refl
-
-first_mapped : (at : Places) (net : FlatNet) (nets : List FlatNet) → map (place_at at) (cover_numbers (net ∷ nets)) ≡ map (place_at at) (cover_numbers (net ∷ [])) ++ map (place_at at) (cover_numbers nets)
-first_mapped at net nets = ap (map (place_at at)) (first_numbers net nets) ∙ map-append (place_at at) (cover_numbers (net ∷ [])) (cover_numbers nets)
+first_numbers net nets = refl
 
 module _ (library : LibraryValue) (at : Places) where
   -- the covers among numbered nets are numbered
@@ -151,11 +145,10 @@ module _ (library : LibraryValue) (at : Places) where
     latches_mapped : (ps : List Place) (ls : List FlatLatch) → length ls ≡ length ps → ((k : ℕ) (p : Place) (l : FlatLatch) → slice_get ps k ≡ Some p → slice_get ls k ≡ Some l → IsFlatLatch library at p l)
         → all_latch_covers library net ps ≡ map (place_at at) (cover_numbers (latch_nets ls))
     latches_mapped [] [] n h = refl
-    latches_mapped [] (l ∷ ls) n h = absurd (omega arith)
-    latches_mapped (p ∷ ps) [] n h = absurd (omega arith)
     latches_mapped (p ∷ ps) (l ∷ ls) n h =
         ap₂ (λ (x y : List Place). x ++ y) (latch_mapped p l (h 0 p l refl refl)) (latches_mapped ps ls (omega (arith, n)) (λ k q o e f. h (suc k) q o e f))
-        ∙ sym (first_mapped at l.input (latch_nets ls))
+        ∙ sym (ap (map (place_at at)) (first_numbers l.input (latch_nets ls)) ∙ map-append (place_at at) (cover_numbers (l.input ∷ [])) (cover_numbers (latch_nets ls)))
+    latches_mapped ps ls n h = absurd (omega arith)
 
   latches_below : (ps : List Place) (ls : List FlatLatch) → length ls ≡ length ps → ((k : ℕ) (p : Place) (l : FlatLatch) → slice_get ps k ≡ Some p → slice_get ls k ≡ Some l → IsFlatLatch library at p l)
       → (m : ℕ) → In (cover_numbers (latch_nets ls)) m → m < length at.covers
@@ -167,12 +160,12 @@ module _ (library : LibraryValue) (at : Places) where
 
 module _ (library : LibraryValue) (main : ModelValue) (at : Places) (outputs : List FlatNet) (covers : List FlatCoverValue) (latches : List FlatLatch) (w : AreWalked library main at outputs covers latches) where
   -- the place and the cover of a number
-  record IsHere (k : ℕ) (c : FlatCoverValue) : Type 0 where
-    place : Place
-    at_place : slice_get at.covers k ≡ Some place
-    is : IsFlatCover library at place c
+  pub record IsHere (k : ℕ) (c : FlatCoverValue) : Type 0 where
+    pub place : Place
+    pub at_place : slice_get at.covers k ≡ Some place
+    pub is : IsFlatCover library at place c
 
-  here : (k : ℕ) (c : FlatCoverValue) → slice_get covers k ≡ Some c → IsHere k c
+  pub here : (k : ℕ) (c : FlatCoverValue) → slice_get covers k ≡ Some c → IsHere k c
   here k c e =
       let p = at_within at.covers k (omega (arith, slice_get_within covers k c e)) in
       record { place = p.0; at_place = p.1; is = w.covers_are k p.0 c p.1 e }
@@ -188,15 +181,11 @@ module _ (library : LibraryValue) (main : ModelValue) (at : Places) (outputs : L
   in_range = record { each = λ n m i. (let b : m < length at.covers = below n m i in let e : length covers ≡ length at.covers = w.cover_count in omega arith) }
 
   -- different numbers have different places
-  one_number_at : (n m : ℕ) (p q : Place) → slice_get at.covers n ≡ Some p → slice_get at.covers m ≡ Some q → place_at at n ≡ place_at at m → n ≡ m
-  one_number_at n m p q a b e =
-      apart_once at.covers n m p (places_apart library is_cover w.covers_order) a (b ∙ ap Some (sym (place_at-is at m q b) ∙ sym e ∙ place_at-is at n p a))
-
   pub one_number : (n m : ℕ) → n < length at.covers → m < length at.covers → place_at at n ≡ place_at at m → n ≡ m
   one_number n m a b e =
       let p = at_within at.covers n a in
       let q = at_within at.covers m b in
-      one_number_at n m p.0 q.0 p.1 q.1 e
+      apart_once at.covers n m p.0 (places_apart library is_cover w.covers_order) p.1 (q.1 ∙ ap Some (sym (place_at-is at m q.0 q.1) ∙ sym e ∙ place_at-is at n p.0 p.1))
 
   roots_below : (m : ℕ) → In (root_numbers outputs latches) m → m < length at.covers
   roots_below m i = elim (In-append (cover_numbers outputs) (cover_numbers (latch_nets latches)) m i) as (λ _. m < length at.covers) [
@@ -244,12 +233,6 @@ module _ (library : LibraryValue) (main : ModelValue) (at : Places) (outputs : L
       (λ _ j. elim (In-push (from_number n path) k m j) as (λ _. m < length at.covers) [ inl a ↦ from_within n path (λ l b. h l (inr b)) m a | inr e ↦ here e ]) i
 
   module _ (net : Path → List ℕ → Option Net) (nets : AreNets library net) where
-    reads_here : (k : ℕ) (c : FlatCoverValue) → slice_get covers k ≡ Some c → (h : IsHere k c) → reads_of library net (place_at at k) ≡ map (place_at at) (cover_reads covers k)
-    reads_here k c e h =
-        let p : Place = h.place in
-        ap (reads_of library net) (place_at-is at k p h.at_place) ∙ ap (reads_in (net p.path)) (cover_at-is library p.path p.command (h.is).cover (h.is).is)
-        ∙ among_mapped library at net nets p.path (h.is).inputs ∙ sym (ap (λ y. map (place_at at) (cover_numbers (inputs_at y))) e)
-
     same_roots : roots_of library net main at.latches ≡ map (place_at at) (root_numbers outputs latches)
     same_roots =
         ap₂ (λ (x y : List Place). x ++ y) (among_mapped library at net nets [] w.outputs_are) (latches_mapped library at net nets at.latches latches w.latch_count w.latches_are)
@@ -263,7 +246,10 @@ module _ (library : LibraryValue) (main : ModelValue) (at : Places) (outputs : L
     pub same_reads : (k : ℕ) → k < length at.covers → reads_of library net (place_at at k) ≡ map (place_at at) (cover_reads covers k)
     same_reads k b =
         let c = at_within covers k (omega arith) in
-        reads_here k c.0 c.1 (here k c.0 c.1)
+        let h : IsHere k c.0 = here k c.0 c.1 in
+        let p : Place = h.place in
+        ap (reads_of library net) (place_at-is at k p h.at_place) ∙ ap (reads_in (net p.path)) (cover_at-is library p.path p.command (h.is).cover (h.is).is)
+        ∙ among_mapped library at net nets p.path (h.is).inputs ∙ sym (ap (λ y. map (place_at at) (cover_numbers (inputs_at y))) c.1)
 
     -- what the walk of the numbers finds, the walk of the places does
     pub walk_mapped : (result : Option (Repeat ℕ)) → MeetsAll (cover_reads covers) [] starts result → LoopWalk library (result_mapped (place_at at) result)

@@ -1,7 +1,7 @@
 -- Nets by the numbers of the regular inputs: an input that is no clock net stands among the regular ones at its number.
-use Rattle.blif_flat.proofs.Common.{◌≡◌, ℕ, zero, suc, ◌+◌, Bool, true, false, not, cond, List, [], ◌∷◌, ◌++◌, map, Option, Some, None, refl, sym, ap, ◌∙◌, subst, inl, inr, arith, filter, slice_get, cases_Bool, both_ways, none-some, same_Some, In, length, drop, drop_of_length-le, ◌≤◌, option_and_then, length-map, In-get, ◌<◌, max, get_or, ap₂, append_assoc, and_from, slice_get_read, LibraryValue, Path, has_name, inputs_of, Net, input_net, Drives, IsClock, listed, FlatNet, Instance, number_or_zero, paths_of, IsNumbered, an_input, a_latch, a_cover, IsNetOf, AreNetsOf, net_places, IsNetFound, NetsValue, table_of, AreAllNets, regular_numbers, renumbered, IsRegular, regular_places, renumbered_or, regular_net, regular_nets, Body, Cover, Latch, LatchValue, ModelValue, body_at, model_at, CoverAt, LatchAt, IsDriven, cover_input, latch_input, Place, cover_in, latch_in, is_cover, is_latch, Gate, cover_data, latch_data, places_at, AreInstances, IsGateAt, AreGatesAt, body_in, gate_body, IsFlatCover, IsFlatLatch, AreFlatCovers, AreFlatLatches, row_model, inputs_or, flat_cover, made_latch, latch_or, flat_latch, is_input, is_output, main_input, model_output, OutPort, underscores, most_underscores, out_port, outputs_or, with_unmarked, unmarked_after, CoverValue, Places, none, more, Input, net_of_driver, In-filter, mapped_at, IsOfKind, flat_only, in_has, append-nil}
+use Rattle.blif_flat.proofs.Common.{◌≡◌, ℕ, zero, suc, ◌+◌, Bool, true, false, not, List, [], ◌∷◌, ◌++◌, map, Option, Some, None, refl, sym, ap, ◌∙◌, subst, inl, inr, arith, filter, slice_get, cases_Bool, none-some, same_Some, In, length, drop, drop_of_length-le, ◌≤◌, option_and_then, length-map, In-get, ◌<◌, max, get_or, ap₂, append_assoc, and_from, slice_get_read, LibraryValue, Path, has_name, inputs_of, Net, input_net, Drives, IsClock, listed, FlatNet, Instance, number_or_zero, paths_of, IsNumbered, an_input, a_latch, a_cover, IsNetOf, AreNetsOf, net_places, IsNetFound, NetsValue, table_of, AreAllNets, regular_numbers, renumbered, IsRegular, regular_places, renumbered_or, regular_net, regular_nets, Cover, Latch, LatchValue, ModelValue, CoverAt, LatchAt, IsDriven, cover_input, latch_input, Place, cover_in, latch_in, is_cover, is_latch, Gate, cover_data, latch_data, places_at, AreInstances, IsGateAt, AreGatesAt, gate_body, IsFlatCover, IsFlatLatch, AreFlatCovers, AreFlatLatches, row_model, inputs_or, flat_cover, made_latch, latch_or, flat_latch, is_input, is_output, main_input, model_output, OutPort, most_underscores, out_port, outputs_or, with_unmarked, unmarked_after, CoverValue, Places, none, more, Input, net_of_driver, In-filter, mapped_at, IsOfKind, flat_only, in_has, append-nil}
 use Rattle.std.proofs.lemmas.List.Elements.{filter-append}
-use Rattle.blif_flat.proofs.Hierarchy.GateLemmas.{place_model, gate_row, gate_place, latch_place}
+use Rattle.blif_flat.proofs.Hierarchy.GateLemmas.{place_model, gate_row, latch_place, gate_body-is}
 use Rattle.netlist.proofs.UnderscoreLemmas.{most-append}
 use Rattle.blif_flat.proofs.Hierarchy.OrderLemmas.{is_cover-some, order_places, order_first}
 
@@ -10,10 +10,6 @@ record IsKept {A : Type 0} (test : A → Bool) (n : ℕ) (xs : List A) (j : ℕ)
   place : ℕ
   number : slice_get (regular_numbers n (map test xs)) j ≡ Some (n + place)
   at : slice_get (filter (λ y. not (test y)) xs) place ≡ Some x
-
-kept_first : {A : Type 0} (test : A → Bool) (n : ℕ) (xs : List A) (x : A) (b : Bool) → test x ≡ b → b ≡ false → slice_get (cond (not b) (x ∷ xs) xs) 0 ≡ Some x
-kept_first test n xs x true e off = absurd (both_ways true off refl)
-kept_first test n xs x false e off = refl
 
 kept_next : {A : Type 0} (test : A → Bool) (n : ℕ) (y : A) (ys : List A) (j : ℕ) (x : A) (b : Bool) → test y ≡ b → ((m : ℕ) → IsKept test m ys j x) → IsKept test n (y ∷ ys) (suc j) x
 kept_next test n y ys j x true e rest = let r = rest n in record { place = r.place; number = rw e r.number; at = rw e r.at }
@@ -119,13 +115,6 @@ module _ (library : LibraryValue) (instances : List Instance) (are : AreInstance
       let c = is_cover-some o.body o.kind_is in
       (c.0, record { model = o.model; at = o.at; is = o.is ∙ ap Some c.1 })
 
-  -- the model and the body of a gate are those of its place
-  gate_model : (g : Gate) (p : Place) → IsGateAt (paths_of instances) g p → slice_get library.models (row_model (slice_get instances g.row)) ≡ model_at library p.path
-  gate_model g p w = let r = gate_row library instances are g p w in ap (λ o. slice_get library.models (row_model o)) r.1 ∙ place_model library instances are g p w r.0 r.1
-
-  gate_body-is : (g : Gate) (p : Place) (m : ModelValue) (b : Body) → IsGateAt (paths_of instances) g p → model_at library p.path ≡ Some m → body_at m p.command ≡ Some b → gate_body library instances g ≡ Some b
-  gate_body-is g p m b w at is = gate_place library instances are g p w ∙ ap (body_in p.command) at ∙ is
-
   module _ (driven : IsDriven library) (numbers : List ℕ) (r : IsRegular library numbers) (n : NetsValue) (nets : AreAllNets library instances n) where
     abbrev gates_at : Places
     gates_at = regular_places library r.main r.test (paths_of instances)
@@ -145,11 +134,11 @@ module _ (library : LibraryValue) (instances : List Instance) (are : AreInstance
     cover_is g p w i =
         let c = cover_there p i in
         let names : inputs_or (option_and_then cover_in (gate_body library instances g)) ≡ (c.0).inputs =
-        ap (λ o. inputs_or (option_and_then cover_in o)) (gate_body-is g p (c.1).model (Cover c.0) w (c.1).at (c.1).is) in
+        ap (λ o. inputs_or (option_and_then cover_in o)) (gate_body-is library instances are g p w (c.1).model (Cover c.0) (c.1).at (c.1).is) in
         record {
           cover = c.0;
           is = c.1;
-          model = gate_model g p w;
+          model = let r = gate_row library instances are g p w in ap (λ o. slice_get library.models (row_model o)) r.1 ∙ place_model library instances are g p w r.0 r.1;
           command = w.command;
           inputs = subst (λ l. AreNetsOf library gates_at p.path (c.0).inputs (regular_nets numbers n g.row l)) (sym names)
               (nets_are library numbers r instances n nets g.row p.path w.row (c.0).inputs (cover_no_clock p.path p.command c.0 c.1));
@@ -168,7 +157,7 @@ module _ (library : LibraryValue) (instances : List Instance) (are : AreInstance
     latch_is g p w k e =
         let l = latch_place library instances are k p e in
         let same : flat_latch library instances n numbers g ≡ made_latch numbers n g.row l.0 =
-        ap (λ o. latch_or numbers n g.row (option_and_then latch_in o)) (gate_body-is g p (l.1).model (Latch l.0) w (l.1).at (l.1).is) in
+        ap (λ o. latch_or numbers n g.row (option_and_then latch_in o)) (gate_body-is library instances are g p w (l.1).model (Latch l.0) (l.1).at (l.1).is) in
         subst (IsFlatLatch library gates_at p) (sym same) (made_latch-is g.row p l.0 w.row l.1)
 
     -- and those of all gates

@@ -1,5 +1,5 @@
 -- Gates: what stands at one stands at its place, and those that are listed row by row stand at the places of all instances in flat order.
-use Rattle.blif_flat.proofs.Common.{◌≡◌, ℕ, ◌<◌, List, length, Option, Some, None, refl, sym, ap, ap₂, ◌∙◌, arith, suc, ◌+◌, ◌≤◌, ◌^◌, Bool, [], ◌∷◌, ◌++◌, drop, subst, subst₂, inl, inr, append_assoc, slice_get, MatchOption, option_map, option_and_then, same_Some, slice_get_within, none-some, at_within, drop_past, cases_Bool, length-append, append-nil, In-get, LatchValue, ModelValue, Body, Command, Path, model_at, LatchAt, Place, latch_at, own_places, is_latch, FlatOrder, latch_net, Gate, Instance, AreInstances, IsRow, paths_of, IsLight, IsGateAt, kind_test, AreGatesAt, body_in, numbered_body, place_body, gate_body, GateKind, model_places, places_at, with_commands, with_model, with_rows, most_weight, path_text, IsWritten, of_latch, LibraryValue, pushed_pair, IsOfKind, flat_only, latch_at-some}
+use Rattle.blif_flat.proofs.Common.{◌≡◌, ℕ, ◌<◌, List, length, Option, Some, None, refl, sym, ap, ap₂, ◌∙◌, arith, suc, ◌+◌, ◌≤◌, ◌^◌, Bool, [], ◌∷◌, ◌++◌, drop, subst, subst₂, inl, inr, append_assoc, slice_get, MatchOption, option_map, option_and_then, same_Some, slice_get_within, none-some, at_within, drop_past, cases_Bool, length-append, append-nil, In-get, LatchValue, ModelValue, Body, Command, Path, model_at, LatchAt, Place, latch_at, own_places, is_latch, FlatOrder, latch_net, Gate, Instance, AreInstances, IsRow, paths_of, IsLight, IsGateAt, kind_test, AreGatesAt, body_in, numbered_body, place_body, gate_body, GateKind, model_places, places_at, with_commands, with_model, with_rows, most_weight, path_text, IsWritten, of_latch, LibraryValue, pushed_pair, IsOfKind, flat_only, latch_at-some, body_at}
 use Rattle.blif_flat.proofs.Clocking.ControlLemmas.{is_latch_at}
 use Rattle.blif_flat.proofs.Hierarchy.InstanceRowLemmas.{paths_of-length, AreModelsOf, models_rest, models_of}
 use Rattle.blif_flat.proofs.Hierarchy.InstanceWeightLemmas.{light_commands, light_places}
@@ -26,6 +26,10 @@ module _ (library : LibraryValue) (instances : List Instance) (are : AreInstance
 
   pub gate_place : gate_body library instances g ≡ place_body library p
   gate_place = let r = gate_row in ap (option_and_then (λ (row : Instance). numbered_body library row.model g.command)) r.1 ∙ row_body r.0 r.1
+
+  -- and the body of a gate is that of its place
+  pub gate_body-is : (m : ModelValue) (b : Body) → model_at library p.path ≡ Some m → body_at m p.command ≡ Some b → gate_body library instances g ≡ Some b
+  gate_body-is m b there is = gate_place ∙ ap (body_in p.command) there ∙ is
 
 -- a reference that was found, by what is known of the value behind it
 pub found_by : {A B : Type 0} (f : A → B) (found : Option A) (o : Option B) → option_map f found ≡ o → MatchOption found (o ≡ None) (λ a. o ≡ Some (f a))
@@ -66,8 +70,6 @@ module _ (kind : Body → Bool) (paths : List Path) where
       → ((j : ℕ) (p : Path) → slice_get rest j ≡ Some p → slice_get paths (row + j) ≡ Some p) → AreGatesAt paths gates places
       → AreGatesAt paths (with_rows library.models kind row gates instances) (places ++ places_at library kind rest)
   rows_gates library row [] [] gates places models from are = subst (AreGatesAt paths gates) (sym (append-nil places)) are
-  rows_gates library row [] (p ∷ rest) gates places models from are = let n = models.count in absurd (omega arith)
-  rows_gates library row (r ∷ instances) [] gates places models from are = let n = models.count in absurd (omega arith)
   rows_gates library row (r ∷ instances) (p ∷ rest) gates places models from are =
       let here : slice_get paths row ≡ Some p = subst (λ j. slice_get paths j ≡ Some p) (let z : row + 0 ≡ row = omega arith in z) (from 0 p refl) in
       let own : AreGatesAt paths (with_model kind row gates (slice_get library.models r.model)) (places ++ model_places kind p (model_at library p)) =
@@ -77,6 +79,7 @@ module _ (kind : Body → Bool) (paths : List Path) where
       rows_gates library (row + 1) instances rest (with_model kind row gates (slice_get library.models r.model)) (places ++ model_places kind p (model_at library p)) (models_rest library r instances p rest models)
       (λ j q e. subst (λ n. slice_get paths n ≡ Some q) (let z : row + suc j ≡ (row + 1) + j = omega arith in z) (from (suc j) q e)) own in
       subst (AreGatesAt paths (with_rows library.models kind row gates (r ∷ instances))) (append_assoc places (model_places kind p (model_at library p)) (places_at library kind rest)) step
+  rows_gates library row instances rest gates places models from are = let n = models.count in absurd (omega arith)
 
 -- behind the last row all gates are listed
 pub all_listed : (models : List ModelValue) (kind : Body → Bool) (instances : List Instance) (row : ℕ) (gates : List Gate) → with_rows models kind row gates (drop row instances) ≡ with_rows models kind 0 [] instances → length instances ≤ row

@@ -1,5 +1,5 @@
 -- The drivers and the reads of an instance are those of its model's commands, and its ports.
-use Rattle.blif_flat.proofs.Common.{◌≡◌, ℕ, true, not, List, [], ◌∷◌, Option, Some, None, refl, sym, ap, ap₂, ◌∙◌, subst, inl, inr, ◌⊎◌, slice_get, cases_Bool, and_from, and_parts, not_from_false, cond-true, cond-false, none-some, same_Some, In, In-left, In-right, In-append, In-get, In-map, from_map, map, filter, in_filter, In-filter, place_in, Body, Cover, Latch, Subckt, Command, Pair, ModelValue, Path, body_at, with_subckt, subckts_of, model_named, model_at, has_name, is_input, is_output, inputs_of, LatchAt, Driver, by_input, IsDriver, input, latch, cover, output, IsRead, cover_input, latch_input, latch_control, input_actual, model_output, input_actuals, read_pairs, control_names, reads, all_drives, driven_names, SubcktValue, LibraryValue, command_of, body_of, has_in, in_has, input_in, in_input}
+use Rattle.blif_flat.proofs.Common.{◌≡◌, ℕ, true, not, List, [], ◌∷◌, Option, Some, None, refl, sym, ap, ap₂, ◌∙◌, subst, inl, inr, ◌⊎◌, slice_get, cases_Bool, and_from, and_parts, not_from_false, none-some, same_Some, In, In-left, In-right, In-append, In-get, In-map, from_map, map, filter, in_filter, In-filter, place_in, Body, Cover, Latch, Subckt, Command, Pair, ModelValue, Path, body_at, with_subckt, subckts_of, model_named, model_at, has_name, is_input, is_output, inputs_of, LatchAt, Driver, by_input, IsDriver, input, latch, cover, output, IsRead, cover_input, latch_input, latch_control, input_actual, model_output, input_actuals, read_pairs, control_names, reads, all_drives, driven_names, SubcktValue, LibraryValue, command_of, body_of, has_in, in_has, input_in, in_input}
 use Rattle.blif_flat.proofs.Models.TagLemmas.{Tag, tag, tags, tag_names, Source, from_cover, from_latch, from_subckt, tag_in, tag_source, AreNew, new_apart, new_once, IsClean}
 
 -- the command of a subcircuit
@@ -9,19 +9,17 @@ pub record CommandOf (commands : List Command) (s : SubcktValue) : Type 0 where
   pub is : command.body ≡ Subckt s
 
 command_with : (d : Command) (b : Body) (cs : List Command) (s : SubcktValue) → d.body ≡ b → (In (subckts_of cs) s → CommandOf cs s) → In (with_subckt b (subckts_of cs)) s → CommandOf (d ∷ cs) s
-command_with d (Cover c) cs s e h i = let r = h i in record { command = r.command; member = inr r.member; is = r.is }
-command_with d (Latch l) cs s e h i = let r = h i in record { command = r.command; member = inr r.member; is = r.is }
 command_with d (Subckt t) cs s e h (inl q) = record { command = d; member = inl refl; is = e ∙ ap Subckt (sym q) }
 command_with d (Subckt t) cs s e h (inr i) = let r = h i in record { command = r.command; member = inr r.member; is = r.is }
+command_with d b cs s e h i = let r = h i in record { command = r.command; member = inr r.member; is = r.is }
 
 pub subckt_command : (commands : List Command) (s : SubcktValue) → In (subckts_of commands) s → CommandOf commands s
 subckt_command [] s i = absurd i
 subckt_command (d ∷ cs) s i = command_with d d.body cs s refl (subckt_command cs s) i
 
 pub subckt_more : (b : Body) (subckts : List SubcktValue) (s : SubcktValue) → In subckts s → In (with_subckt b subckts) s
-subckt_more (Cover c) subckts s i = i
-subckt_more (Latch l) subckts s i = i
 subckt_more (Subckt t) subckts s i = inr i
+subckt_more b subckts s i = i
 
 pub subckt_in : (commands : List Command) (d : Command) (s : SubcktValue) → In commands d → d.body ≡ Subckt s → In (subckts_of commands) s
 subckt_in [] d s i e = absurd i

@@ -1,5 +1,5 @@
 -- The instances of instances: those that wait are put behind the others one by one, and in the end they are all instances in flat order.
-use Rattle.blif_flat.proofs.Common.{◌≡◌, ℕ, suc, List, ◌∷◌, length, Some, sym, ap, ◌∙◌, arith, ◌+◌, ◌<◌, ◌≤◌, [], ◌++◌, Option, None, refl, subst, inl, inr, append_assoc, reverse, slice_get, option_and_then, same_Some, none-some, slice_get_within, length-append, append-nil, reverse-append, reverse-reverse, get_before, get_end, get_pushed, LibraryValue, ModelValue, Body, Cover, Latch, Subckt, Command, Path, model_at, subckts_of, with_subckt, model_named, Instance, AreInstances, IsRow, paths_of, path_under, path_of, paths_from, IsLight, number_or_zero, entry_of, with_entry, entries_from, entries_at, IsWaiting, Waits, Listed, place_of, model_names, Finds, most_weight, own_weight, Weighs, weighs, WeighAll, flat, InstanceOrder, InstancesUnder, itself, SubcktValue, AreFrom, from_start, from_first, from_rest, placed_at, cons_first, cons_rest}
+use Rattle.blif_flat.proofs.Common.{◌≡◌, ℕ, suc, List, ◌∷◌, length, Some, sym, ap, ◌∙◌, arith, ◌+◌, ◌<◌, ◌≤◌, [], ◌++◌, Option, None, refl, subst, inl, inr, append_assoc, reverse, slice_get, option_and_then, same_Some, none-some, slice_get_within, length-append, append-nil, reverse-append, reverse-reverse, get_before, get_end, get_pushed, LibraryValue, ModelValue, Body, Subckt, Command, Path, model_at, subckts_of, with_subckt, model_named, Instance, AreInstances, IsRow, paths_of, path_under, path_of, paths_from, IsLight, number_or_zero, entry_of, with_entry, entries_from, entries_at, IsWaiting, Waits, Listed, place_of, model_names, Finds, most_weight, own_weight, Weighs, weighs, WeighAll, flat, InstanceOrder, InstancesUnder, itself, SubcktValue, AreFrom, from_start, from_first, from_rest, placed_at, cons_first, cons_rest}
 use Rattle.netlist.specs.Places.{none as under_none, more as under_more}
 use Rattle.blif_flat.specs.Bodies.InstanceRows.{none, more}
 use Rattle.netlist.specs.Weight.{none as weigh_none, more as weigh_more}
@@ -9,13 +9,12 @@ use Rattle.blif_flat.proofs.Models.NameSetLemmas.{finds}
 -- the instances of the subcircuits of some commands
 body_entries : (names : List (List ℕ)) (parent k : ℕ) (entries : List Instance) (body : Body) (ss : List SubcktValue) → k ≡ length entries
     → with_entry names parent entries body ++ entries_at names parent (length (with_entry names parent entries body)) ss ≡ entries ++ entries_at names parent k (with_subckt body ss)
-body_entries names parent k entries (Cover c) ss e = ap (λ n. entries ++ entries_at names parent n ss) (sym e)
-body_entries names parent k entries (Latch l) ss e = ap (λ n. entries ++ entries_at names parent n ss) (sym e)
 body_entries names parent k entries (Subckt s) ss e =
     let more : List Instance = entries ++ entry_of names parent (length entries) s ∷ [] in
     let n : length more ≡ suc k = length-append entries (entry_of names parent (length entries) s ∷ []) ∙ (let z : length entries + 1 ≡ suc k = omega arith in z) in
     ap (λ j. more ++ entries_at names parent j ss) n ∙ append_assoc entries (entry_of names parent (length entries) s ∷ []) (entries_at names parent (suc k) ss)
     ∙ ap (λ j. entries ++ entry_of names parent j s ∷ entries_at names parent (suc k) ss) (sym e)
+body_entries names parent k entries b ss e = ap (λ n. entries ++ entries_at names parent n ss) (sym e)
 
 entries_are : (names : List (List ℕ)) (parent : ℕ) (entries : List Instance) (cs : List Command) → entries_from names parent entries cs ≡ entries ++ entries_at names parent (length entries) (subckts_of cs)
 entries_are names parent entries [] = sym (append-nil entries)

@@ -1,8 +1,8 @@
 -- The instances hold together what the main model weighs: so the covers and latches of all instances are few, and so are the commands of each.
-use Rattle.blif_flat.proofs.Common.{◌≡◌, Bool, not, filter, if◌then◌else◌, ℕ, zero, suc, ◌+◌, ◌≤◌, true, false, List, [], ◌∷◌, ◌++◌, length, Option, Some, None, refl, sym, ap, ◌∙◌, subst, inl, inr, arith, slice_get, cases_Bool, both_ways, length-append, none-some, same_Some, SubcktValue, LibraryValue, CoverValue, AreFrom, from_start, from_first, from_rest, placed_at, inside, command_of, not_empty, same_first, same_rest, length-filter_le, Body, Command, ModelValue, Path, subckts_of, with_subckt, model_named, model_at, has_name, inputs_of, CoverAt, Place, own_places, own_of, InFlatOrder, InFlatOrderUnder, FlatOrder, Cover as CoverBody, Latch as LatchBody, Subckt as SubcktBody, GateKind, kind_test, most_weight, body_weight, commands_weight, own_weight, Weighs, weighs, WeighAll, flat, InstanceOrder, InstancesUnder, places_at, IsLight}
+use Rattle.blif_flat.proofs.Common.{◌≡◌, not, filter, ℕ, zero, suc, ◌+◌, ◌≤◌, true, false, List, [], ◌∷◌, ◌++◌, length, Option, Some, None, refl, sym, ap, ◌∙◌, subst, inl, inr, arith, slice_get, cases_Bool, both_ways, length-append, none-some, same_Some, SubcktValue, LibraryValue, CoverValue, AreFrom, from_start, from_first, from_rest, placed_at, inside, command_of, not_empty, same_first, same_rest, length-filter_le, Body, Command, ModelValue, Path, subckts_of, with_subckt, model_named, model_at, has_name, inputs_of, CoverAt, Place, own_places, own_of, InFlatOrder, InFlatOrderUnder, FlatOrder, Cover as CoverBody, Latch as LatchBody, Subckt as SubcktBody, GateKind, kind_test, most_weight, body_weight, commands_weight, own_weight, Weighs, weighs, WeighAll, flat, InstanceOrder, InstancesUnder, places_at, IsLight}
 use Rattle.netlist.specs.Places.{none, more}
 use Rattle.netlist.specs.Weight.{none as weigh_none, more as weigh_more}
-use Rattle.blif_flat.specs.declared.circuit.instances.GateKind.TheVariants.{Cover, Latch, Either}
+use Rattle.blif_flat.specs.declared.circuit.instances.GateKind.TheVariants.{Cover}
 use Rattle.blif_flat.proofs.Hierarchy.OrderLemmas.{order_places}
 
 pub own_below : (library : LibraryValue) (m : ModelValue) (w : ℕ) → Weighs library m w → own_weight m ≤ w
@@ -23,8 +23,7 @@ gate_weighs : (kind : GateKind) (body : Body) → kind_test kind body ≡ true �
 gate_weighs kind (CoverBody c) t = omega arith
 gate_weighs kind (LatchBody l) t = omega arith
 gate_weighs Cover (SubcktBody s) t = absurd (both_ways false refl t)
-gate_weighs Latch (SubcktBody s) t = absurd (both_ways false refl t)
-gate_weighs Either (SubcktBody s) t = absurd (both_ways false refl t)
+gate_weighs kind body t = absurd (both_ways false refl t)
 
 pub own_few : (kind : GateKind) (path : Path) (i : ℕ) (cs : List Command) → length (own_places (kind_test kind) path i cs) ≤ commands_weight cs
 own_few kind path i [] = omega arith

@@ -1,5 +1,5 @@
 -- Flat order, of whatever the instances have of their own: an instance whose hierarchy ends has one, and one only; all that the instances within it have stands there, and nothing else.
-use Rattle.blif_flat.proofs.Common.{◌≡◌, ℕ, ◌+◌, ◌≤◌, Bool, true, ◌⊎◌, List, [], ◌∷◌, ◌++◌, Some, refl, sym, ap, ◌∙◌, inl, inr, append_assoc, slice_get, if◌then◌else◌, In, AreApart, Body, Cover, Latch, Subckt, LatchValue, ModelValue, Path, model_at, is_cover, is_latch, FlatOrder, flat, FlatUnder, InstanceOrder, InstancesUnder, itself, model_places, places_at, CoverValue, SubcktValue, LibraryValue, AreFrom, from_first, from_rest, from_start, order_apart, placed_at}
+use Rattle.blif_flat.proofs.Common.{◌≡◌, ℕ, ◌+◌, Bool, true, List, [], ◌∷◌, ◌++◌, Some, refl, sym, ap, ◌∙◌, inl, inr, append_assoc, slice_get, In, AreApart, Body, Cover, Latch, LatchValue, ModelValue, Path, model_at, is_cover, is_latch, FlatOrder, flat, FlatUnder, InstanceOrder, InstancesUnder, itself, model_places, places_at, CoverValue, SubcktValue, LibraryValue, AreFrom, from_first, from_rest, from_start, order_apart, placed_at, Instance, AreInstances, paths_of, subst, same_Some}
 use Rattle.netlist.specs.Places.{none, more}
 
 -- the instances in flat order: each once, and the first is the main model's own
@@ -29,13 +29,16 @@ module _ (library : LibraryValue) where
         (order_places kind order (placed_at library path m k s child at (from_first m k subckts s rest h e) named))
         (under_places kind under m at (from_rest m k subckts s rest h e)) (ap (places_at library kind) z ∙ places_at-append kind these others)
 
+-- the covers and latches of all instances are in flat order
+pub rows_order : (library : LibraryValue) (instances : List Instance) (are : AreInstances library instances) (kind : Body → Bool) (main : ModelValue) → model_at library [] ≡ Some main
+    → FlatOrder library kind [] main (places_at library kind (paths_of instances))
+rows_order library instances are kind main at = subst (λ m. FlatOrder library kind [] m (places_at library kind (paths_of instances))) (same_Some are.main main (sym are.first ∙ at)) (order_places library kind are.order are.first)
+
 -- what a body of a kind is
 pub is_cover-some : (b : Body) → is_cover b ≡ true → (c : CoverValue) × (b ≡ Cover c)
 is_cover-some (Cover c) t = (c, refl)
-is_cover-some (Latch l) t = absurd (cc)
-is_cover-some (Subckt s) t = absurd (cc)
+is_cover-some b t = absurd (cc)
 
 pub is_latch-some : (b : Body) → is_latch b ≡ true → (l : LatchValue) × (b ≡ Latch l)
-is_latch-some (Cover c) t = absurd (cc)
 is_latch-some (Latch l) t = (l, refl)
-is_latch-some (Subckt s) t = absurd (cc)
+is_latch-some b t = absurd (cc)

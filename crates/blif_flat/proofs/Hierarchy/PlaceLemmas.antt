@@ -1,12 +1,9 @@
 -- Places, and what stands at them: a place has one cover or latch, and a connection leads to the model that it places.
-use Rattle.blif_flat.proofs.Common.{◌≡◌, ℕ, ◌∷◌, Some, None, refl, sym, ap, ◌∙◌, slice_get, option_and_then, same_Some, List, ◌++◌, subst, [], append_assoc, decimal, LatchValue, Path, body_at, model_at, CoverAt, LatchAt, Place, Net, input_net, latch_net, cover_net, cover_in, path_text, IsWritten, of_input, of_latch, of_cover, Instance, AreWritten, path_of, paths_of, AreInstances, AreUnder, output_or, output_in, output_at, CoverValue, LibraryValue, cover_at-is, one_latch, append-nil}
+use Rattle.blif_flat.proofs.Common.{◌≡◌, ℕ, ◌∷◌, Some, None, refl, sym, ap, ◌∙◌, slice_get, option_and_then, same_Some, List, ◌++◌, subst, [], append_assoc, decimal, LatchValue, Path, body_at, model_at, CoverAt, LatchAt, Place, Net, input_net, latch_net, cover_net, cover_in, path_text, IsWritten, of_input, of_latch, of_cover, Instance, AreWritten, paths_of, AreInstances, AreUnder, output_or, output_in, output_at, CoverValue, LibraryValue, cover_at-is, one_latch, append-nil}
 use Rattle.blif_flat.specs.LoopFault.{none, more}
 
 -- How nets are written: the paths of rows, and that each net has one text.
 module _ (library : LibraryValue) where
-  pub one_cover : (path : Path) (i : ℕ) (c d : CoverValue) → CoverAt library path i c → CoverAt library path i d → c ≡ d
-  one_cover path i c d a b = same_Some c d (sym (cover_at-is library path i c a) ∙ cover_at-is library path i d b)
-
   record IsLatchText (path : Path) (i : ℕ) (text : List ℕ) : Type 0 where
     latch : LatchValue
     at : LatchAt library path i latch
@@ -30,7 +27,8 @@ module _ (library : LibraryValue) where
   text_once : (net : Net) (text other : List ℕ) → IsText net text → IsText net other → text ≡ other
   text_once (input_net name) text other a b = a ∙ sym b
   text_once (latch_net path i) text other a b = a.is ∙ ap (λ (l : LatchValue). path_text path ++ l.output) (one_latch library path i a.latch b.latch a.at b.at) ∙ sym b.is
-  text_once (cover_net path i) text other a b = a.is ∙ ap (λ (c : CoverValue). path_text path ++ c.output) (one_cover path i a.cover b.cover a.at b.at) ∙ sym b.is
+  text_once (cover_net path i) text other a b =
+      a.is ∙ ap (λ (c : CoverValue). path_text path ++ c.output) (same_Some a.cover b.cover (sym (cover_at-is library path i a.cover a.at) ∙ cover_at-is library path i b.cover b.at)) ∙ sym b.is
 
   pub written_once : (net : Net) (text other : List ℕ) → IsWritten library net text → IsWritten library net other → text ≡ other
   written_once net text other a b = text_once net text other (is_text net text a) (is_text net other b)
@@ -55,9 +53,6 @@ abbrev pub IsSoFar : List Instance → ℕ → ℕ → Path → Type 0
 IsSoFar instances i at done = (path : Path) → slice_get (paths_of instances) at ≡ Some path → slice_get (paths_of instances) i ≡ Some (done ++ path)
 
 module _ (instances : List Instance) (under : AreUnder instances) (at : ℕ) (row : Instance) (here : slice_get instances at ≡ Some row) where
-  parent_path : (p : ℕ) (path : Path) → row.parent ≡ Some p → slice_get (paths_of instances) p ≡ Some path → path_of (paths_of instances) row ≡ row.ordinal ∷ path
-  parent_path p path e f = rw (e, f) refl
-
   pub so_far_end : (i : ℕ) (done : Path) → row.parent ≡ None → IsSoFar instances i at done → slice_get (paths_of instances) i ≡ Some done
   so_far_end i done e h = h [] (under.at at row here ∙ ap Some (rw e refl)) ∙ ap Some (append-nil done)
 

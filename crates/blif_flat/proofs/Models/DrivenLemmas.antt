@@ -1,5 +1,5 @@
 -- Steps of a search for faults of drivers, and the search as far as it has come.
-use Rattle.blif_flat.proofs.Common.{◌≡◌, ℕ, suc, ◌+◌, ◌<◌, List, [], ◌∷◌, ◌++◌, length, get_or, drop, Option, Some, None, refl, sym, ap, ◌∙◌, subst, inl, inr, arith, choose, map, filter, append_assoc, drop-cons, slice_get, cases_Bool, drop_at, OrMemory-map, ◌⊎◌, IsTrue, none-some, same_Some, In, cond-true, cond-false, In-append, In-get, In-map, Pair, ModelValue, has_name, is_input, is_output, FlatErr, refusal_of, IsTold, or_later, output_actuals, input_actuals, twice_in, undriven_in, models_fault, fault_of, with_numbered, models_at, Command, Body, Cover, Latch, Subckt, Path, model_at, inputs_of, subckts_of, model_named, by_input, IsDriver, input, IsDriven, Driver, by_latch, by_cover, by_subckt, InstanceAt, latch, cover, output, IsRead, cover_input, latch_input, latch_control, input_actual, model_output, ConnectionAt, IsWellFormed, walked, WalksMain, unknown_formal, open_input, AreOnce, formals, LibraryValue, SubcktValue, inside, in_input, input_in, append-nil}
+use Rattle.blif_flat.proofs.Common.{◌≡◌, ℕ, suc, ◌+◌, ◌<◌, List, [], ◌∷◌, ◌++◌, length, get_or, drop, Option, Some, None, refl, sym, ap, ◌∙◌, subst, inl, inr, arith, choose, map, filter, append_assoc, drop-cons, slice_get, cases_Bool, drop_at, OrMemory-map, none-some, same_Some, In, In-append, In-get, In-map, Pair, ModelValue, has_name, is_input, is_output, FlatErr, refusal_of, IsTold, or_later, output_actuals, input_actuals, twice_in, undriven_in, models_fault, fault_of, with_numbered, models_at, Command, Body, Cover, Latch, Subckt, Path, model_at, inputs_of, subckts_of, model_named, by_input, IsDriver, input, IsDriven, Driver, by_latch, by_cover, by_subckt, InstanceAt, latch, cover, output, IsRead, cover_input, latch_input, latch_control, input_actual, model_output, IsWellFormed, walked, WalksMain, unknown_formal, open_input, AreOnce, formals, LibraryValue, SubcktValue, inside, in_input, input_in, append-nil}
 use Rattle.netlist.specs.WellFormed.{IsWellFormedBody}
 use Rattle.blif_flat.proofs.Hierarchy.InstanceLemmas.{own_tags, tag_driver, driver_name, command_reads, output_driven, subckt_in, subckt_more, subckt_command, clean_once, clean_driven}
 use Rattle.blif_flat.proofs.Models.LineLemmas.{IsPlaced, formal_is, input_connected}
@@ -108,14 +108,6 @@ module _ (library : LibraryValue) (formed : IsWellFormed library) where
   formals_once path m s at i =
       let c = subckt_command m.commands s i in subst IsWellFormedBody c.is ((formed.each m (model_in path m at)).commands c.command c.member)
 
-  subckt_apart : (path : Path) (k : ℕ) (pair other : Pair) → ConnectionAt library path k pair → ConnectionAt library path k other → pair.formal ≡ other.formal → pair ≡ other
-  subckt_apart path k pair other a b e =
-      let m : b.model ≡ a.model = same_Some b.model a.model (sym b.at ∙ a.at) in
-      let g : slice_get (subckts_of (a.model).commands) k ≡ Some b.subckt = subst (λ x. slice_get (subckts_of x.commands) k ≡ Some b.subckt) m b.is in
-      let s : b.subckt ≡ a.subckt = same_Some b.subckt a.subckt (sym g ∙ a.is) in
-      pairs_apart (a.subckt).pairs pair other (formals_once path a.model a.subckt a.at (In-get (subckts_of (a.model).commands) k a.subckt a.is)) a.member
-      (subst (λ x. In x.pairs other) s b.member) e
-
   -- what the walk found of a subcircuit
   placing : {m : ModelValue} → Fine library (IsClean library) m → (k : ℕ) (s : SubcktValue) → slice_get (subckts_of m.commands) k ≡ Some s → IsPlaced library (record { line = 0; subckt = s })
   placing {m} f k s e =
@@ -127,41 +119,31 @@ module _ (library : LibraryValue) (formed : IsWellFormed library) where
     here : (path : Path) (m : ModelValue) → model_at library path ≡ Some m → Fine library (IsClean library) m
     here path m e = fine_at library (IsClean library) main at good path m e
 
-    known : (path : Path) (m : ModelValue) (k : ℕ) (s : SubcktValue) → model_at library path ≡ Some m → slice_get (subckts_of m.commands) k ≡ Some s → (child : ModelValue) × (model_named library.models s.model ≡ Some child)
-    known path m k s e g = let p = placing (here path m e) k s g in (p.child, p.named)
-
-    formals_are : (path : Path) (k : ℕ) (pair : Pair) (a : ConnectionAt library path k pair) → IsTrue (is_input a.child pair.formal) ⊎ IsTrue (is_output a.child pair.formal)
-    formals_are path k pair a =
-        let p = placing (here path a.model a.at) k a.subckt a.is in
-        let same : p.child ≡ a.child = same_Some p.child a.child (sym p.named ∙ a.places) in
-        formal_is a.child (a.subckt).pairs (subst (λ c. unknown_formal c (a.subckt).pairs ≡ None) same p.formals) pair a.member
-
-    connected : (path : Path) (k : ℕ) (m : ModelValue) (name : List ℕ) → model_at library (k ∷ path) ≡ Some m → IsTrue (is_input m name) → (pair : Pair) × (ConnectionAt library path k pair) × (pair.formal ≡ name)
-    connected path k m name e t =
-        let r = inside library path k m e in
-        let p = placing (here path r.model r.at) k r.subckt r.is in
-        let same : p.child ≡ m = same_Some p.child m (sym p.named ∙ r.places) in
-        let c = input_connected (r.subckt).pairs (inputs_of m) (subst (λ x. open_input (r.subckt).pairs (inputs_of x) ≡ None) same p.inputs) name (input_in m name t) in
-        (c.pair, record { model = r.model; subckt = r.subckt; child = m; at = r.at; is = r.is; member = c.member; places = r.places }, sym c.formal)
-
-    once : (path : Path) (name : List ℕ) (driver other : Driver) → IsDriver library path name driver → IsDriver library path name other → driver ≡ other
-    once path name driver other d o =
-        let i = instance_of d in
-        clean_once library path i.model i.at (fine_holds library (IsClean library) (here path i.model i.at)) name driver other d o
-
-    driven : (path : Path) (name : List ℕ) → IsRead library path name → (driver : Driver) × IsDriver library path name driver
-    driven path name r =
-        let i = instance_read r in clean_driven library path i.model i.at (fine_holds library (IsClean library) (here path i.model i.at)) name r
-
     fine_driven : IsDriven library
     fine_driven = record {
-      known = known;
+      known = λ path m k s e g. (let p = placing (here path m e) k s g in (p.child, p.named));
       finite = λ path m e. fine_ends library (IsClean library) (here path m e);
-      formals = formals_are;
-      apart = subckt_apart;
-      connected = connected;
-      once = once;
-      driven = driven;
+      formals = λ path k pair a.
+          let p = placing (here path a.model a.at) k a.subckt a.is in
+          let same : p.child ≡ a.child = same_Some p.child a.child (sym p.named ∙ a.places) in
+          formal_is a.child (a.subckt).pairs (subst (λ c. unknown_formal c (a.subckt).pairs ≡ None) same p.formals) pair a.member;
+      apart = λ path k pair other a b e.
+          let m : b.model ≡ a.model = same_Some b.model a.model (sym b.at ∙ a.at) in
+          let g : slice_get (subckts_of (a.model).commands) k ≡ Some b.subckt = subst (λ x. slice_get (subckts_of x.commands) k ≡ Some b.subckt) m b.is in
+          let s : b.subckt ≡ a.subckt = same_Some b.subckt a.subckt (sym g ∙ a.is) in
+          pairs_apart (a.subckt).pairs pair other (formals_once path a.model a.subckt a.at (In-get (subckts_of (a.model).commands) k a.subckt a.is)) a.member
+          (subst (λ x. In x.pairs other) s b.member) e;
+      connected = λ path k m name e t.
+          let r = inside library path k m e in
+          let p = placing (here path r.model r.at) k r.subckt r.is in
+          let same : p.child ≡ m = same_Some p.child m (sym p.named ∙ r.places) in
+          let c = input_connected (r.subckt).pairs (inputs_of m) (subst (λ x. open_input (r.subckt).pairs (inputs_of x) ≡ None) same p.inputs) name (input_in m name t) in
+          (c.pair, record { model = r.model; subckt = r.subckt; child = m; at = r.at; is = r.is; member = c.member; places = r.places }, sym c.formal);
+      once = λ path name driver other d o.
+          let i = instance_of d in
+          clean_once library path i.model i.at (fine_holds library (IsClean library) (here path i.model i.at)) name driver other d o;
+      driven = λ path name r.
+          let i = instance_read r in clean_driven library path i.model i.at (fine_holds library (IsClean library) (here path i.model i.at)) name r;
     }
 
 pub walked_driven : (library : LibraryValue) (main : ModelValue) (ms : List ModelValue) → IsWellFormed library → model_at library [] ≡ Some main → WalksMain library main (walked ms) → models_fault library ms ≡ None → IsDriven library
@@ -199,9 +181,8 @@ module _ (library : LibraryValue) where
   subckt_distinct k (Some child) pairs once = pairs_distinct k child pairs once
 
   body_distinct : (i k : ℕ) (b : Body) → ((s : SubcktValue) → b ≡ Subckt s → AreOnce (formals s.pairs)) → AreDistinct (body_tags library i k b)
-  body_distinct i k (Cover c) once = (λ u j e. absurd j, tt)
-  body_distinct i k (Latch l) once = (λ u j e. absurd j, tt)
   body_distinct i k (Subckt s) once = subckt_distinct k (model_named library.models s.model) s.pairs (once s refl)
+  body_distinct i k b once = (λ u j e. absurd j, tt)
 
   -- a command's driver isn't one of the commands behind it
   module _ (place ordinal : ℕ → ℕ) (one : IsInjective place) (cs : List Command) where
@@ -234,9 +215,8 @@ module _ (library : LibraryValue) where
   place_behind place one i j e = let z = one (suc i) (suc j) e in omega arith
 
   ordinal_behind : (b : Body) (ordinal : ℕ → ℕ) → IsInjective ordinal → IsInjective (behind b ordinal)
-  ordinal_behind (Cover c) ordinal one = one
-  ordinal_behind (Latch l) ordinal one = one
   ordinal_behind (Subckt s) ordinal one = place_behind ordinal one
+  ordinal_behind b ordinal one = one
 
   pub tags_distinct : (place ordinal : ℕ → ℕ) → IsInjective place → IsInjective ordinal → (cs : List Command) → ((s : SubcktValue) → In (subckts_of cs) s → AreOnce (formals s.pairs)) → AreDistinct (tags library place ordinal cs)
   tags_distinct place ordinal one single [] once = tt

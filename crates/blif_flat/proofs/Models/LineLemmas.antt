@@ -1,5 +1,5 @@
 -- What the refusals of a `.subckt` line say: F1 to F4 of it don't stand, or one does.
-use Rattle.blif_flat.proofs.Common.{from_map, In-map, has_in, in_has, ◌≡◌, ℕ, true, false, ◌||◌, List, [], ◌∷◌, Option, Some, None, refl, sym, ap, ◌∙◌, subst, inl, inr, ◌⊎◌, bytes_eq, IsTrue, not, both_ways, cases_Bool, or_cases, or_left, or_right, and_from, not_from_false, false≢true, bytes_decides, In, none_else, none_both, Bool, cond, ◌++◌, filter, option_map, none-some, OrMemory-map, Pair, ModelValue, model_named, has_name, is_input, is_output, inputs_of, SubcktLine, unknown_formal, is_connected, open_input, input_fault, formal_fault, placed_fault, line_fault, formals, Ports, FlatErr, UnknownFormal, Unconnected, Memory, IsTold, with_names, ports_value, or_later, refusal_of, foreign_formal, open_among, ports_fault, LibraryValue, SubcktValue, has_with_names}
+use Rattle.blif_flat.proofs.Common.{from_map, In-map, has_in, in_has, ◌≡◌, ℕ, true, false, ◌||◌, List, [], ◌∷◌, Option, Some, None, refl, sym, ap, ◌∙◌, subst, inl, inr, ◌⊎◌, bytes_eq, IsTrue, not, both_ways, cases_Bool, or_cases, and_from, not_from_false, false≢true, bytes_decides, In, none_else, none_both, Bool, cond, ◌++◌, filter, option_map, none-some, OrMemory-map, Pair, ModelValue, model_named, has_name, is_input, is_output, inputs_of, SubcktLine, unknown_formal, is_connected, open_input, input_fault, formal_fault, placed_fault, line_fault, formals, Ports, FlatErr, UnknownFormal, Unconnected, IsTold, with_names, ports_value, or_later, refusal_of, foreign_formal, open_among, ports_fault, LibraryValue, SubcktValue, has_with_names}
 use Rattle.blif_flat.proofs.Models.NameSetLemmas.{has_inputs}
 
 -- each formal of a connection is an input or an output

@@ -1,5 +1,5 @@
 -- The names of a model, each once: they are all there, and no more than the model holds.
-use Rattle.blif_flat.proofs.Common.{◌≡◌, ℕ, ◌+◌, ◌<◌, ◌≤◌, true, ltb, List, [], ◌∷◌, ◌++◌, length, get_or, drop, bytes_eq, Option, Some, None, refl, sym, ap, ◌∙◌, subst, inl, inr, arith, slice_get, cases_Bool, cond-true, cond-false, ltb-true, length-append, length-map, none-some, same_Some, cond_some, bytes_decides, In, at_within, find_at, drop_at, place_of, Body, Cover, Latch, Subckt, Command, Pair, ModelValue, has_name, control_names, body_names, commands_names, all_names, with_name, with_names, distinct_names, control_weight, body_weight, commands_weight, own_weight, in_has, has_with_names, with_names-length}
+use Rattle.blif_flat.proofs.Common.{◌≡◌, ℕ, ◌+◌, ◌<◌, ◌≤◌, List, [], ◌∷◌, ◌++◌, length, get_or, drop, Option, Some, None, refl, sym, ap, ◌∙◌, arith, length-append, length-map, drop_at, Body, Cover, Latch, Subckt, Command, Pair, ModelValue, control_names, body_names, commands_names, all_names, with_names, distinct_names, control_weight, body_weight, commands_weight, own_weight, with_names-length}
 pub use Rattle.tl_text.proofs.NameSetLemmas.{with_names-append, place_is, name_place_within}
 
 -- those of the commands from a place on, and those of a model's ports and commands

@@ -1,9 +1,8 @@
 -- The walk of the models by their numbers is that of the definition, and its order puts each model behind those that it places.
-use Rattle.blif_flat.proofs.Common.{◌≡◌, ℕ, ◌<◌, true, false, List, Vec, Global, [], ◌∷◌, ◌++◌, map, reverse, length, Option, Some, None, refl, sym, ap, ◌∙◌, subst, subst₂, inl, inr, slice_get, option_map, unwrap_or, both_ways, length-map, none-some, same_Some, slice_get_within, slice_get-map, In, In-map, at_within, in_reversed, OrMemory-map, LibraryValue, ways_of, ways_from, successors, AreNodes, ending_of, Visited, stop, reached_only, reverse-append, Node, Stop, Pass}
-use Rattle.blif_flat.specs.{leads, WalkValue, OrMemory, place_of, Body, Cover, Latch, Subckt, Command, ModelValue, has_name, model_named, AreOnce, FlatErr, or_later, SubcktLine, with_line, subckt_lines, line_fault, is_walked, Walked, refused, walked, Walks, refuse, again, inside, onward, WalksMain, refusal_of, IsTold, model_names, IsModelOf, Finds, models_at, IsBehind, AreChildrenFirst, edge_by, line_edge, body_edge, commands_edges, edge_rows, edges_at, with_model_name, names_at, lines_fault, model_lines_fault, path_fault}
+use Rattle.blif_flat.proofs.Common.{◌≡◌, ℕ, ◌<◌, false, List, Vec, Global, [], ◌∷◌, ◌++◌, map, reverse, length, Option, Some, None, refl, sym, ap, ◌∙◌, subst, subst₂, inl, inr, slice_get, option_map, unwrap_or, both_ways, length-map, none-some, same_Some, slice_get_within, slice_get-map, In, In-map, at_within, in_reversed, OrMemory-map, LibraryValue, ways_of, ways_from, successors, AreNodes, ending_of, Visited, stop, reached_only, reverse-append, Node, Stop, Pass}
+use Rattle.blif_flat.specs.{leads, WalkValue, OrMemory, place_of, Body, Subckt, Command, ModelValue, has_name, model_named, AreOnce, FlatErr, or_later, SubcktLine, with_line, subckt_lines, line_fault, is_walked, Walked, refused, walked, Walks, refuse, again, inside, onward, WalksMain, refusal_of, IsTold, model_names, IsModelOf, Finds, models_at, IsBehind, AreChildrenFirst, edge_by, line_edge, body_edge, commands_edges, edge_rows, edges_at, with_model_name, names_at, lines_fault, model_lines_fault, path_fault}
 use Rattle.depth_first.specs.DepthFirst.{Way, stops, Ending, repeats, halts, nodes_of, Outcome, ends_at, goes_through, Enters, ended, stopped_at, back, again as enters_again, inside as enters_inside, onward as enters_onward}
 use Rattle.depth_first.specs.Order.{LeadsInto, IsSettled}
-use Rattle.depth_first.specs.Reach.{here}
 use Rattle.depth_first.specs.declared.edge.Edge.{Edge}
 use Rattle.depth_first.specs.declared.edge.End.{End}
 use Rattle.depth_first.specs.declared.edge.End.TheVariants.{Loop, Stop as stopped}
@@ -16,9 +15,8 @@ use Rattle.blif_flat.proofs.Models.WeightLemmas.{children_first_push}
 
 -- an edge of a line is no edge that is passed over
 no_pass : (o : Option FlatErr) (k : Option ℕ) → edge_by o k ≡ Pass → ⊥
-no_pass (Some f) k e = cc
 no_pass None None e = cc
-no_pass None (Some n) e = cc
+no_pass o k e = cc
 
 split_edge : (e : Edge (Unit {0})) (es : List (Edge (Unit {0}))) (w : Way ℕ (Unit {0})) (rest : List (Way ℕ (Unit {0}))) → ways_of (e ∷ es) ≡ w ∷ rest → (e ≡ Pass → ⊥)
     → (ways_of (e ∷ []) ≡ w ∷ []) × (rest ≡ ways_of es)
@@ -33,9 +31,8 @@ some_way Pass es q o = o refl
 
 -- what the edge of a line says
 node_edge : (o : Option FlatErr) (k : Option ℕ) (n : ℕ) → ways_of (edge_by o k ∷ []) ≡ leads n ∷ [] → (o ≡ None) × (k ≡ Some n)
-node_edge (Some f) k n e = absurd (cc)
-node_edge None None n e = absurd (cc)
 node_edge None (Some j) n e = (refl, cc)
+node_edge o k n e = absurd (cc)
 
 stop_edge : (o : Option FlatErr) (k : Option ℕ) (s : Unit {0}) → ways_of (edge_by o k ∷ []) ≡ stops s ∷ [] → (n : ℕ) → o ≡ None → k ≡ Some n → ⊥
 stop_edge (Some f) k s e n a b = absurd (none-some f (sym a))
@@ -43,9 +40,8 @@ stop_edge None None s e n a b = absurd (none-some n b)
 stop_edge None (Some j) s e n a b = cc
 
 edge_into : (o : Option FlatErr) (k : Option ℕ) (ns : List ℕ) → ((w : Way ℕ (Unit {0})) → ways_of (edge_by o k ∷ []) ≡ w ∷ [] → LeadsInto ns w) → (n : ℕ) × ((k ≡ Some n) × In ns n)
-edge_into (Some f) k ns h = absurd (h (stops tt) refl)
-edge_into None None ns h = absurd (h (stops tt) refl)
 edge_into None (Some n) ns h = (n, (refl, h (leads n) refl))
+edge_into o k ns h = absurd (h (stops tt) refl)
 
 told : (o : Option FlatErr) → (o ≡ None → ⊥) → (f : FlatErr) × (o ≡ Some f)
 told None h = absurd (h refl)
@@ -74,22 +70,20 @@ module _ (models : List ModelValue) (names : AreOnce (model_names models)) where
 
   first_body : (m : ModelValue) (n : ℕ) (b : Body) (cs : List Command) (w : Way ℕ (Unit {0})) (rest : List (Way ℕ (Unit {0}))) → ways_of (body_edge models m n b ∷ commands_edges models m cs) ≡ w ∷ rest
       → (lines_ways m cs ≡ w ∷ rest → FirstLine m (subckt_lines cs) w rest) → FirstLine m (with_line n b (subckt_lines cs)) w rest
-  first_body m n (Cover c) cs w rest e h = h e
-  first_body m n (Latch l) cs w rest e h = h e
   first_body m n (Subckt s) cs w rest e h =
       let l : SubcktLine = record { line = n; subckt = s } in
       let p = split_edge (line_edge models m l) (commands_edges models m cs) w rest e (no_pass (line_fault library [] m l) (place_of (model_names models) s.model)) in
       record { line = l; others = cs; lines_are = refl; way = p.0; rest_is = p.1 }
+  first_body m n b cs w rest e h = h e
 
   first_line : (m : ModelValue) (cs : List Command) (w : Way ℕ (Unit {0})) (rest : List (Way ℕ (Unit {0}))) → lines_ways m cs ≡ w ∷ rest → FirstLine m (subckt_lines cs) w rest
   first_line m [] w rest e = absurd (cc)
   first_line m (c ∷ cs) w rest e = first_body m c.line c.body cs w rest e (first_line m cs w rest)
 
   no_body : (m : ModelValue) (n : ℕ) (b : Body) (cs : List Command) → ways_of (body_edge models m n b ∷ commands_edges models m cs) ≡ [] → (lines_ways m cs ≡ [] → subckt_lines cs ≡ []) → with_line n b (subckt_lines cs) ≡ []
-  no_body m n (Cover c) cs e h = h e
-  no_body m n (Latch l) cs e h = h e
   no_body m n (Subckt s) cs e h = let l : SubcktLine = record { line = n; subckt = s } in
       absurd (some_way (line_edge models m l) (commands_edges models m cs) e (no_pass (line_fault library [] m l) (place_of (model_names models) s.model)))
+  no_body m n b cs e h = h e
 
   no_lines : (m : ModelValue) (cs : List Command) → lines_ways m cs ≡ [] → subckt_lines cs ≡ []
   no_lines m [] e = refl
@@ -126,9 +120,6 @@ module _ (models : List ModelValue) (names : AreOnce (model_names models)) where
     good_line : (In path n → ⊥) → line_fault library (names_at models path) m l ≡ None
     good_line o = no_line_fault library (names_at models path) m l
         (record { placed = step.placed; off = ap (has_name (names_at models path)) child_is ∙ off_path models names n step.child.model step.child.at path o })
-
-    walked_line : (before : List ℕ) → In before n → is_walked (models_at models (reverse before)) l.subckt.model ≡ true
-    walked_line before i = ap (is_walked (models_at models (reverse before))) child_is ∙ was_walked models names n step.child.model step.child.at before i
 
     new_line : (before : List ℕ) → (In before n → ⊥) → is_walked (models_at models (reverse before)) l.subckt.model ≡ false
     new_line before o = ap (is_walked (models_at models (reverse before))) child_is ∙ not_walked models names n step.child.model step.child.at before o
@@ -188,7 +179,8 @@ module _ (models : List ModelValue) (names : AreOnce (model_names models)) where
       let step = step_line m f.line n f.way in
       let good = good_line path m f.line n step off in
       moved (names_at models path) (names_at models path) m m (models_at models (reverse before)) (models_at models (reverse before)) (subckt_lines cs) (subckt_lines f.others)
-      (λ r v. again f.line (subckt_lines f.others) f.lines_are good (walked_line path m f.line n step before i) v) result
+      (λ r v. again f.line (subckt_lines f.others) f.lines_are good
+      (ap (is_walked (models_at models (reverse before))) (child_is path m f.line n step) ∙ was_walked models names n step.child.model step.child.at before i) v) result
       (linked w m f.others f.rest_is (next_fault path m (subckt_lines cs) (subckt_lines f.others) f.line f.lines_are good is))
   linked {path} {before} (enters_inside n rest end e off new w q) m cs z is =
       let f = first_line m cs (leads n) rest (sym z ∙ e) in
@@ -255,9 +247,8 @@ module _ (models : List ModelValue) (names : AreOnce (model_names models)) where
   nodes_by None name (Some j) found es n h (inr i) = h i
 
   nodes_body : (m : ModelValue) (line : ℕ) (b : Body) (es : List (Edge (Unit {0}))) (n : ℕ) → (In (nodes_of (ways_of es)) n → n < length models) → In (nodes_of (ways_of (body_edge models m line b ∷ es))) n → n < length models
-  nodes_body m line (Cover c) es n h i = h i
-  nodes_body m line (Latch l) es n h i = h i
   nodes_body m line (Subckt s) es n h i = nodes_by (line_fault library [] m (record { line = line; subckt = s })) s.model (place_of (model_names models) s.model) (finds models s.model) es n h i
+  nodes_body m line b es n h i = h i
 
   nodes_below : (m : ModelValue) (cs : List Command) (n : ℕ) → In (nodes_of (lines_ways m cs)) n → n < length models
   nodes_below m [] n i = absurd i
@@ -316,9 +307,6 @@ module _ (models : List ModelValue) (names : AreOnce (model_names models)) where
       | inr r ↦ reached_only (successors (edges_at (edge_rows models models))) (λ k. k < length models) (λ k j l h. model_nodes.closed k j l h) r.reaches
           (elim r.member [ inl q ↦ subst (λ k. k < length models) (sym q) some | inr o ↦ absurd o ])
     ]
-
-    pub main_last : Visited (edges_at (edge_rows models models)) w v 0 None → In v.order 0
-    main_last d = d.reached.all 0 (record { start = 0; member = inl refl; reaches = here refl })
 
     module _ (main : ModelValue) (at : slice_get models 0 ≡ Some main) where
       entered_from : (o : Outcome ℕ (Unit {0})) → Enters ways [] w.begun (leads 0 ∷ []) o → MainLinked main at o

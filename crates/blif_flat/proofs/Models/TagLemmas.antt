@@ -1,5 +1,5 @@
 -- The drivers of a model's commands with the names that they drive, in line order.
-use Rattle.blif_flat.proofs.Common.{◌≡◌, ℕ, zero, suc, true, if◌then◌else◌, List, [], ◌∷◌, ◌++◌, map, map-append, filter, in_filter, In-filter, Option, Some, None, refl, sym, ap, ap₂, ◌∙◌, subst, inl, inr, slice_get, option_map, cases_Bool, cond-true, cond-false, none-some, same_Some, In, In-left, In-right, In-append, In-map, from_map, false, append_assoc, both_ways, false_from_ne_true, none_else, none_both, Body, Cover, Latch, Subckt, Command, LatchValue, Pair, ModelValue, with_subckt, subckts_of, model_named, is_output, Driver, by_latch, by_cover, by_subckt, output_actuals, driven_pairs, drives, all_drives, has_name, inputs_of, FlatErr, DoublyDriven, Undriven, or_later, reads, driven_names, twice_in, twice_fault, undriven_in, undriven_fault, model_fault, models_fault, CoverValue, SubcktValue, LibraryValue, has_in, in_has, append-nil}
+use Rattle.blif_flat.proofs.Common.{◌≡◌, ℕ, zero, suc, true, List, [], ◌∷◌, ◌++◌, map, map-append, filter, in_filter, In-filter, Option, Some, None, refl, sym, ap, ap₂, ◌∙◌, subst, inl, inr, slice_get, option_map, cases_Bool, none-some, same_Some, In, In-left, In-right, In-append, In-map, from_map, false, append_assoc, both_ways, false_from_ne_true, none_else, none_both, Body, Cover, Latch, Subckt, Command, LatchValue, Pair, ModelValue, with_subckt, subckts_of, model_named, is_output, Driver, by_latch, by_cover, by_subckt, output_actuals, driven_pairs, drives, all_drives, has_name, inputs_of, FlatErr, DoublyDriven, Undriven, or_later, reads, driven_names, twice_in, twice_fault, undriven_in, undriven_fault, model_fault, models_fault, CoverValue, SubcktValue, LibraryValue, has_in, in_has, append-nil}
 
 pub record Tag : Type 0 where
   pub driver : Driver
@@ -47,9 +47,8 @@ subckt_names k None pairs = refl
 subckt_names k (Some child) pairs = pair_names k child pairs
 
 body_names : (library : LibraryValue) (i k : ℕ) (b : Body) → names (body_tags library i k b) ≡ drives library b
-body_names library i k (Cover c) = refl
-body_names library i k (Latch l) = refl
 body_names library i k (Subckt s) = subckt_names k (model_named library.models s.model) s.pairs
+body_names library i k b = refl
 
 pub tag_names : (library : LibraryValue) (place ordinal : ℕ → ℕ) (cs : List Command) → names (tags library place ordinal cs) ≡ all_drives library cs
 tag_names library place ordinal [] = refl
@@ -70,16 +69,14 @@ pair_in k child pairs pair i out =
 -- a subcircuit is the command's own, or one behind it
 pub subckt_case : (b : Body) (subckts : List SubcktValue) (ordinal : ℕ → ℕ) (k : ℕ) (s : SubcktValue) (P : Type 0) → slice_get (with_subckt b subckts) k ≡ Some s
     → (b ≡ Subckt s → k ≡ 0 → P) → ((j : ℕ) → slice_get subckts j ≡ Some s → behind b ordinal j ≡ ordinal k → P) → P
-subckt_case (Cover c) subckts ordinal k s P e here there = there k e refl
-subckt_case (Latch l) subckts ordinal k s P e here there = there k e refl
 subckt_case (Subckt t) subckts ordinal zero s P e here there = here (ap Subckt (same_Some t s e)) refl
 subckt_case (Subckt t) subckts ordinal (suc k) s P e here there = there k e refl
+subckt_case b subckts ordinal k s P e here there = there k e refl
 
 pub subckt_behind : (b : Body) (subckts : List SubcktValue) (ordinal : ℕ → ℕ) (j : ℕ) (s : SubcktValue) → slice_get subckts j ≡ Some s
     → (k : ℕ) × (slice_get (with_subckt b subckts) k ≡ Some s) × (behind b ordinal j ≡ ordinal k)
-subckt_behind (Cover c) subckts ordinal j s e = (j, e, refl)
-subckt_behind (Latch l) subckts ordinal j s e = (j, e, refl)
 subckt_behind (Subckt t) subckts ordinal j s e = (suc j, e, refl)
+subckt_behind b subckts ordinal j s e = (j, e, refl)
 
 module _ (library : LibraryValue) where
   in_body : (i k : ℕ) (b c : Body) (t : Tag) → b ≡ c → In (body_tags library i k c) t → In (body_tags library i k b) t

@@ -1,6 +1,6 @@
 -- The walk of the models has one result; one that refuses nothing has been through models without F1 to F4, and the hierarchy ends.
 use Rattle.blif_flat.proofs.Common.{◌≡◌, ℕ, List, [], ◌∷◌, ◌++◌, Some, sym, ◌∙◌, subst, subst₂, Bool, true, false, cond, Option, refl, ap, inl, inr, ◌⊎◌, bytes_eq, slice_get, same_Some, none-some, option_and_then_some, both_ways, or_left, or_right, or_cases, false≢true, bytes_decides, In, In-left, In-right, In-append, In-get, ◌||◌, None, not, and_parts, false_from_ne_true, place_in, LibraryValue, SubcktValue, stop, placed-is, in_input, same_first, same_rest}
-use Rattle.blif_flat.specs.{ModelValue, Body, Cover, Latch, Subckt, Command, model_named, Path, with_subckt, subckts_of, placed, model_at, has_name, Ends, ends, SubcktLine, subckt_lines, Walked, refused, walked, Walks, refuse, again, inside, onward, WalksMain, with_line, is_walked, Pair, is_input, inputs_of, ConnectionAt, IsDriven, FlatErr, line_fault}
+use Rattle.blif_flat.specs.{ModelValue, Body, Subckt, Command, model_named, Path, with_subckt, subckts_of, placed, model_at, has_name, Ends, ends, SubcktLine, subckt_lines, Walked, refused, walked, Walks, refuse, again, inside, onward, WalksMain, with_line, is_walked, Pair, is_input, inputs_of, ConnectionAt, IsDriven, FlatErr, line_fault}
 use Rattle.blif_flat.proofs.Models.LineLemmas.{IsPlaced, free_line, Connected, no_unknown_formal, no_open_input, no_line_fault}
 
 module _ (library : LibraryValue) where
@@ -58,10 +58,9 @@ pub record LineOf (lines : List SubcktLine) (s : SubcktValue) : Type 0 where
   pub is : line.subckt ≡ s
 
 line_with : (n : ℕ) (b : Body) (subckts : List SubcktValue) (lines : List SubcktLine) (s : SubcktValue) → (In subckts s → LineOf lines s) → In (with_subckt b subckts) s → LineOf (with_line n b lines) s
-line_with n (Cover c) subckts lines s h i = h i
-line_with n (Latch l) subckts lines s h i = h i
 line_with n (Subckt t) subckts lines s h (inl e) = record { line = record { line = n; subckt = t }; member = inl refl; is = sym e }
 line_with n (Subckt t) subckts lines s h (inr i) = let r = h i in record { line = r.line; member = inr r.member; is = r.is }
+line_with n b subckts lines s h i = h i
 
 pub line_of : (commands : List Command) (s : SubcktValue) → In (subckts_of commands) s → LineOf (subckt_lines commands) s
 line_of [] s i = absurd i
@@ -214,10 +213,9 @@ module _ (library : LibraryValue) (P : ModelValue → Type 0) where
 
 -- the subcircuit of a line
 line_subckt : (n : ℕ) (b : Body) (subckts : List SubcktValue) (lines : List SubcktLine) (l : SubcktLine) → (In lines l → In subckts l.subckt) → In (with_line n b lines) l → In (with_subckt b subckts) l.subckt
-line_subckt n (Cover c) subckts lines l h i = h i
-line_subckt n (Latch r) subckts lines l h i = h i
 line_subckt n (Subckt s) subckts lines l h (inl e) = inl (ap (λ (x : SubcktLine). x.subckt) e)
 line_subckt n (Subckt s) subckts lines l h (inr i) = inr (h i)
+line_subckt n b subckts lines l h i = h i
 
 subckt_of : (commands : List Command) (l : SubcktLine) → In (subckt_lines commands) l → In (subckts_of commands) l.subckt
 subckt_of [] l i = i

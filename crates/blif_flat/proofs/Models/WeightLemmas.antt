@@ -1,5 +1,5 @@
 -- A model has one weight, which exists where those of the placed models do, and sums of capped weights are as good as sums of weights.
-use Rattle.blif_flat.proofs.Common.{same_or, In-push, take_get, take-append-le, ◌≡◌, ℕ, List, Some, sym, ap, ◌∙◌, arith, zero, suc, ◌+◌, ◌<◌, ◌≤◌, Bool, true, false, cond, ltb, eqb, [], ◌∷◌, ◌++◌, length, get_or, take, set, None, refl, subst, inl, inr, ◌⊎◌, bytes_eq, Result, Ok, Err, MatchResult, same_Some, none-some, get_or_from_slice_get, slice_get-get_or, slice_get_within, get_or-set_same, get_or-set_other, cases_Bool, both_ways, eq-eqb, eqb-true, In, get_pushed, slice_get, find_at, SubcktValue, ModelValue, Body, Cover, Latch, Subckt, Command, subckts_of, model_named, with_subckt, own_weight, Weighs, weighs, WeighAll, most_weight, place_of, OrMemory, FlatErr, TooLarge, refusal_of, model_names, HasWeight, capped, kept_at, body_kept, commands_kept, model_kept, IsAmong, IsBehind, AreChildrenFirst, IsKeptWeight, LibraryValue, position, position_or_len, find, not_empty, same_first, same_rest, length-set}
+use Rattle.blif_flat.proofs.Common.{same_or, In-push, take_get, take-append-le, ◌≡◌, ℕ, List, Some, sym, ap, ◌∙◌, arith, ◌+◌, ◌<◌, ◌≤◌, Bool, true, false, cond, ltb, [], ◌∷◌, ◌++◌, length, get_or, take, set, None, refl, subst, inl, inr, bytes_eq, Result, Ok, Err, MatchResult, same_Some, none-some, get_or_from_slice_get, slice_get-get_or, slice_get_within, get_or-set_same, get_or-set_other, In, get_pushed, slice_get, find_at, SubcktValue, ModelValue, Body, Subckt, Command, subckts_of, model_named, with_subckt, own_weight, Weighs, weighs, WeighAll, most_weight, place_of, OrMemory, FlatErr, TooLarge, refusal_of, model_names, HasWeight, capped, kept_at, body_kept, commands_kept, model_kept, IsBehind, AreChildrenFirst, IsKeptWeight, LibraryValue, position, position_or_len, find, same_first, same_rest, length-set, not_empty}
 use Rattle.std.proofs.Math.Seq.{take-append_seam}
 use Rattle.tl_text.proofs.NameLemmas.{position-map}
 use Rattle.netlist.specs.Weight.{none, more}
@@ -43,17 +43,6 @@ record IsChildKept (library : LibraryValue) (weights : List ℕ) (s : SubcktValu
   weighs : Weighs library child weight
   kept : kept_at weights (place_of (model_names library.models) s.model) ≡ capped weight
 
-child_kept : (library : LibraryValue) (before weights : List ℕ) (s : SubcktValue) → IsAmong library before s.model → ((n : ℕ) → In before n → IsKeptWeight library weights n) → IsChildKept library weights s
-child_kept library before weights s a h =
-    let k : IsKeptWeight library weights a.number = h a.number a.among in
-    record {
-      child = k.model;
-      named = named_at library s.model a.number a.place ∙ k.at;
-      weight = k.weight;
-      weighs = k.weighs;
-      kept = ap (λ o. kept_at weights o) a.place ∙ get_or_from_slice_get weights a.number (capped k.weight) 0 k.kept;
-    }
-
 -- subcircuits have a weight, which is some sum where both are capped
 record IsSum (library : LibraryValue) (subckts : List SubcktValue) (sum : ℕ) : Type 0 where
   inner : ℕ
@@ -62,11 +51,10 @@ record IsSum (library : LibraryValue) (subckts : List SubcktValue) (sum : ℕ) :
 
 body_sum : (library : LibraryValue) (weights : List ℕ) (body : Body) (ss : List SubcktValue) (sum : ℕ) → ((s : SubcktValue) → In (with_subckt body ss) s → IsChildKept library weights s)
     → IsSum library ss sum → IsSum library (with_subckt body ss) (body_kept (model_names library.models) weights body + sum)
-body_sum library weights (Cover c) ss sum h r = record { inner = r.inner; all = r.all; is = let e : capped r.inner ≡ capped sum = r.is in omega arith }
-body_sum library weights (Latch l) ss sum h r = record { inner = r.inner; all = r.all; is = let e : capped r.inner ≡ capped sum = r.is in omega arith }
 body_sum library weights (Subckt s) ss sum h r =
     let k : IsChildKept library weights s = h s (inl refl) in
     record { inner = k.weight + r.inner; all = more s ss k.child k.weight r.inner refl k.named k.weighs r.all refl; is = omega arith }
+body_sum library weights body ss sum h r = record { inner = r.inner; all = r.all; is = let e : capped r.inner ≡ capped sum = r.is in omega arith }
 
 commands_sum : (library : LibraryValue) (weights : List ℕ) (cs : List Command) → ((s : SubcktValue) → In (subckts_of cs) s → IsChildKept library weights s) → IsSum library (subckts_of cs) (commands_kept (model_names library.models) weights cs)
 commands_sum library weights [] h = record { inner = 0; all = none refl refl; is = refl }
@@ -78,7 +66,16 @@ fresh_kept : (library : LibraryValue) (before weights news : List ℕ) (number :
     → slice_get news number ≡ Some (model_kept (model_names library.models) weights b.model) → IsKeptWeight library news number
 fresh_kept library before weights news number b h at =
     let m : ModelValue = b.model in
-    let r : IsSum library (subckts_of m.commands) (commands_kept (model_names library.models) weights m.commands) = commands_sum library weights m.commands (λ s i. child_kept library before weights s (b.children s i) h) in
+    let r : IsSum library (subckts_of m.commands) (commands_kept (model_names library.models) weights m.commands) = commands_sum library weights m.commands (λ s i.
+    let a = b.children s i in
+    let k : IsKeptWeight library weights a.number = h a.number a.among in
+    record {
+      child = k.model;
+      named = named_at library s.model a.number a.place ∙ k.at;
+      weight = k.weight;
+      weighs = k.weighs;
+      kept = ap (λ o. kept_at weights o) a.place ∙ get_or_from_slice_get weights a.number (capped k.weight) 0 k.kept;
+    }) in
     let w : Weighs library m (own_weight m + r.inner) = weighs r.inner r.all refl in
     let same : capped (own_weight m + commands_kept (model_names library.models) weights m.commands) ≡ capped (own_weight m + r.inner) = omega arith in
     record { model = m; at = b.at; weight = own_weight m + r.inner; weighs = w; kept = at ∙ ap Some same; once = λ v x. weighs_once library m m v (own_weight m + r.inner) refl x w }

@@ -1,14 +1,12 @@
 -- The clock nets by the numbers of the main model's inputs.
 use Rattle.std.specs.Prelude.{◌≡◌, ℕ, ◌||◌, ◌<◌, Bool, false, List, length, map, Option, Some, None, slice_get, bytes_eq, ◌⊎◌, true, [], ◌∷◌}
-use Rattle.std.specs.Option.{option_and_then}
-use Rattle.blif_flat.specs.Circuits.{In, ModelValue, LibraryValue, Path, has_name, inputs_of, is_latch, LatchValue, LatchAt, Net, input_net, Drives, Place, FlatNet, FlatErr, SecondClock, ClockNotInput, ClockAsData}
+use Rattle.std.specs.Option.{option_and_then, option_or as or_later}
+use Rattle.blif_flat.specs.Circuits.{In, ModelValue, LibraryValue, Path, has_name, inputs_of, is_latch, LatchValue, LatchAt, Net, input_net, Drives, Place, FlatNet, FlatErr, SecondClock, ClockNotInput, ClockAsData, IsControl, TellsClocks, Input}
 use Rattle.blif_flat.specs.ClockFaults.{Clocks}
-use Rattle.std.specs.Option.{option_or as or_later}
-use Rattle.netlist.specs.Flat.{IsControl, TellsClocks}
 use Rattle.blif_flat.specs.Bodies.InstanceRows.{places_at}
 use Rattle.blif_flat.specs.Bodies.NetTable.{NetsValue, table_of}
 use Rattle.blif_flat.specs.Written.{IsWritten}
-use Rattle.netlist.specs.declared.flat.Net.TheVariants.{Input, Latch, Cover}
+use Rattle.netlist.specs.declared.flat.Net.TheVariants.{Latch, Cover}
 
 -- the name of an input's number
 abbrev pub input_name : ModelValue → Option ℕ → Option (List ℕ)

@@ -1,33 +1,25 @@
 -- Nets are numbered anew by the main model's inputs without its clock nets.
 use Rattle.std.specs.Prelude.{◌≡◌, ℕ, ◌+◌, Bool, not, if◌then◌else◌, List, [], ◌∷◌, filter, length, map, Some, slice_get, true, false, ◌++◌, Option, None, is_some, ◌<◌, Vec, reverse, ◌≤◌}
-use Rattle.std.specs.Global.{Global}
 use Rattle.std.specs.List.{range_with_len}
 use Rattle.std.specs.Option.{option_and_then}
+use Rattle.blif_flat.specs.Circuits.{Edge, Node, Pass, In, ModelValue, LibraryValue, Path, model_at, inputs_of, Drives, input_net, IsClock, Place, is_cover, is_latch, Body, LatchValue, CoverValue, cover_in, latch_in, FlatOrder, cover_net, FlatCoverValue, FlatLatch, FlatNet, OutPort, Repeat, MeetsAll, Places, TellsClocks, IsFlatCover, IsFlatLatch, AreNetsOf, cover_numbers, inputs_at, most_weight, Input, Gate, Instance, latch_nets}
+use Rattle.std.specs.Global.{Global}
 use Rattle.depth_first.specs.DepthFirst.{PostsAll}
 use Rattle.depth_first.specs.Edges.{ways_from}
 use Rattle.depth_first.specs.Order.{IsSettled}
 use Rattle.depth_first.specs.Walk.{WalkValue, from_node}
-use Rattle.depth_first.specs.declared.edge.Edge.{Edge}
-use Rattle.depth_first.specs.declared.edge.Edge.TheVariants.{Node, Pass}
-use Rattle.blif_flat.specs.Circuits.{In, ModelValue, LibraryValue, Path, model_at, inputs_of, Drives, input_net, IsClock, Place, is_cover, is_latch, Body, LatchValue, CoverValue, cover_in, latch_in, FlatOrder, cover_net, FlatCoverValue, FlatLatch, FlatNet, OutPort}
 use Rattle.blif_flat.specs.ClockFaults.{is_gate, ClockData}
-use Rattle.netlist.specs.DepthFirst.{Repeat, MeetsAll}
-use Rattle.netlist.specs.Flat.{Places, TellsClocks, IsFlatCover, IsFlatLatch, AreNetsOf, cover_numbers, inputs_at}
 use Rattle.blif_flat.specs.LoopFault.{AreWritten}
 use Rattle.netlist.specs.Sound.{IsData}
 use Rattle.blif_flat.specs.Bodies.ClockSteps.{input_name, IsControlled, clock_test}
 use Rattle.blif_flat.specs.Bodies.InstanceRows.{places_at, number_or_zero, gate_body, AreInstances, paths_of, AreGatesAt}
 use Rattle.blif_flat.specs.Bodies.NetTable.{NetsValue, table_of, AreAllNets}
-use Rattle.netlist.specs.Weight.{most_weight}
 use Rattle.blif_flat.specs.Written.{IsWritten}
 use Rattle.blif_flat.specs.declared.clock.clock_check.ClockNets.{ClockNets}
 use Rattle.blif_flat.specs.declared.circuit.connect.Circuit.{Circuit}
 use Rattle.blif_flat.specs.declared.field.loops.Found.{Found}
 use Rattle.blif_flat.specs.declared.field.loops.Found.TheVariants.{Loop as found_loop, Order as found_order}
-use Rattle.netlist.specs.declared.flat.Net.TheVariants.{Input, Latch, Cover}
-use Rattle.blif_flat.specs.declared.circuit.instances.Gate.{Gate}
-use Rattle.blif_flat.specs.declared.circuit.instances.Instance.{Instance}
-use Rattle.netlist.specs.Flat.{latch_nets}
+use Rattle.netlist.specs.declared.flat.Net.TheVariants.{Latch, Cover}
 
 -- the numbers of the inputs that aren't marked, counted on from n; a marked one has the number of the next one
 abbrev pub regular_numbers : ℕ → List Bool → List ℕ

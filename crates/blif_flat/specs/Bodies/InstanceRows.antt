@@ -2,14 +2,10 @@
 pub use Rattle.netlist.specs.Weight.{IsLight}
 use Rattle.std.specs.Prelude.{ℕ, Bool, List, [], ◌∷◌, ◌++◌, Option, Some, None, ◌≡◌, suc, ◌<◌, ◌≤◌, length, slice_get, ◌+◌, if◌then◌else◌}
 use Rattle.std.specs.Option.{option_and_then}
-use Rattle.tl_text.specs.NameIndex.{place_of}
-use Rattle.blif_flat.specs.Circuits.{Body, SubcktValue, ModelValue, LibraryValue, Path, model_at, Place, own_of, InFlatOrder, InFlatOrderUnder, Cover, Latch, Subckt, Command, CoverValue, body_at, cover_in, is_cover, is_latch}
+use Rattle.blif_flat.specs.Circuits.{place_of, Body, SubcktValue, ModelValue, LibraryValue, Path, model_at, Place, own_of, InFlatOrder, InFlatOrderUnder, Cover, Latch, Subckt, Command, CoverValue, body_at, cover_in, is_cover, is_latch, most_weight, Gate, Instance}
 use Rattle.blif_flat.specs.ClockFaults.{is_gate}
-use Rattle.netlist.specs.Weight.{most_weight}
-use Rattle.blif_flat.specs.declared.circuit.instances.Gate.{Gate}
 use Rattle.blif_flat.specs.declared.circuit.instances.GateKind.{GateKind}
 use Rattle.blif_flat.specs.declared.circuit.instances.GateKind.TheVariants.{Cover, Latch, Either}
-use Rattle.blif_flat.specs.declared.circuit.instances.Instance.{Instance}
 
 abbrev pub itself : Path → ModelValue → List Path
 itself path m = path ∷ []

@@ -1,20 +1,52 @@
 -- What one step makes of the models: a line, a walk, the drivers, the weight; and what stands after all.
 use Rattle.std.specs.Prelude.{◌≡◌, Option, Some, ℕ, ◌||◌, if◌then◌else◌, List, [], ◌∷◌, None, ◌++◌, map, unwrap_or, slice_get, Result, MatchResult, ◌+◌, min, take, get_or}
-use Rattle.depth_first.specs.declared.edge.Edge.{Edge}
-use Rattle.depth_first.specs.declared.edge.Edge.TheVariants.{Node, Stop, Pass}
+use Rattle.std.specs.Option.{option_or as or_later, option_to_list as control_names}
+use Rattle.blif_flat.specs.Circuits.{Edge, Node, Stop, Pass, place_of, In, Pair, SubcktValue, ModelValue, has_name, Body, Cover, Latch, Subckt, Command, LibraryValue, model_named, subckts_of, IsDriven, FlatErr, inputs_of, most_weight, own_weight, Weighs, Ports}
 use Rattle.tl_fault.specs.OrMemory.{OrMemory}
-use Rattle.tl_text.specs.NameIndex.{place_of}
-use Rattle.blif_flat.specs.Circuits.{In, Pair, SubcktValue, ModelValue, has_name, Body, Cover, Latch, Subckt, Command, LibraryValue, model_named, subckts_of, IsDriven, FlatErr}
-use Rattle.std.specs.Option.{option_or as or_later}
 use Rattle.blif_flat.specs.DriverFaults.{model_fault}
 use Rattle.blif_flat.specs.Faults.{IsConnected}
 use Rattle.blif_flat.specs.Refusals.{refusal_of}
 use Rattle.blif_flat.specs.Bodies.InstanceRows.{IsLight}
 use Rattle.netlist.specs.Models.{model_names}
-use Rattle.blif_flat.specs.Bodies.NameSets.{IsModelOf, ports_value}
 use Rattle.blif_flat.specs.Walk.{formal_fault, unknown_formal, SubcktLine, subckt_lines, line_fault}
-use Rattle.netlist.specs.Weight.{most_weight, own_weight, Weighs}
-use Rattle.blif_flat.specs.declared.model.ports.Ports.{Ports}
+pub use Rattle.tl_text.specs.NameSets.{with_name, with_names}
+
+-- the ports of a model
+abbrev pub ports_value : ModelValue → Ports
+ports_value m = record { inputs = inputs_of m; outputs = m.outputs }
+
+-- the model of this number is the one of this name
+pub record IsModelOf (models : List ModelValue) (name : List ℕ) (number : ℕ) : Type 0 where
+  pub model : ModelValue
+  pub at : slice_get models number ≡ Some model
+  pub named : model_named models name ≡ Some model
+
+-- a number is found for a name exactly where there is a model of that name
+abbrev pub Finds : List ModelValue → List ℕ → Option ℕ → Type 0
+Finds models name (Some number) = IsModelOf models name number
+Finds models name None = model_named models name ≡ None
+
+-- The names that stand in a model: its ports, the names of its covers and latches, and the actuals of its connections.
+abbrev pub body_names : Body → List (List ℕ)
+body_names (Cover c) = c.inputs ++ c.output ∷ []
+body_names (Latch l) = l.input ∷ l.output ∷ control_names l.control
+body_names (Subckt s) = map (λ (pair : Pair). pair.actual) s.pairs
+
+abbrev pub commands_names : List Command → List (List ℕ)
+commands_names [] = []
+commands_names (c ∷ cs) = body_names c.body ++ commands_names cs
+
+abbrev pub all_names : ModelValue → List (List ℕ)
+all_names m = m.inputs ++ (m.outputs ++ (m.clocks ++ commands_names m.commands))
+
+-- The models of several numbers.
+abbrev pub with_numbered : Option ModelValue → List ModelValue → List ModelValue
+with_numbered None ms = ms
+with_numbered (Some m) ms = m ∷ ms
+
+abbrev pub models_at : List ModelValue → List ℕ → List ModelValue
+models_at models [] = []
+models_at models (n ∷ ns) = with_numbered (slice_get models n) (models_at models ns)
 
 -- What an error of a stage tells.
 

@@ -1,17 +1,10 @@
 -- The nets as they are kept: each instance has slots for the names of its model, from its first one on.
 use Rattle.std.specs.Prelude.{◌≡◌, ℕ, ◌+◌, ◌<◌, ◌≤◌, Bool, if◌then◌else◌, List, [], ◌∷◌, length, Option, Some, None, slice_get, slice_set, ◌==◌, ◌&&◌, bytes_eq, take, IsTrue, zero, suc, map}
 use Rattle.std.specs.Option.{option_map, option_and_then}
-use Rattle.tl_text.specs.NameIndex.{place_of}
-use Rattle.blif_flat.specs.Circuits.{In, Pair, Body, Command, LatchValue, CoverValue, ModelValue, LibraryValue, Path, model_at, is_input, is_output, inputs_of, CoverAt, LatchAt, ConnectionAt, Net, Drives, is_cover, is_latch, Cover, Latch, Subckt, SubcktValue, subckts_of, FlatNet}
-use Rattle.netlist.specs.Flat.{Places, IsNetOf}
+use Rattle.blif_flat.specs.Circuits.{place_of, In, Pair, Body, Command, LatchValue, CoverValue, ModelValue, LibraryValue, Path, model_at, is_input, is_output, inputs_of, CoverAt, LatchAt, ConnectionAt, Net, Drives, is_cover, is_latch, Cover, Latch, Subckt, SubcktValue, subckts_of, FlatNet, Places, IsNetOf, most_weight, InputNumber, LatchNumber, CoverNumber, Gate, Instance, Ports}
 use Rattle.blif_flat.specs.Bodies.InstanceRows.{places_at, paths_of, gate_body}
-use Rattle.blif_flat.specs.Bodies.NameSets.{all_names, with_names, ports_value}
-use Rattle.netlist.specs.Weight.{most_weight}
-use Rattle.netlist.specs.declared.flat.Net.TheVariants.{Input as InputNumber, Latch as LatchNumber, Cover as CoverNumber}
-use Rattle.blif_flat.specs.declared.circuit.instances.Gate.{Gate}
-use Rattle.blif_flat.specs.declared.circuit.instances.Instance.{Instance}
+use Rattle.blif_flat.specs.Bodies.ModelSteps.{all_names, with_names, ports_value}
 use Rattle.blif_flat.specs.declared.circuit.nets.Start.{Start}
-use Rattle.blif_flat.specs.declared.model.ports.Ports.{Ports}
 
 -- the names of the models, the model and the first slot of each instance, and the slots
 pub record NetsValue : Type 0 where

@@ -15,9 +15,8 @@ overflow_sub-regular-2 c =
     let params : List Param = c.args.params.now.list in
     let l : c.first_latch.result ≡ 1 + length (input_names flat params) = c.first_latch.ensures ∙ ap (λ (n : NetLitsValue). n.latches) c.requires.start ∙ start_latches flat params c.requires.once c.requires.params in
     let p : c.len-params.result ≡ length params = c.len-params.ensures ∙ c.params.inside.list.ok.0 ∙ ap (λ (ps : ParamsValue). length ps.list) c.params.view_is in
-    let a : length (input_names flat params) ≡ length (regular_names flat params) + length (param_names params) = length-append (regular_names flat params) (param_names params) in
     let b : length (param_names params) ≡ length params = length-map params (λ (q : Param). q.name) in
-    omega arith
+    omega (arith, length-append (regular_names flat params) (param_names params))
 
 pub make-requires : goal.make-requires
 make-requires c =
@@ -26,7 +25,6 @@ make-requires c =
     let l : c.first_latch.result ≡ 1 + length (input_names flat params) = c.first_latch.ensures ∙ ap (λ (n : NetLitsValue). n.latches) c.requires.start ∙ start_latches flat params c.requires.once c.requires.params in
     let p : c.len-params.result ≡ length params = c.len-params.ensures ∙ c.params.inside.list.ok.0 ∙ ap (λ (ps : ParamsValue). length ps.list) c.params.view_is in
     let s : c.len.result ≡ length flat.latches = c.len.ensures ∙ c.flat.inside.latches.ok.0 ∙ ap (λ (f : FlatValue). length f.latches) c.flat.view_is in
-    let a : length (input_names flat params) ≡ length (regular_names flat params) + length (param_names params) = length-append (regular_names flat params) (param_names params) in
     let b : length (param_names params) ≡ length params = length-map params (λ (q : Param). q.name) in
     let r : ℕ = c.first_latch.result - 1 - c.len-params.result in
     let rs : List Kind = replicate r Regular in
@@ -35,7 +33,7 @@ make-requires c =
     let n : vec_len c.in_ok-kinds.kinds ≡ length (rs ++ (ps ++ ls)) = c.in_ok-kinds.kinds.ok.0 ∙ ap length c.in_ok-kinds.ensures in
     let few : length params ≤ 65535 = c.requires.params.named.few in
     let most : length (regular_names flat params) ≤ length flat.inputs = few_regular flat params c.requires.once c.requires.params in
-    omega (arith, c.requires.few, c.requires.few_latches, length-append {A = Kind}, length-replicate {A = Kind})
+    omega (arith, length-append (regular_names flat params) (param_names params), c.requires.few, c.requires.few_latches, length-append {A = Kind}, length-replicate {A = Kind})
 
 pub returns : goal.returns
 returns c =
@@ -44,9 +42,8 @@ returns c =
     let l : c.first_latch.result ≡ 1 + length (input_names flat params) = c.first_latch.ensures ∙ ap (λ (n : NetLitsValue). n.latches) c.requires.start ∙ start_latches flat params c.requires.once c.requires.params in
     let p : c.len-params.result ≡ length params = c.len-params.ensures ∙ c.params.inside.list.ok.0 ∙ ap (λ (ps : ParamsValue). length ps.list) c.params.view_is in
     let s : c.len.result ≡ length flat.latches = c.len.ensures ∙ c.flat.inside.latches.ok.0 ∙ ap (λ (f : FlatValue). length f.latches) c.flat.view_is in
-    let a : length (input_names flat params) ≡ length (regular_names flat params) + length (param_names params) = length-append (regular_names flat params) (param_names params) in
     let b : length (param_names params) ≡ length params = length-map params (λ (q : Param). q.name) in
-    let r : c.first_latch.result - 1 - c.len-params.result ≡ length (regular_names flat params) = omega arith in
+    let r : c.first_latch.result - 1 - c.len-params.result ≡ length (regular_names flat params) = omega (arith, length-append (regular_names flat params) (param_names params)) in
     let e : c.in_ok-kinds.kinds.items ≡ source_kinds flat params =
     c.in_ok-kinds.ensures
     ∙ ap (λ (n : ℕ). replicate n Regular ++ (replicate c.len-params.result Parameter ++ replicate c.len.result Regular)) r

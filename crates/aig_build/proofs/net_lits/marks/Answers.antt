@@ -1,9 +1,7 @@
-use Rattle.aig_build.proofs.Common.{◌≡◌, ◌<◌, length, vec_len, arith, member_at, Param}
+use Rattle.aig_build.proofs.Common.{arith, member_at, Param}
 use Rattle.aig_build.proofs.net_lits.marks.Goals as goal
 
 pub index_mut-requires : goal.index_mut-requires
 index_mut-requires c =
     let p : Param = c.param-item.result in
-    let n : vec_len c.loop-param.marks ≡ length c.loop-param.marks.items = c.loop-param.marks.ok.0 in
-    let l : p.input < c.args.count = c.requires p (member_at c.args.params.now c.loop-param.param-index p c.loop-param-test.true c.param-item.is) in
-    omega (arith, c.loop-param.invariant.count)
+    omega (arith, c.loop-param.marks.ok.0, c.requires p (member_at c.args.params.now c.loop-param.param-index p c.loop-param-test.true c.param-item.is), c.loop-param.invariant.count)

@@ -1,4 +1,4 @@
-use Rattle.aiger_io.proofs.Common.{arith, eqb, ℕ, sym, length, eq-eqb, get_or, position_or_len_is, true}
+use Rattle.aiger_io.proofs.Common.{arith, eqb, ℕ, sym, length, eq-eqb, get_or, position_or_len_is}
 use Rattle.aiger_io.proofs.symbol.blank_place.Goals as goal
 
 pub returns-then-b-eq32-clause-value : goal.returns-then-b-eq32-clause-value

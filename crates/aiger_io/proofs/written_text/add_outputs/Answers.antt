@@ -1,4 +1,4 @@
-use Rattle.aiger_io.proofs.Common.{added_part, Lit, output_item, item_text, true}
+use Rattle.aiger_io.proofs.Common.{added_part, Lit, output_item, item_text}
 use Rattle.aiger_io.proofs.written_text.add_outputs.Goals as goal
 
 pub loop-l-preserved : goal.loop-l-preserved

@@ -1,5 +1,5 @@
 use Rattle.blif_read.proofs.Common.{◌≡◌, ◌∙◌, ap, sym, refl, true, false, List, Option, Some, ℕ, ◌++◌, ◌∷◌, [], Pair, has, connection_of, repeats_formal, with_formal, put_pair}
-use Rattle.blif_read.proofs.ReaderLemmas.{has_from}
+use Rattle.blif_read.proofs.TextLemmas.{has_from}
 use Rattle.blif_read.proofs.connections.add_pair.Goals as goal
 
 pub returns-then-is_some : goal.returns-then-is_some

@@ -1,5 +1,5 @@
 use Rattle.blif_read.proofs.Common.{passed_on}
-use Rattle.blif_read.proofs.ReaderLemmas.{word_refused, word_read}
+use Rattle.blif_read.proofs.TextLemmas.{word_refused, word_read}
 use Rattle.blif_read.proofs.connections.pairs.Goals as goal
 
 pub returns-in_err-add_pair : goal.returns-in_err-add_pair

@@ -1,5 +1,5 @@
 use Rattle.blif_read.proofs.Common.{◌≡◌, ◌∙◌, ap, cond, Bool, true, false, Some, None, DuplicatePort, has}
-use Rattle.blif_read.proofs.ReaderLemmas.{has_from}
+use Rattle.blif_read.proofs.TextLemmas.{has_from}
 use Rattle.blif_read.proofs.port_list.add.Goals as goal
 
 pub returns-then-is_some : goal.returns-then-is_some

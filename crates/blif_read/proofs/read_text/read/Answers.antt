@@ -1,8 +1,7 @@
-use Rattle.blif_read.proofs.SizeLemmas.{denotes_small}
-use Rattle.blif_read.proofs.SmallLemmas.{denotes_few, denotes_short}
+use Rattle.blif_read.proofs.SizeLemmas.{denotes_small, denotes_few, denotes_short}
 use Rattle.blif_read.proofs.TextLemmas.{all_read, denoted_read, one_reading, refused_read}
 use Rattle.blif_read.proofs.CleanLemmas.{denotes_clean}
-use Rattle.blif_read.proofs.WellFormedLemmas.{denotes_formed}
+use Rattle.blif_read.proofs.FormedLemmas.{denotes_formed}
 use Rattle.blif_read.proofs.read_text.read.Goals as goal
 
 pub returns : goal.returns

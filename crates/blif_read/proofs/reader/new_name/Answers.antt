@@ -1,5 +1,5 @@
 use Rattle.blif_read.proofs.Common.{◌≡◌, ◌∙◌, ap, sym, refl, cond, Bool, true, false, ℕ, List, [], ◌∷◌, ◌++◌, Some, None, DuplicateModel, has, model_fault}
-use Rattle.blif_read.proofs.ReaderLemmas.{has_from}
+use Rattle.blif_read.proofs.TextLemmas.{has_from}
 use Rattle.blif_read.proofs.reader.new_name.Goals as goal
 
 pub returns-then-is_some : goal.returns-then-is_some

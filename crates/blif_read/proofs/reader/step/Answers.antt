@@ -1,5 +1,5 @@
 use Rattle.blif_read.proofs.Common.{◌≡◌, subst, None, Some, MatchResult, StatementValue, line_fault, OrMemory, refusal_of, context, next}
-use Rattle.blif_read.proofs.ReaderLemmas.{step_inside}
+use Rattle.blif_read.proofs.TextLemmas.{step_inside}
 use Rattle.blif_read.proofs.reader.step.Goals as goal
 
 pub returns-in_default : goal.returns-in_default

@@ -1,14 +1,14 @@
 -- A library has at most one fault, and none where it is sound and not too large.
-use Rattle.blif_flat.proofs.Common.{cases_lt, inl, inr, ◌≡◌, ℕ, ◌<◌, List, [], ◌∷◌, Option, Some, None, refl, sym, ap, ap₂, ◌∙◌, subst, ◌≤◌, arith, none-some, same_Some, Result, Ok, Err, IfOk, IfErr, Bool, OrMemory-map, ModelValue, model_at, cover_net, IsDriven, Place, is_latch, FlatOrder, IsWellFormed, FlatErr, TooLarge, Walked, refused, walked, WalksMain, most_weight, Weighs, IsLight, models_fault, Clocks, is_gate, ClockData, Repeat, from_node, AreWritten, IsLoop, LoopWalk, IsWalked, IsConnected, IsClocked, IsFault, HasOneFault, in_walk, too_large, in_drivers, in_controls, in_data, in_loops, HasNoFault, IsSound, OrMemory, Body, refusal_of, IsChecked, Tells, models_at, HasWeight, Instance, ClockNets, AreInstances, paths_of, places_at, AreClockNets, LibraryValue, Loop, order_once}
+use Rattle.blif_flat.proofs.Common.{cases_lt, inl, inr, ◌≡◌, ℕ, ◌<◌, List, [], ◌∷◌, Option, Some, None, refl, sym, ap, ap₂, ◌∙◌, subst, ◌≤◌, arith, none-some, same_Some, Result, Ok, Err, IfOk, IfErr, OrMemory-map, ModelValue, model_at, cover_net, IsDriven, Place, is_latch, FlatOrder, IsWellFormed, FlatErr, TooLarge, Walked, refused, walked, WalksMain, most_weight, Weighs, IsLight, models_fault, Clocks, is_gate, ClockData, Repeat, from_node, AreWritten, IsLoop, LoopWalk, IsWalked, IsConnected, IsClocked, IsFault, HasOneFault, in_walk, too_large, in_drivers, in_controls, in_data, in_loops, HasNoFault, IsSound, OrMemory, refusal_of, IsChecked, Tells, models_at, HasWeight, Instance, ClockNets, AreInstances, paths_of, places_at, AreClockNets, LibraryValue, Loop, order_once}
 use Rattle.blif_flat.specs.LoopFault.{none, more}
 use Rattle.blif_flat.proofs.Clocking.ControlLemmas.{clocks_once, data_once, sound-clocks, sound-data}
 use Rattle.blif_flat.proofs.Fields.LoopOnceLemmas.{loop_once, sound-loops}
-use Rattle.blif_flat.proofs.Hierarchy.OrderLemmas.{order_places}
+use Rattle.blif_flat.proofs.Hierarchy.OrderLemmas.{rows_order}
 use Rattle.blif_flat.proofs.Hierarchy.PlaceLemmas.{written_once}
 use Rattle.blif_flat.proofs.Models.DrivenLemmas.{walked_driven, driven_clean}
 use Rattle.blif_flat.proofs.Models.WalkedLemmas.{walk_main_once, driven_walks}
 use Rattle.blif_flat.proofs.Models.WeightLemmas.{weighs_once}
-use Rattle.blif_flat.proofs.Values.LoopLemmas.{past_sound}
+use Rattle.blif_flat.proofs.LoopLemmas.{past_sound}
 
 -- a main model that isn't too large in one weighing isn't in another
 pub not_heavy : (library : LibraryValue) (main other : ModelValue) (weight own : ℕ) → model_at library [] ≡ Some main → Weighs library main weight → weight ≤ most_weight
@@ -42,9 +42,6 @@ module _ (library : LibraryValue) where
   same_walk : (main other : ModelValue) (r q : Walked) → model_at library [] ≡ Some main → model_at library [] ≡ Some other → WalksMain library main r → WalksMain library other q → r ≡ q
   same_walk main other r q at at_other w v = walk_main_once library other r q (subst (λ m. WalksMain library m r) (same_main main other at at_other) w) v
 
-  refused_once : (main other : ModelValue) (f g : FlatErr) → model_at library [] ≡ Some main → model_at library [] ≡ Some other → WalksMain library main (refused f) → WalksMain library other (refused g) → f ≡ g
-  refused_once main other f g at at_other w v = let e = same_walk main other (refused f) (refused g) at at_other w v in cc
-
   refused_or_walked : (main other : ModelValue) (f : FlatErr) (ms : List ModelValue) → model_at library [] ≡ Some main → model_at library [] ≡ Some other
       → WalksMain library main (refused f) → WalksMain library other (walked ms) → ⊥
   refused_or_walked main other f ms at at_other w v = let e = same_walk main other (refused f) (walked ms) at at_other w v in cc
@@ -59,14 +56,10 @@ module _ (library : LibraryValue) where
   names_once none none = refl
   names_once (more p ps text texts w ws) (more q qs other rest v vs) = ap₂ (λ (t : List ℕ) (ts : List (List ℕ)). t ∷ ts) (written_once library (cover_net p.path p.command) text other w v) (names_once ws vs)
 
-  same_names : (ps qs : List Place) (names others : List (List ℕ)) → ps ≡ qs → AreWritten library ps names → AreWritten library qs others → names ≡ others
-  same_names ps qs names others e a b = names_once (subst (λ l. AreWritten library l names) e a) b
-
   same_loop : (f g : FlatErr) → IsLoop library f → IsLoop library g → f ≡ g
   same_loop f g a b =
       let e : a.repeat ≡ b.repeat = same_Some a.repeat b.repeat (loop_once library (Some a.repeat) (Some b.repeat) a.walk b.walk) in
-      let n : a.names ≡ b.names = same_names (from_node a.repeat.node a.repeat.path) (from_node b.repeat.node b.repeat.path) a.names b.names
-      (ap (λ (c : Repeat Place). from_node c.node c.path) e) a.written b.written in
+      let n : a.names ≡ b.names = names_once (subst (λ (c : Repeat Place). AreWritten library (from_node c.node c.path) a.names) e a.written) b.written in
       a.is ∙ ap Loop n ∙ sym b.is
 
   module _ (formed : IsWellFormed library) where
@@ -99,10 +92,6 @@ module _ (library : LibraryValue) where
     controls_first : (a : IsConnected library) (ps : List Place) (f : FlatErr) → FlatOrder library is_latch [] a.past.main ps → Clocks library None ps (Some f) → IsClocked library → ⊥
     controls_first a ps f o c b = none-some f (same_clocks b.past a b.latches ps None (Some f) b.latches_are o b.none c)
 
-    data_first : (a b : IsClocked library) (ps qs : List Place) (f : FlatErr) → FlatOrder library is_gate [] a.past.past.main ps → FlatOrder library is_gate [] b.past.past.main qs
-        → ClockData library a.past.past.main ps (Some f) → ClockData library b.past.past.main qs None → ⊥
-    data_first a b ps qs f o u c d = none-some f (same_data b a qs ps None (Some f) u o d c)
-
     -- the stage of a fault
     abbrev stage : {f : FlatErr} → IsFault library f → ℕ
     stage (in_walk main at w) = 0
@@ -114,7 +103,7 @@ module _ (library : LibraryValue) where
 
     -- a fault of a stage is the only one, there and in the later stages
     forward : (f g : FlatErr) (a : IsFault library f) (b : IsFault library g) → stage a ≤ stage b → f ≡ g
-    forward f g (in_walk main at w) (in_walk other at_other v) h = refused_once main other f g at at_other w v
+    forward f g (in_walk main at w) (in_walk other at_other v) h = let e = same_walk main other (refused f) (refused g) at at_other w v in cc
     forward f g (in_walk main at w) (too_large other ms weight at_other v y heavy is) h = absurd (refused_or_walked main other f ms at at_other w v)
     forward f g (in_walk main at w) (in_drivers ms a is) h = absurd (walk_first main f ms at w a)
     forward f g (in_walk main at w) (in_controls a ps o c) h = absurd (walk_first main f a.models at w a.past)
@@ -133,7 +122,7 @@ module _ (library : LibraryValue) where
     forward f g (in_controls a ps o c) (in_data b qs u d) h = absurd (controls_first a ps f o c b)
     forward f g (in_controls a ps o c) (in_loops b qs u d l) h = absurd (controls_first a ps f o c b)
     forward f g (in_data a ps o c) (in_data b qs u d) h = same_Some f g (same_data a b ps qs (Some f) (Some g) o u c d)
-    forward f g (in_data a ps o c) (in_loops b qs u d l) h = absurd (data_first a b ps qs f o u c d)
+    forward f g (in_data a ps o c) (in_loops b qs u d l) h = absurd (none-some f (same_data b a qs ps None (Some f) u o d c))
     forward f g (in_loops a ps o c k) (in_loops b qs u d l) h = same_loop f g k l
     forward f g a b h = absurd (omega arith)
 
@@ -171,22 +160,17 @@ module _ (library : LibraryValue) (main : ModelValue) (at : model_at library [] 
     comes_past (Err e) formed light h = tt
 
 module _ (library : LibraryValue) (instances : List Instance) (are : AreInstances library instances) where
-  -- the covers and latches of all instances are in flat order
-  pub rows_order : (kind : Body → Bool) (main : ModelValue) → model_at library [] ≡ Some main → FlatOrder library kind [] main (places_at library kind (paths_of instances))
-  rows_order kind main at =
-      subst (λ m. FlatOrder library kind [] m (places_at library kind (paths_of instances))) (same_Some are.main main (sym are.first ∙ at)) (order_places library kind are.order are.first)
-
   pub controls_refused : IsConnected library → (e : FlatErr) → OrMemory refusal_of (λ r. Clocks library None (places_at library is_latch (paths_of instances)) (Some r)) e → OrMemory refusal_of (IsFault library) e
   controls_refused past e h =
       OrMemory-map refusal_of (λ r. Clocks library None (places_at library is_latch (paths_of instances)) (Some r)) (IsFault library) e
-      (λ r c. in_controls past (places_at library is_latch (paths_of instances)) (rows_order is_latch past.past.main past.past.at) c) h
+      (λ r c. in_controls past (places_at library is_latch (paths_of instances)) (rows_order library instances are is_latch past.past.main past.past.at) c) h
 
   module _ (past : IsConnected library) where
     abbrev pub clocked : Clocks library None (places_at library is_latch (paths_of instances)) None → IsClocked library
-    clocked clean = record { past = past; latches = places_at library is_latch (paths_of instances); latches_are = rows_order is_latch past.past.main past.past.at; none = clean }
+    clocked clean = record { past = past; latches = places_at library is_latch (paths_of instances); latches_are = rows_order library instances are is_latch past.past.main past.past.at; none = clean }
 
     gates_order : FlatOrder library is_gate [] past.past.main (places_at library is_gate (paths_of instances))
-    gates_order = rows_order is_gate past.past.main past.past.at
+    gates_order = rows_order library instances are is_gate past.past.main past.past.at
 
     pub data_refused : Clocks library None (places_at library is_latch (paths_of instances)) None → (e : FlatErr)
         → OrMemory refusal_of (λ r. (main : ModelValue) → model_at library [] ≡ Some main → ClockData library main (places_at library is_gate (paths_of instances)) (Some r)) e → OrMemory refusal_of (IsFault library) e

@@ -1,2 +1,0 @@
--- The faults of a library, from stage to stage.
-pub mod FaultOnceLemmas

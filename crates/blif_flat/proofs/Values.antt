@@ -1,2 +1,0 @@
--- The cycle relation: its law, and what a flat circuit computes.
-pub mod LoopLemmas
