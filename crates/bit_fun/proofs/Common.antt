@@ -12,37 +12,17 @@ pub use Rattle.aig_core.proofs.GrowthLemmas.{Extends, Extends-refl, Extends-tran
 pub use Rattle.aig_core.proofs.NodeLemmas.{node_at, node_normal}
 pub use Rattle.aig_core.proofs.ProductLemmas.{AreBase, AreBase-sources, Makes, Makes-and, complement-below, value_of-complement, value_of-more}
 pub use Rattle.aig_core.proofs.ValueExample.{multiplexer, pair}
-pub use Rattle.aig_core.specs.Aig.{Aig, AreNormal, IsNode, IsNormal, IsSource, first_and, node_count, pair_of}
-pub use Rattle.aig_core.specs.And.{Answer, and_in_order, and_of, complement, found_or_new, is_pair, product_of, with_pairs}
-pub use Rattle.aig_core.specs.Value.{FitsGraph, in_phase, node_value, value_of, xor}
-pub use Rattle.aig_core.specs.declared.lit.Kind.{Kind}
-pub use Rattle.aig_core.specs.declared.lit.Kind.TheVariants.{Parameter, Regular}
-pub use Rattle.aig_core.specs.declared.lit.Lit.{Lit}
-pub use Rattle.aig_core.specs.declared.lit.Pair.{Pair}
+pub use Rattle.bit_fun.specs.Words.{Aig, AreNormal, IsNode, IsNormal, IsSource, first_and, node_count, pair_of, Answer, and_in_order, and_of, complement, found_or_new, is_pair, product_of, with_pairs, FitsGraph, in_phase, node_value, value_of, xor, Kind, Parameter, Regular, Lit, Pair, is_stop, HaveBases, IsMapping, IsTableOf, bits_of, free, node, source, IsCone, IsInner, IsLight, IsTableWork, IsWork, Path, path_here, path_left, path_right, Lut, Blocks, CanBeLeaf, constant, blocks_constant, fan_ins, member, parameter, blocks_parameter, Posts, PostsAll, Way, leads, more, nodes_of, none, posts, skips, stops, AreNodes, successors, ways_from, ways_of, bit_value, digit, number, In, IsAscending, Shape, Param, IsConf, IsPack, PackValue, PackParam}
 pub use Rattle.cover_pick.proofs.BitsLemmas.{base_within, bits_worked}
 pub use Rattle.cover_pick.proofs.WorkLemmas.{inner_stop, node_inside, stop_inner}
-pub use Rattle.cover_pick.specs.Cone.{is_stop}
-pub use Rattle.cover_pick.specs.Mapping.{HaveBases, IsMapping, IsTableOf, bits_of, free, node, source}
-pub use Rattle.cover_pick.specs.Work.{IsCone, IsInner, IsLight, IsTableWork, IsWork, Path, here as path_here, left as path_left, right as path_right}
-pub use Rattle.cover_pick.specs.declared.lut.Lut.{Lut}
-pub use Rattle.cut_sets.specs.Cuts.{Blocks, CanBeLeaf, constant, constant as blocks_constant, fan_ins, member, parameter, parameter as blocks_parameter}
 pub use Rattle.depth_first.proofs.FallLemmas.{LeadsBelow, falls_through}
-pub use Rattle.depth_first.specs.DepthFirst.{Posts, PostsAll, Way, leads, more, nodes_of, none, posts, skips, stops}
-pub use Rattle.depth_first.specs.Edges.{AreNodes, successors, ways_from, ways_of}
 pub use Rattle.depth_first.specs.Reach.{IsReached, Reaches, here, through}
 pub use Rattle.depth_first.specs.Walk.{Visited, WalkValue}
 pub use Rattle.list_laws.proofs.Choice.{choose, choose_one}
 pub use Rattle.list_laws.proofs.Members.{In-append, In-get, In-get_or, in_or, place_in}
 pub use Rattle.list_laws.proofs.Places.{at_within, same_or}
-pub use Rattle.list_laws.specs.Digits.{bit_value, digit, number}
-pub use Rattle.list_laws.specs.Members.{In}
-pub use Rattle.list_laws.specs.Order.{IsAscending}
 pub use Rattle.lut_sim.proofs.SourceLemmas.{IsInputOrLatch, either_side, input, latch}
 pub use Rattle.lut_sim.specs.Sources.{is_regular, last_source, source_value}
-pub use Rattle.lut_sim.specs.declared.shape.Shape.{Shape}
-pub use Rattle.param_list.specs.declared.params.Param.{Param}
-pub use Rattle.ppc_pack.specs.Pack.{IsConf, IsPack, PackValue}
-pub use Rattle.ppc_pack.specs.declared.pack.PackParam.{PackParam}
 pub use Rattle.bit_fun.specs.BitFunction.{NodeBit, IsBit, HasOneBit}
 pub use Rattle.bit_fun.specs.ConeFunctions.{PassValue, lit_of, fan_in, pass_over, with_leaves, HaveSourceLits, HaveLeafLits, IsMadeOver, IsTableIn, IsConeOrder, IsBetween, IsBitMade, AreBitsMade, AreTablesMadeTo, made_node, AreLits, cone_next, Visits, passed, walked, with_made, cone_edges, fan_in_edges, HaveSourceLitsTo}
 pub use Rattle.bit_fun.specs.Configuration.{IsConfiguration, IsMapped, HasOneConfiguration}

@@ -1,7 +1,8 @@
--- The steps of a pass: one node, the nodes of an order, and the leaves before them.
-use Rattle.bit_fun.proofs.Common.{◌≡◌, ℕ, zero, suc, ◌+◌, ◌*◌, ◌/◌, ◌<◌, ◌≤◌, Bool, true, false, eqb, min, max, List, [], ◌∷◌, length, take, get_or, slice_set, reverse, Option, Some, None, refl, sym, ap, ◌∙◌, subst, inl, inr, ◌⊎◌, arith, length-append, slice_get, position, length-set, In, bit_value, digit, IsAscending, choose_one, same_or, length-take, length-reverse, reverse-append, take_more, none-some, same_Some, Lit, Pair, Aig, first_and, node_count, pair_of, Answer, and_in_order, and_of, found_or_new, is_pair, with_pairs, and_grows, length-Extends, PassValue, lit_of, fan_in, made_node, pass_over, with_leaves, HaveSourceLits, HaveLeafLits, AreLits, IsMadeOver}
-use Rattle.bit_fun.proofs.BitLemmas.{AreLeaves, leaf_not_constant, leaf_not_parameter}
-use Rattle.bit_fun.proofs.ConeMakesLemmas.{lit_other, lit_here}
+-- The literals of the sources, and the steps of a pass: one node, the nodes of an order, and the leaves before them.
+use Rattle.bit_fun.proofs.Common.{◌≡◌, ℕ, zero, suc, ◌+◌, ◌*◌, ◌/◌, ◌<◌, ◌≤◌, Bool, true, false, eqb, List, [], ◌∷◌, length, take, slice_set, Option, Some, None, refl, sym, ap, ◌∙◌, subst, inl, inr, ◌⊎◌, arith, length-append, slice_get, position, length-set, In, bit_value, digit, IsAscending, choose_one, same_or, none-some, same_Some, Lit, Pair, Aig, first_and, node_count, pair_of, Answer, and_in_order, found_or_new, is_pair, with_pairs, PassValue, lit_of, fan_in, made_node, pass_over, with_leaves, HaveSourceLits, HaveLeafLits, AreLits, IsMadeOver, ◌-◌, cases_lt, slice_get_within, Kind, Regular, Parameter, param_count, HaveSourceLitsTo, ◌^◌, ◌++◌, append_assoc, append-nil, add-mul, mul-add, mul-one, one-mul, mul-le-mul_left, AreNormal, Lut, IsTableWork, IsWork, IsTableIn, IsConeOrder, IsBetween, IsBitMade, AreBitsMade, AreTablesMadeTo}
+use Rattle.bit_fun.proofs.BitLemmas.{AreLeaves, leaf_not_constant, leaf_not_parameter, regular_no_parameter, place_below}
+use Rattle.bit_fun.proofs.ConeMakesLemmas.{lit_other, lit_here, IsPassed, IsVisited, visit_makes}
+use Rattle.bit_fun.specs.PackOf.{MakesNode, MakesTable, done, more, MakesTables, none, tables}
 
 -- a product adds one node at most
 found_few : (first : ℕ) (ps : List Pair) (x y : ℕ) (o : Option ℕ) → length (found_or_new first ps x y o).pairs ≤ length ps + 1
@@ -19,7 +20,7 @@ and_few first ps x y =
 
 -- literals stay literals while nodes are added
 pub lits_grown : (g old new : Aig) (lits : List Lit) → first_and new ≡ first_and old → length old.pairs ≤ length new.pairs → AreLits g old lits → AreLits g new lits
-lits_grown g old new lits first more are = record { long = are.long; below = λ m. let b : lit_of lits m < 2 * node_count old = are.below m in omega arith }
+lits_grown g old new lits first grows are = record { long = are.long; below = λ m. let b : lit_of lits m < 2 * node_count old = are.below m in omega arith }
 
 pub lits_set : (g pack : Aig) (lits : List Lit) (n : ℕ) (l : Lit) → n < length lits → l.0 < 2 * node_count pack → AreLits g pack lits → AreLits g pack (slice_set lits n l)
 lits_set g pack lits n l within low are = record { long = length-set lits n l ∙ are.long; below = λ m. by m (same_or m n) }
@@ -28,60 +29,15 @@ lits_set g pack lits n l within low are = record { long = length-set lits n l �
     by m (inl e) = let h : lit_of (slice_set lits n l) m ≡ l.0 = ap (lit_of (slice_set lits n l)) e ∙ lit_here lits n l within in omega arith
     by m (inr off) = let b : lit_of lits m < 2 * node_count pack = are.below m in let e : lit_of (slice_set lits n l) m ≡ lit_of lits m = lit_other lits n m l off in omega arith
 
--- no node, and one node more
-pub made_none : (g pack : Aig) (lits : List Lit) → AreLits g pack lits → IsMadeOver g pack lits [] pack lits
-made_none g pack lits are = record { same = refl; made = refl; few = omega arith; lits = are }
-
 pub made_more : (g old : Aig) (before : List Lit) (order : List ℕ) (mid : Aig) (lits : List Lit) (n : ℕ) (new : Aig) (after : List Lit) → IsMadeOver g old before order mid lits → IsMadeOver g mid lits (n ∷ []) new after
     → IsMadeOver g old before (n ∷ order) new after
 made_more g old before order mid lits n new after a b =
     let first : first_and mid ≡ first_and old = ap (λ (m : Aig). first_and m) a.same in
-    let fa : length mid.pairs ≤ length old.pairs + length order = a.few in
-    let fb : length new.pairs ≤ length mid.pairs + length (n ∷ []) = b.few in
     record {
       same = b.same ∙ ap (λ (m : Aig). with_pairs m new.pairs) a.same;
       made = b.made ∙ ap (λ (s : PassValue). made_node (first_and mid) s n (pair_of g n)) a.made ∙ ap (λ f. made_node f (pass_over g (first_and old) (record { pairs = old.pairs; lits = before }) order) n (pair_of g n)) first;
-      few = omega arith;
+      few = omega (arith, b.few, a.few);
       lits = b.lits;
-    }
-
--- one more node of an order, which stands the last first
-pub reverse_more : (order : List ℕ) (i d : ℕ) → i < length order → reverse (take (i + 1) order) ≡ get_or order i d ∷ reverse (take i order)
-reverse_more order i d l = ap reverse (take_more order i d l) ∙ reverse-append (take i order) (get_or order i d ∷ [])
-
-pub made_next : (g old : Aig) (before : List Lit) (order : List ℕ) (i : ℕ) (mid : Aig) (lits : List Lit) (new : Aig) (after : List Lit) → i < length order → IsMadeOver g old before (reverse (take i order)) mid lits
-    → IsMadeOver g mid lits (get_or order i 0 ∷ []) new after → IsMadeOver g old before (reverse (take (i + 1) order)) new after
-made_next g old before order i mid lits new after l a b =
-    subst (λ xs. IsMadeOver g old before xs new after) (sym (reverse_more order i 0 l)) (made_more g old before (reverse (take i order)) mid lits (get_or order i 0) new after a b)
-
--- there is room for one more
-pub made_room : (g old : Aig) (before : List Lit) (order : List ℕ) (i : ℕ) (mid : Aig) (lits : List Lit) → i < length order → length old.pairs + length order ≤ old.max → IsMadeOver g old before (reverse (take i order)) mid lits
-    → length mid.pairs < mid.max
-made_room g old before order i mid lits l room a =
-    let max : mid.max ≡ old.max = ap (λ (m : Aig). m.max) a.same in
-    let few : length mid.pairs ≤ length old.pairs + length (reverse (take i order)) = a.few in
-    let n : length (reverse (take i order)) ≡ length (take i order) = length-reverse (take i order) in
-    let m : length (take i order) ≤ i = omega (arith, length-take i order) in
-    omega arith
-
--- a node's literal
-pub made_one : (g old : Aig) (before : List Lit) (n : ℕ) (p : Pair) (new : Aig) (l : Lit) → pair_of g n ≡ Some p → n < length before → AreLits g old before
-    → l.0 ≡ (and_of old (fan_in before p.x.0) (fan_in before p.y.0)).lit → new ≡ with_pairs old (and_of old (fan_in before p.x.0) (fan_in before p.y.0)).pairs → l.0 < 2 * node_count new
-    → IsMadeOver g old before (n ∷ []) new (slice_set before n l)
-made_one g old before n p new l at within are lit is low =
-    let a : Answer = and_of old (fan_in before p.x.0) (fan_in before p.y.0) in
-    let pairs : new.pairs ≡ a.pairs = ap (λ (m : Aig). m.pairs) is in
-    let more : length a.pairs ≤ length old.pairs + 1 = and_few (first_and old) old.pairs (min (fan_in before p.x.0) (fan_in before p.y.0)) (max (fan_in before p.x.0) (fan_in before p.y.0)) in
-    let grows : length old.pairs ≤ length a.pairs = length-Extends old.pairs a.pairs (and_grows (first_and old) old.pairs (min (fan_in before p.x.0) (fan_in before p.y.0)) (max (fan_in before p.x.0) (fan_in before p.y.0))) in
-    let long : length new.pairs ≡ length a.pairs = ap length pairs in
-    record {
-      same = is ∙ ap (λ ps. with_pairs old ps) (sym pairs);
-      made =
-          ap (λ ps. record { pairs = ps; lits = slice_set before n l }) pairs
-          ∙ ap (λ (m : Lit). record { pairs = a.pairs; lits = slice_set before n m }) (ap (λ k. record { 0 = k }) lit)
-          ∙ ap (λ (o : Option Pair). made_node (first_and old) (record { pairs = old.pairs; lits = before }) n o) (sym at);
-      few = omega arith;
-      lits = lits_set g new before n l within low (lits_grown g old new before (ap (λ (m : Aig). first_and m) is) (omega arith) are);
     }
 
 -- giving the leaves their literals leaves all others
@@ -137,3 +93,184 @@ lits_stay g pack lits v place (n ∷ ns) inside are =
     constant_low : (b : Bool) → bit_value b < 2 * node_count pack
     constant_low true = omega arith
     constant_low false = omega arith
+
+-- the parameters up to a place, by what stands there
+count_more : (kinds : List Kind) (i : ℕ) → slice_get kinds i ≡ Some Parameter → param_count (take (suc i) kinds) ≡ param_count (take i kinds) + 1
+count_more [] i at = absurd (none-some Parameter at)
+count_more (Regular ∷ kinds) zero at = regular_no_parameter at
+count_more (Regular ∷ kinds) (suc i) at = count_more kinds i at
+count_more (Parameter ∷ kinds) zero at = refl
+count_more (Parameter ∷ kinds) (suc i) at = let e : param_count (take (suc i) kinds) ≡ param_count (take i kinds) + 1 = count_more kinds i at in omega arith
+
+count_same : (kinds : List Kind) (i : ℕ) → slice_get kinds i ≡ Some Regular → param_count (take (suc i) kinds) ≡ param_count (take i kinds)
+count_same [] i at = absurd (none-some Regular at)
+count_same (Regular ∷ kinds) zero at = refl
+count_same (Regular ∷ kinds) (suc i) at = count_same kinds i at
+count_same (Parameter ∷ kinds) zero at = regular_no_parameter (sym at)
+count_same (Parameter ∷ kinds) (suc i) at = ap suc (count_same kinds i at)
+
+-- there are no more of them than of all
+count_within : (kinds : List Kind) (i : ℕ) → param_count (take i kinds) ≤ param_count kinds
+count_within kinds zero = omega arith
+count_within [] (suc i) = omega arith
+count_within (Regular ∷ kinds) (suc i) = count_within kinds i
+count_within (Parameter ∷ kinds) (suc i) = let l : param_count (take i kinds) ≤ param_count kinds = count_within kinds i in omega arith
+
+pub count_few : (g : Aig) (i count : ℕ) (lits : List Lit) → HaveSourceLitsTo g i count lits → count ≤ param_count g.kinds
+count_few g i count lits have = omega (arith, have.counted, count_within g.kinds i)
+
+-- up to the next number, and not that one
+below_or : (n k : ℕ) → n ≤ k + 1 → (n ≡ k + 1 → ⊥) → n ≤ k
+below_or n k l off = elim (cases_lt k n) [ inl a ↦ absurd (off (omega arith)) | inr a ↦ a ]
+
+-- a regular source
+pub regular_source : (g : Aig) (i count : ℕ) (lits : List Lit) → slice_get g.kinds (i + 1 - 1) ≡ Some Regular → HaveSourceLitsTo g i count lits → HaveSourceLitsTo g (i + 1) count lits
+regular_source g i count lits at have =
+    let place : i + 1 - 1 ≡ i = omega arith in
+    let next : suc i ≡ i + 1 = omega arith in
+    let here : slice_get g.kinds i ≡ Some Regular = subst (λ k. slice_get g.kinds k ≡ Some Regular) place at in
+    record {
+      counted = have.counted ∙ sym (count_same g.kinds i here) ∙ ap (λ m. param_count (take m g.kinds)) next;
+      long = have.long;
+      constant = have.constant;
+      parameter = λ j n is l. elim (same_or n (i + 1)) [
+        | inl e ↦ absurd (let k : n - 1 ≡ i = omega arith in regular_no_parameter (sym here ∙ subst (λ m. slice_get g.kinds m ≡ Some Parameter) k (is.source).is))
+        | inr off ↦ have.parameter j n is (below_or n i l off)
+      ];
+      below = have.below;
+    }
+
+-- a parameter
+pub parameter_source : (g : Aig) (i count : ℕ) (lits : List Lit) → slice_get g.kinds (i + 1 - 1) ≡ Some Parameter → HaveSourceLitsTo g i count lits
+    → HaveSourceLitsTo g (i + 1) (count + 1) (slice_set lits (i + 1) (record { 0 = 2 * (count + 1) }))
+parameter_source g i count lits at have =
+    let place : i + 1 - 1 ≡ i = omega arith in
+    let next : suc i ≡ i + 1 = omega arith in
+    let here : slice_get g.kinds i ≡ Some Parameter = subst (λ k. slice_get g.kinds k ≡ Some Parameter) place at in
+    let w : i < length g.kinds = slice_get_within g.kinds i Parameter here in
+    let long : length lits ≡ node_count g = have.long in
+    let within : i + 1 < length lits = omega arith in
+    let l : Lit = record { 0 = 2 * (count + 1) } in
+    let c : count ≡ param_count (take i g.kinds) = have.counted in
+    let few : param_count (take i g.kinds) < param_count g.kinds = place_below g.kinds i here in
+    record {
+      counted = ap (λ n. n + 1) c ∙ sym (count_more g.kinds i here) ∙ ap (λ m. param_count (take m g.kinds)) next;
+      long = length-set lits (i + 1) l ∙ long;
+      constant = lit_other lits (i + 1) 0 l (λ e. omega arith) ∙ have.constant;
+      parameter = λ j n is low. elim (same_or n (i + 1)) [
+        | inl e ↦
+            (let k : n - 1 ≡ i = omega arith in
+            let p : param_count (take (n - 1) g.kinds) ≡ j = is.place in
+            let q : param_count (take i g.kinds) ≡ j = ap (λ m. param_count (take m g.kinds)) (sym k) ∙ p in
+            let r : lit_of (slice_set lits (i + 1) l) n ≡ 2 * (count + 1) = ap (lit_of (slice_set lits (i + 1) l)) e ∙ lit_here lits (i + 1) l within in
+            omega arith)
+        | inr off ↦ lit_other lits (i + 1) n l off ∙ have.parameter j n is (below_or n i low off)
+      ];
+      below = λ m. elim (same_or m (i + 1)) [
+        | inl e ↦ (let r : lit_of (slice_set lits (i + 1) l) m ≡ 2 * (count + 1) = ap (lit_of (slice_set lits (i + 1) l)) e ∙ lit_here lits (i + 1) l within in omega arith)
+        | inr off ↦ (let r : lit_of (slice_set lits (i + 1) l) m ≡ lit_of lits m = lit_other lits (i + 1) m l off in let b : lit_of lits m < 2 * (1 + param_count g.kinds) = have.below m in omega arith)
+      ];
+    }
+
+-- A pass over a LUT's order makes the LUT's bit for v; bits of a LUT and LUTs, one after the other.
+-- a table's leaves
+pub leaves_in : (g : Aig) (t : Lut) → IsTableIn g t → AreLeaves g t.leaves
+leaves_in g t is = record { ascending = is.ascending; kinds = is.kinds }
+
+-- each has a literal
+pub leaf_inside : (g pack : Aig) (t : Lut) (lits : List Lit) → IsTableIn g t → IsBetween g pack lits → (m : ℕ) → In t.leaves m → m < length lits
+leaf_inside g pack t lits is between m i = elim (is.kinds m i) [
+  | inl r ↦ omega (arith, (between.literals).long, slice_get_within g.kinds (m - 1) Regular r.is, r.above)
+  | inr a ↦ omega (arith, (between.literals).long, a.1)
+]
+
+-- the bit of a table for v
+pub bit_made : (g : Aig) (t : Lut) (v : ℕ) (order : List ℕ) (old : Aig) (before lits : List Lit) (new : Aig) (after : List Lit) (bit : Lit) → AreNormal (first_and g) g.pairs → IsTableIn g t → IsConeOrder g t.leaves (t.lit.0 / 2) order
+    → IsBetween g old before → lits ≡ with_leaves before v 0 t.leaves → IsMadeOver g old lits order new after → bit.0 ≡ fan_in after t.lit.0
+    → IsBitMade g t v order old new after bit
+bit_made g t v order old before lits new after bit normal is cone between set made lit =
+    let start : PassValue = record { pairs = old.pairs; lits = lits } in
+    let have : IsPassed g (first_and old) t.leaves v start [] = record {
+      sources = subst (HaveSourceLits g) (sym set) (sources_stay g before v t.leaves (leaves_in g t is) between.sources);
+      leaves_have = subst (HaveLeafLits t.leaves v) (sym set) (leaves_set before v t.leaves is.ascending (leaf_inside g old t before is between));
+      known = λ m i. absurd i;
+    } in
+    let all : IsVisited g (first_and old) t.leaves v start [] (t.lit.0 / 2) (pass_over g (first_and old) start order) order =
+    visit_makes g (first_and old) t.leaves v (leaves_in g t is) (Unit {0}) start normal (suc (t.lit.0 / 2)) (t.lit.0 / 2) (omega arith) is.inside is.blocks [] order cone.visit have in
+    let over : IsVisited g (first_and old) t.leaves v start [] (t.lit.0 / 2) (record { pairs = new.pairs; lits = after }) order =
+    subst (λ (s : PassValue). IsVisited g (first_and old) t.leaves v start [] (t.lit.0 / 2) s order) (sym made.made) all in
+    record {
+      lit = lit_of after (t.lit.0 / 2);
+      makes = over.makes;
+      is = ap (λ k. record { 0 = k }) lit;
+      same = made.same;
+      few = made.few;
+      between = record { literals = made.lits; sources = (over.passed_on).sources };
+    }
+
+pub one_bit_more : (g : Aig) (t : Lut) (v : ℕ) (order : List ℕ) (old : Aig) (before : List Lit) (mid : Aig) (lits bits : List Lit) (new : Aig) (after later : List Lit) (bit : Lit) → AreBitsMade g t v order old before mid lits bits
+    → IsBitMade g t v order mid new after bit → later ≡ bits ++ bit ∷ [] → AreBitsMade g t (v + 1) order old before new after later
+one_bit_more g t v order old before mid lits bits new after later bit a b e =
+    let first : first_and mid ≡ first_and old = ap (λ (m : Aig). first_and m) a.same in
+    let next : 1 + v ≡ v + 1 = omega arith in
+    let times : (v + 1) * length order ≡ v * length order + length order = add-mul v 1 (length order) ∙ ap (λ n. v * length order + n) (one-mul (length order)) in
+    record {
+      added = a.added ++ bit ∷ [];
+      are = e ∙ ap (λ xs. xs ++ bit ∷ []) a.are ∙ append_assoc before a.added (bit ∷ []);
+      makes = λ rest m.
+          let m' : MakesTable g (first_and old) t new.pairs (1 + v) rest = subst (λ k. MakesTable g (first_and old) t new.pairs k rest) (sym next) m in
+          let here : MakesNode g (first_and old) t.leaves v mid.pairs (t.lit.0 / 2) (record { pairs = new.pairs; lit = b.lit }) = subst (λ f. MakesNode g f t.leaves v mid.pairs (t.lit.0 / 2) (record { pairs = new.pairs; lit = b.lit })) first b.makes in
+          let step : MakesTable g (first_and old) t mid.pairs v (record { pairs = rest.pairs; bits = bit ∷ rest.bits }) =
+          more (record { pairs = new.pairs; lit = b.lit }) rest here m' (ap (λ (l : Lit). record { pairs = rest.pairs; bits = l ∷ rest.bits }) b.is) in
+          subst (λ (xs : List Lit). MakesTable g (first_and old) t old.pairs 0 (record { pairs = rest.pairs; bits = xs })) (sym (append_assoc a.added (bit ∷ []) rest.bits))
+          (a.makes (record { pairs = rest.pairs; bits = bit ∷ rest.bits }) step);
+      same = b.same ∙ ap (λ (m : Aig). with_pairs m new.pairs) a.same;
+      few = omega (arith, b.few, a.few);
+      between = b.between;
+    }
+
+-- all bits of a table, so that it is made
+table_done : (g : Aig) (t : Lut) (order : List ℕ) (old : Aig) (before : List Lit) (new : Aig) (lits later : List Lit) (b : AreBitsMade g t (2 ^ length t.leaves) order old before new lits later)
+    → MakesTable g (first_and old) t old.pairs 0 (record { pairs = new.pairs; bits = b.added })
+table_done g t order old before new lits later b =
+    subst (λ (xs : List Lit). MakesTable g (first_and old) t old.pairs 0 (record { pairs = new.pairs; bits = xs })) (append-nil b.added) (b.makes (record { pairs = new.pairs; bits = [] }) (done refl refl))
+
+-- a table's order is within its work
+order_work : (n order cone : ℕ) → order ≤ cone → n * order + n ≤ n * (1 + cone)
+order_work n order cone l =
+    let more : n * (1 + order) ≤ n * (1 + cone) = mul-le-mul_left n (omega arith) in
+    let same : n * (1 + order) ≡ n + n * order = mul-add n 1 order ∙ ap (λ m. m + n * order) (mul-one n) in
+    omega arith
+
+-- no tables, and one more
+pub no_tables : (g : Aig) (tables : List Lut) (old : Aig) (lits : List Lit) (work : ℕ) → IsWork g tables work → length old.pairs + work ≤ old.max → IsBetween g old lits → AreTablesMadeTo g tables tables old old lits []
+no_tables g ts old lits work is room between = record { makes = λ rest m. m; same = refl; work = work; is = is; room = room; between = between }
+
+-- what is left of the room, once the bits of the next table are made
+room_left : (g : Aig) (all : List Lut) (t : Lut) (left : List Lut) (order : List ℕ) (old mid : Aig) (lits bits : List Lit) (a : AreTablesMadeTo g all (t ∷ left) old mid lits bits) → IsConeOrder g t.leaves (t.lit.0 / 2) order
+    → length mid.pairs + 2 ^ length t.leaves * length order + a.is.1 ≤ old.max
+room_left g all t left order old mid lits bits a cone =
+    let one : IsTableWork g t a.is.0 = a.is.2 in
+    omega (arith, a.room, a.is.4, one.work_is, order_work (2 ^ length t.leaves) (length order) (length one.cone) (cone.short one.cone one.is))
+
+pub one_table_more : (g : Aig) (all : List Lut) (t : Lut) (left : List Lut) (order : List ℕ) (old mid : Aig) (lits bits : List Lit) (new : Aig) (after later : List Lit) → AreTablesMadeTo g all (t ∷ left) old mid lits bits
+    → IsConeOrder g t.leaves (t.lit.0 / 2) order → AreBitsMade g t (2 ^ length t.leaves) order mid bits new after later → AreTablesMadeTo g all left old new after later
+one_table_more g all t left order old mid lits bits new after later a cone b =
+    let first : first_and mid ≡ first_and old = ap (λ (m : Aig). first_and m) a.same in
+    let here : MakesTable g (first_and old) t mid.pairs 0 (record { pairs = new.pairs; bits = b.added }) =
+    subst (λ f. MakesTable g f t mid.pairs 0 (record { pairs = new.pairs; bits = b.added })) first (table_done g t order mid bits new after later b) in
+    record {
+      makes = λ rest m.
+          subst (λ (xs : List Lit). MakesTables g (first_and old) old.pairs all (record { pairs = rest.pairs; bits = xs })) (sym (append_assoc bits b.added rest.bits) ∙ ap (λ xs. xs ++ rest.bits) (sym b.are))
+          (a.makes (record { pairs = rest.pairs; bits = b.added ++ rest.bits }) (tables t left (record { pairs = new.pairs; bits = b.added }) rest refl here m refl));
+      same = b.same ∙ ap (λ (m : Aig). with_pairs m new.pairs) a.same;
+      work = a.is.1;
+      is = a.is.3;
+      room = omega (arith, b.few, room_left g all t left order old mid lits bits a cone);
+      between = b.between;
+    }
+
+-- all tables, so that they are made
+pub tables_done : (g : Aig) (all : List Lut) (old new : Aig) (lits bits : List Lit) → AreTablesMadeTo g all [] old new lits bits → MakesTables g (first_and old) old.pairs all (record { pairs = new.pairs; bits = bits })
+tables_done g all old new lits bits a =
+    subst (λ (xs : List Lit). MakesTables g (first_and old) old.pairs all (record { pairs = new.pairs; bits = xs })) (append-nil bits) (a.makes (record { pairs = new.pairs; bits = [] }) (none refl refl))

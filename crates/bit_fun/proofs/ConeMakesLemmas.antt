@@ -3,7 +3,7 @@ use Rattle.bit_fun.proofs.Common.{◌≡◌, ℕ, zero, suc, ◌-◌, ◌/◌, �
 use Rattle.bit_fun.specs.PackOf.{phase_literal, MakesNode, leaf, constant, parameter, node}
 use Rattle.bit_fun.proofs.BitLemmas.{AreLeaves}
 use Rattle.bit_fun.proofs.ConeWalkLemmas.{VisitsBoth, visits_both}
-use Rattle.bit_fun.proofs.MakesLemmas.{makes_once, node_grows, node_again}
+use Rattle.bit_fun.proofs.MadeLemmas.{makes_once, node_grows, node_again}
 
 -- over nodes that extend those so far, a node is made at once, and its literal is the one that stands for it
 pub record IsKnown (g : Aig) (first : ℕ) (leaves : List ℕ) (v : ℕ) (s : PassValue) (m : ℕ) : Type 0 where
@@ -60,10 +60,7 @@ sources_kept g leaves lits n l inner have = record {
   long = length-set lits n l ∙ have.long;
   constant = lit_other lits n 0 l (λ e. let a : first_and g ≤ n = inner.and.0 in omega arith) ∙ have.constant;
   parameter = λ j m is.
-      let a : first_and g ≤ n = inner.and.0 in
-      let above : 1 ≤ m = (is.source).above in
-      let w : m - 1 < length g.kinds = slice_get_within g.kinds (m - 1) Parameter (is.source).is in
-      lit_other lits n m l (λ e. omega arith) ∙ have.parameter j m is;
+      lit_other lits n m l (λ e. omega (arith, slice_get_within g.kinds (m - 1) Parameter (is.source).is, (is.source).above, inner.and.0)) ∙ have.parameter j m is;
 }
 
 pub leaves_kept : (g : Aig) (leaves : List ℕ) (v : ℕ) (lits : List Lit) (n : ℕ) (l : Lit) → IsInner g leaves n → HaveLeafLits leaves v lits → HaveLeafLits leaves v (slice_set lits n l)

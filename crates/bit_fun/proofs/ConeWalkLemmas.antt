@@ -1,9 +1,10 @@
--- A walk over the cone of a LUT: its edges fall, its postorder visits the lower fan-in first, and what it reaches is the cone.
-use Rattle.bit_fun.proofs.Common.{◌≡◌, ℕ, ◌-◌, ◌/◌, ◌<◌, ◌≤◌, Bool, true, false, cond, ltb, List, [], ◌∷◌, length, Option, Some, refl, sym, ap, ◌∙◌, subst, inl, inr, arith, cases_lt, cond-true, cond-false, le-ltb, lt-ltb, slice_get_past, In, Pair, Aig, first_and, node_count, pair_of, IsNode, IsNormal, AreNormal, node_normal, node_at, is_stop, IsInner, Path, path_here, path_left, path_right, IsCone, stop_inner, Way, leads, stops, nodes_of, Posts, PostsAll, none, more, ways_of, ways_from, successors, AreNodes, Reaches, here, through, LeadsBelow, fan_in_edges, cone_edges, cone_next, Visits, passed, walked}
+-- A walk over the cone of a LUT: its edges fall, its postorder visits the lower fan-in first, what it reaches is the cone, and the order that it leaves.
+use Rattle.bit_fun.proofs.Common.{◌≡◌, ℕ, ◌-◌, ◌/◌, ◌<◌, ◌≤◌, Bool, true, false, cond, ltb, List, [], ◌∷◌, length, Option, Some, refl, sym, ap, ◌∙◌, subst, inl, inr, arith, cases_lt, cond-true, cond-false, le-ltb, lt-ltb, slice_get_past, In, Pair, Aig, first_and, node_count, pair_of, IsNode, IsNormal, AreNormal, node_normal, node_at, is_stop, IsInner, Path, path_here, path_left, path_right, IsCone, stop_inner, Way, leads, stops, nodes_of, Posts, PostsAll, none, more, ways_of, ways_from, successors, AreNodes, Reaches, here, through, LeadsBelow, fan_in_edges, cone_edges, cone_next, Visits, passed, walked, None, ◌⊎◌, none-some, inner_stop, IsReached, WalkValue, Visited, falls_through, IsConeOrder}
 use Rattle.depth_first.specs.declared.edge.Edge.{Edge}
 use Rattle.depth_first.specs.declared.edge.Edge.TheVariants.{Node, Pass}
 use Rattle.depth_first.specs.Order.{IsAfter}
 use Rattle.list_laws.proofs.Apart.{AreApart, apart_short}
+use Rattle.depth_first.specs.declared.edge.End.{End}
 
 -- the edges of an AND node
 edges_of_node : (S : Type 0) (g : Aig) (leaves : List ℕ) (n : ℕ) (p : Pair) → IsNode g p n → cone_edges {S = S} g leaves n ≡ fan_in_edges {S = S} g leaves (Some p)
@@ -88,8 +89,7 @@ fan_in_below g leaves n p m normal (upper e s) = let b : p.y.0 / 2 < n = normal.
 leads_below : (S : Type 0) (g : Aig) (leaves : List ℕ) (n : ℕ) (p : Pair) → IsNormal n p → (w : Way ℕ S) → LeadsTo S g leaves p w → LeadsBelow (ways_from {S = S} (cone_edges g leaves)) (n ∷ []) w
 leads_below S g leaves n p normal (stops s) l = l
 leads_below S g leaves n p normal (leads m) l = λ k i.
-    let b : m < n = fan_in_below g leaves n p m normal l in
-    elim i [ inl q ↦ omega arith | inr o ↦ absurd o ]
+    elim i [ inl q ↦ omega (arith, fan_in_below g leaves n p m normal l) | inr o ↦ absurd o ]
 
 -- a number past the AND nodes, or below them, has no edges
 no_edges_below : (S : Type 0) (g : Aig) (leaves : List ℕ) (n : ℕ) → n < first_and g → cone_edges {S = S} g leaves n ≡ []
@@ -129,9 +129,7 @@ pub next_inner : (S : Type 0) (g : Aig) (leaves : List ℕ) (n m : ℕ) → AreN
 next_inner S g leaves n m normal inner i =
     let p = node_at g n inner.and.0 inner.and.1 in
     let f : IsFanIn g leaves p.0 m = next_fan_in S g leaves n p.0 m p.1 i in
-    let l : m < n = fan_in_below g leaves n p.0 m (node_normal g n p.0 normal p.1) f in
-    let w : n < node_count g = inner.and.1 in
-    fan_in_inner g leaves p.0 m (omega arith) f
+    fan_in_inner g leaves p.0 m (omega (arith, inner.and.1, fan_in_below g leaves n p.0 m (node_normal g n p.0 normal p.1) f)) f
 
 -- the AND nodes that are no leaves are the nodes of the walk
 pub cone_nodes : (S : Type 0) (g : Aig) (leaves : List ℕ) → AreNormal (first_and g) g.pairs → AreNodes (IsInner g leaves) (successors {S = S} (cone_edges g leaves)) (node_count g)
@@ -163,3 +161,24 @@ pub order_short : (S : Type 0) (g : Aig) (leaves : List ℕ) (n : ℕ) (order co
     → ((m : ℕ) → In order m → Reaches (cone_next S g leaves) n m) → IsCone g leaves n cone → length order ≤ length cone
 order_short S g leaves n order cone normal inner after reached is =
     apart_short order cone (after_apart (cone_next S g leaves) order after) (λ m i. is.all m (reach_path S g leaves n m normal inner (reached m i)))
+
+-- what a start alone reaches
+from_one : (next : ℕ → List ℕ) (top m : ℕ) → IsReached next (top ∷ []) m → Reaches next top m
+from_one next top m r = elim r.member [ inl e ↦ subst (λ n. Reaches next n m) e r.reaches | inr o ↦ absurd o ]
+
+reached_in : (next : ℕ → List ℕ) (top m : ℕ) (before : List ℕ) → before ≡ [] → In before m ⊎ IsReached next (top ∷ []) m → Reaches next top m
+reached_in next top m before e (inl i) = absurd (subst (λ xs. In xs m) e i)
+reached_in next top m before e (inr r) = from_one next top m r
+
+-- of another one, the postorder of its cone
+pub cone_order : (g : Aig) (leaves : List ℕ) (top : ℕ) (w v : WalkValue) (found : Option (End (Unit {0}))) → AreNormal (first_and g) g.pairs → IsInner g leaves top → w.order ≡ []
+    → Visited (cone_edges g leaves) w v top found → IsConeOrder g leaves top v.order
+cone_order g leaves top w v None normal inner e did =
+    let reached : (m : ℕ) → In v.order m → Reaches (cone_next (Unit {0}) g leaves) top m = λ m i. reached_in (cone_next (Unit {0}) g leaves) top m w.order e ((did.reached).only m i) in
+    record {
+      visit = walked (inner_stop g leaves top inner) (subst (λ xs. Posts (cone_next (Unit {0}) g leaves) xs top v.order) e did.posts);
+      inner = λ m i. reach_inner (Unit {0}) g leaves top m normal inner (reached m i);
+      short = λ cone is. order_short (Unit {0}) g leaves top v.order cone normal inner did.after reached is;
+    }
+cone_order g leaves top w v (Some end) normal inner e did =
+    absurd (none-some _ (sym (falls_through (ways_from {S = Unit {0}} (cone_edges g leaves)) (cone_falls (Unit {0}) g leaves normal) did.meets (λ k i. absurd i))))

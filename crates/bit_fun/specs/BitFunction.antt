@@ -1,11 +1,6 @@
 -- The bit function: what the bit at an address is under the parameters' values.
 use Rattle.std.specs.Prelude.{◌≡◌, ℕ, ◌+◌, ◌-◌, ◌/◌, ◌^◌, ◌<◌, ◌≤◌, Bool, false, ◌&&◌, List, length, Some, slice_get}
-use Rattle.list_laws.specs.Members.{In}
-use Rattle.list_laws.specs.Digits.{digit}
-use Rattle.aig_core.specs.declared.lit.Pair.{Pair}
-use Rattle.aig_core.specs.Aig.{Aig, IsNode}
-use Rattle.aig_core.specs.Value.{in_phase}
-use Rattle.cover_pick.specs.declared.lut.Lut.{Lut}
+use Rattle.bit_fun.specs.Words.{In, digit, Pair, Aig, IsNode, in_phase, Lut}
 use Rattle.bit_fun.specs.Parameters.{IsParam}
 
 -- The value of a node for v, by recursion from it: leaf j has the binary digit j of v, the constant is 0, a parameter has its value, and an AND node that is no leaf is the product of its two literals' values.

@@ -1,21 +1,8 @@
 -- The pass over a cone: which nodes are walked, and what is made of their functions, each node once.
 use Rattle.std.specs.Prelude.{◌≡◌, ℕ, ◌+◌, ◌*◌, ◌/◌, ◌<◌, ◌≤◌, true, false, ◌++◌, nat_lt, if◌then◌else◌, List, [], ◌∷◌, length, take, Option, Some, None, slice_get, slice_set, slice_index_or}
-use Rattle.list_laws.specs.Members.{In}
-use Rattle.list_laws.specs.Digits.{bit_value, digit}
-use Rattle.list_laws.specs.Order.{IsAscending}
-use Rattle.aig_core.specs.declared.lit.Lit.{Lit}
-use Rattle.aig_core.specs.declared.lit.Pair.{Pair}
-use Rattle.aig_core.specs.Aig.{Aig, first_and, node_count, pair_of}
-use Rattle.aig_core.specs.And.{Answer, product_of}
-use Rattle.aig_core.specs.And.{with_pairs}
-use Rattle.cover_pick.specs.declared.lut.Lut.{Lut}
-use Rattle.cover_pick.specs.Cone.{is_stop}
-use Rattle.cover_pick.specs.Work.{IsInner, IsCone, IsWork}
-use Rattle.cut_sets.specs.Cuts.{Blocks, CanBeLeaf}
+use Rattle.bit_fun.specs.Words.{In, bit_value, digit, IsAscending, Lit, Pair, Aig, first_and, node_count, pair_of, Answer, product_of, with_pairs, Lut, is_stop, IsInner, IsCone, IsWork, Blocks, CanBeLeaf, Posts, successors}
 use Rattle.depth_first.specs.declared.edge.Edge.{Edge}
 use Rattle.depth_first.specs.declared.edge.Edge.TheVariants.{Node, Pass}
-use Rattle.depth_first.specs.DepthFirst.{Posts}
-use Rattle.depth_first.specs.Edges.{successors}
 use Rattle.bit_fun.specs.Parameters.{param_count, IsParam}
 use Rattle.bit_fun.specs.PackOf.{phase_literal, BitsMade, MakesNode, MakesTable, MakesTables}
 

@@ -1,8 +1,6 @@
 -- The configuration under the parameters' values: all bits in the order of their addresses.
 use Rattle.std.specs.Prelude.{◌≡◌, ℕ, ◌<◌, Bool, false, List, length, slice_index_or}
-use Rattle.aig_core.specs.Aig.{Aig}
-use Rattle.cover_pick.specs.declared.lut.Lut.{Lut}
-use Rattle.cover_pick.specs.Mapping.{IsMapping, bits_of}
+use Rattle.bit_fun.specs.Words.{Aig, Lut, IsMapping, bits_of}
 use Rattle.bit_fun.specs.BitFunction.{IsBit}
 
 -- the tables map the graph for some roots

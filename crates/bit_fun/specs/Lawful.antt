@@ -1,9 +1,6 @@
 -- The law of a configuration: whatever values the regular sources have, the values of the graph's literals fit the LUTs under it.
 use Rattle.std.specs.Prelude.{Bool, List}
-use Rattle.aig_core.specs.Aig.{Aig}
-use Rattle.aig_core.specs.Value.{value_of, FitsGraph}
-use Rattle.cover_pick.specs.declared.lut.Lut.{Lut}
-use Rattle.lut_sim.specs.declared.shape.Shape.{Shape}
+use Rattle.bit_fun.specs.Words.{Aig, value_of, FitsGraph, Lut, Shape}
 use Rattle.lut_sim.specs.Cycle.{FitsTables}
 use Rattle.lut_sim.specs.GraphShape.{HasShape, AreSourceValues}
 

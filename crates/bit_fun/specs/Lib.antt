@@ -1,4 +1,5 @@
 -- What public clauses say.
+pub mod Words
 pub mod Parameters
 pub mod BitFunction
 pub mod Configuration

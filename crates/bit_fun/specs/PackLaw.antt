@@ -1,8 +1,6 @@
 -- The configurations of a template's pack are those of the template, for all values of the parameters.
 use Rattle.std.specs.Prelude.{◌≡◌, Bool, List, length}
-use Rattle.aig_core.specs.Aig.{Aig}
-use Rattle.cover_pick.specs.declared.lut.Lut.{Lut}
-use Rattle.ppc_pack.specs.Pack.{PackValue, IsConf}
+use Rattle.bit_fun.specs.Words.{Aig, Lut, PackValue, IsConf}
 use Rattle.bit_fun.specs.Configuration.{IsConfiguration}
 use Rattle.bit_fun.specs.Lawful.{IsLawful}
 

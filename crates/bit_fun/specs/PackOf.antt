@@ -1,16 +1,6 @@
 -- The pack of a template: the functions of its bits over one graph, made in the order of the addresses.
 use Rattle.std.specs.Prelude.{◌≡◌, ℕ, ◌+◌, ◌*◌, ◌/◌, ◌%◌, ◌^◌, ◌==◌, if◌then◌else◌, List, [], ◌∷◌, ◌++◌, length, map, replicate, Some, slice_get}
-use Rattle.list_laws.specs.Members.{In}
-use Rattle.list_laws.specs.Digits.{bit_value, digit}
-use Rattle.aig_core.specs.declared.lit.Kind.TheVariants.{Parameter}
-use Rattle.aig_core.specs.declared.lit.Lit.{Lit}
-use Rattle.aig_core.specs.declared.lit.Pair.{Pair}
-use Rattle.aig_core.specs.Aig.{Aig, IsNode}
-use Rattle.aig_core.specs.And.{Answer, complement, product_of}
-use Rattle.cover_pick.specs.declared.lut.Lut.{Lut}
-use Rattle.param_list.specs.declared.params.Param.{Param}
-use Rattle.ppc_pack.specs.declared.pack.PackParam.{PackParam}
-use Rattle.ppc_pack.specs.Pack.{PackValue}
+use Rattle.bit_fun.specs.Words.{In, bit_value, digit, Parameter, Lit, Pair, Aig, IsNode, Answer, complement, product_of, Lut, Param, PackParam, PackValue}
 use Rattle.bit_fun.specs.Parameters.{IsParam}
 
 -- a literal of a node from the literal that its positive phase has: an odd one is the complement

@@ -1,8 +1,6 @@
 -- The parameters of a graph in the order of its sources, so that a list has one value for each of them.
 use Rattle.std.specs.Prelude.{◌≡◌, ℕ, suc, ◌-◌, List, [], ◌∷◌, take}
-use Rattle.aig_core.specs.declared.lit.Kind.{Kind}
-use Rattle.aig_core.specs.declared.lit.Kind.TheVariants.{Regular, Parameter}
-use Rattle.aig_core.specs.Aig.{Aig, IsSource}
+use Rattle.bit_fun.specs.Words.{Kind, Regular, Parameter, Aig, IsSource}
 
 -- how many of some sources are parameters
 abbrev pub param_count : List Kind → ℕ

@@ -1,5 +1,5 @@
 -- The numbers of its lines have no part in a certificate's validity, nor in the text that it is written as.
-use Rattle.cert_check.proofs.Common.{◌≡◌, ℕ, ◌==◌, ◌+◌, ◌≤◌, if◌then◌else◌, length, List, [], ◌∷◌, map, Some, slice_get, refl, sym, ap, ◌∙◌, subst, flat_map, option_map, fun_ext, length-map, map-append, slice_get-map, Aig, IsAnd, In, IsAscending, In-map, from_map, In-get, place_in, mapped_at, path_count, PathValue, StepValue, CertificateValue, IsPath, claim_of, IsJustified, IsReached, IsValid, says_depth, SaidLine, path_said, steps_said, saying_words, line_text, cert_text, bare_path, bare_step, bare}
+use Rattle.cert_check.proofs.Common.{◌≡◌, ℕ, ◌==◌, if◌then◌else◌, length, List, [], ◌∷◌, map, Some, slice_get, refl, sym, ap, ◌∙◌, subst, flat_map, option_map, fun_ext, length-map, map-append, slice_get-map, Aig, IsAnd, In, IsAscending, In-map, from_map, In-get, place_in, mapped_at, path_count, PathValue, StepValue, CertificateValue, IsPath, claim_of, IsJustified, IsReached, IsValid, says_depth, SaidLine, path_said, steps_said, saying_words, line_text, cert_text, bare_path, bare_step, bare, arith}
 
 claim_bare : (ss : List StepValue) (n : ℕ) → claim_of (map bare_step ss) n ≡ claim_of ss n
 claim_bare [] n = refl
@@ -27,10 +27,7 @@ same_justified g k claim s t same j =
       paths = λ p i.
           let at = place_in t.paths p i in
           let q = same_path t.paths s.paths paths at.0 p at.1 in subst (λ n. IsPath g n p.nodes) node (subst (λ ns. IsPath g s.node ns) (sym q.2) (j.paths q.0 (In-get s.paths at.0 q.0 q.1)));
-      apart = λ a b m p q l e f x y n.
-          let u = same_path t.paths s.paths paths a p e in
-          let w = same_path t.paths s.paths paths b q f in
-          subst (λ c. c ≤ claim m + 1) claims (j.apart a b m u.0 w.0 l u.1 w.1 (subst (λ ns. In ns m) u.2 x) (subst (λ ns. In ns m) w.2 y) (λ e. n (e ∙ node)));
+      apart = λ a b m p q l e f x y n. grind (arith, same_path);
     }
 
 -- So a certificate is valid where another one is that differs from it in these numbers alone.

@@ -2,9 +2,10 @@
 --
 -- The sources are the inputs 1, 2 and 3. Nodes 4 and 5 are the products of the exclusive or of inputs 1 and 2, node 6 is its
 -- complement, and node 7 is the product of input 3 and the exclusive or.
-use Rattle.cert_check.proofs.Common.{◌≡◌, ◌≢◌, ℕ, zero, suc, ◌+◌, ◌<◌, ◌≤◌, Bool, true, ◌||◌, not, eqb, leb, List, [], ◌∷◌, Some, refl, sym, subst, inl, inr, arith, slice_get, list_all, list_any, and_parts, or_cases, or_left, or_right, not-true, eqb-true, leb-true, eq-eqb, both_ways, none-some, same_Some, slice_get_within, Aig, Regular, Pair, In, PathValue, StepValue, CertificateValue, IsFanIn, first, second, IsPath, claim_of, IsJustified, node, complemented, IsReached, IsValid, MayStand, IsFault, IsLowerBound, PathCount, Shared, NotReached, ◌-◌, ◌/◌, ◌⊎◌, PathsFault, None, codes, WordsLine, says_claim, says_path, said_of, malformed_line, IsCertText, DepthFault}
+use Rattle.cert_check.proofs.Common.{◌≡◌, ◌≢◌, ℕ, zero, suc, ◌+◌, ◌<◌, ◌≤◌, Bool, true, ◌||◌, not, eqb, leb, List, [], ◌∷◌, Some, refl, sym, subst, inl, inr, arith, slice_get, list_all, list_any, and_parts, or_cases, or_left, or_right, not-true, eqb-true, leb-true, eq-eqb, both_ways, none-some, same_Some, slice_get_within, Aig, Regular, Pair, In, PathValue, StepValue, CertificateValue, IsFanIn, first, second, IsPath, claim_of, IsJustified, node, complemented, IsReached, IsValid, MayStand, IsFault, IsLowerBound, PathCount, Shared, NotReached, ◌-◌, ◌/◌, ◌⊎◌, PathsFault, None, codes, WordsLine, says_claim, says_path, said_of, malformed_line, IsCertText, DepthFault, take}
 use Rattle.cert_check.proofs.LeastLemmas.{valid_bound}
 use Rattle.cert_check.proofs.PathLemmas.{fan_in_cases}
+use Rattle.cert_check.proofs.StepLemmas.{get_taken}
 
 abbrev pair : ℕ → ℕ → Pair
 pair a b = record { x = record { 0 = a }; y = record { 0 = b } }
@@ -64,31 +65,26 @@ one_shares claim s ms m t i other = elim (or_cases (not (has ms m)) (eqb m s.nod
   | inr b ↦ elim (or_cases (eqb m s.node) (leb s.claim (claim m + 1)) b) [ inl e ↦ absurd (other (eqb-true m s.node e)) | inr l ↦ leb-true s.claim (claim m + 1) l ]
 ]
 
-all_share : (claim : ℕ → ℕ) (s : StepValue) (ns ms : List ℕ) → list_all (may_share claim s ms) ns ≡ true → (m : ℕ) → In ns m → In ms m → m ≢ s.node → s.claim ≤ claim m + 1
-all_share claim s [] ms t m i j other = absurd i
-all_share claim s (n ∷ ns) ms t m (inl e) j other = one_shares claim s ms m (subst (λ x. may_share claim s ms x ≡ true) (sym e) (and_parts (may_share claim s ms n) (list_all (may_share claim s ms) ns) t).0) j other
-all_share claim s (n ∷ ns) ms t m (inr i) j other = all_share claim s ns ms (and_parts (may_share claim s ms n) (list_all (may_share claim s ms) ns) t).1 m i j other
+-- a node may stand behind paths, by a test, and so each of some nodes
+may : (claim : ℕ → ℕ) (s : StepValue) (earlier : List PathValue) (m : ℕ) → list_all (λ (p : PathValue). may_share claim s p.nodes m) earlier ≡ true → MayStand claim s earlier m
+may claim s [] m t p i j other = absurd i
+may claim s (q ∷ qs) m t p (inl e) j other = one_shares claim s q.nodes m (and_parts _ _ t).0 (subst (λ (r : PathValue). In r.nodes m) e j) other
+may claim s (q ∷ qs) m t p (inr i) j other = may claim s qs m (and_parts (may_share claim s q.nodes m) _ t).1 p i j other
 
--- the three paths by their places
-three : (P : ℕ → PathValue → Type 0) (a b c : PathValue) → P 0 a → P 1 b → P 2 c → (i : ℕ) (p : PathValue) → slice_get (a ∷ b ∷ c ∷ []) i ≡ Some p → P i p
-three P a b c x y z zero p e = subst (P 0) (same_Some a p e) x
-three P a b c x y z (suc zero) p e = subst (P 1) (same_Some b p e) y
-three P a b c x y z (suc (suc zero)) p e = subst (P 2) (same_Some c p e) z
-three P a b c x y z (suc (suc (suc i))) p e = absurd (none-some p e)
-
-abbrev Shares : (ℕ → ℕ) → ℕ → PathValue → ℕ → PathValue → Type 0
-Shares claim j q i p = i < j → (m : ℕ) → In p.nodes m → In q.nodes m → m ≢ 7 → 2 ≤ claim m + 1
+all_may : (claim : ℕ → ℕ) (s : StepValue) (earlier : List PathValue) (ms : List ℕ) → list_all (λ m. list_all (λ (p : PathValue). may_share claim s p.nodes m) earlier) ms ≡ true → (m : ℕ) → In ms m → MayStand claim s earlier m
+all_may claim s earlier [] t m i = absurd i
+all_may claim s earlier (n ∷ ns) t m (inl e) = subst (MayStand claim s earlier) (sym e) (may claim s earlier n (and_parts _ _ t).0)
+all_may claim s earlier (n ∷ ns) t m (inr i) = all_may claim s earlier ns (and_parts (list_all (λ (p : PathValue). may_share claim s p.nodes n) earlier) _ t).1 m i
 
 apart : (i j m : ℕ) (p q : PathValue) → i < j → slice_get upper.paths i ≡ Some p → slice_get upper.paths j ≡ Some q → In p.nodes m → In q.nodes m → m ≢ 7 → 2 ≤ claim_of certificate.steps m + 1
-apart i j m p q l e f =
-    let claim : ℕ → ℕ = claim_of certificate.steps in
-    three (λ k r. (h : ℕ) (s : PathValue) → slice_get upper.paths h ≡ Some s → Shares claim k r h s) (path 5 (3 ∷ 7 ∷ [])) (path 6 (1 ∷ 4 ∷ 6 ∷ 7 ∷ [])) (path 7 (2 ∷ 5 ∷ 6 ∷ 7 ∷ []))
-    (λ h s g below. absurd (omega arith))
-    (three (Shares claim 1 (path 6 (1 ∷ 4 ∷ 6 ∷ 7 ∷ []))) (path 5 (3 ∷ 7 ∷ [])) (path 6 (1 ∷ 4 ∷ 6 ∷ 7 ∷ [])) (path 7 (2 ∷ 5 ∷ 6 ∷ 7 ∷ []))
-    (λ below. all_share claim upper (3 ∷ 7 ∷ []) (1 ∷ 4 ∷ 6 ∷ 7 ∷ []) refl) (λ below. absurd (omega arith)) (λ below. absurd (omega arith)))
-    (three (Shares claim 2 (path 7 (2 ∷ 5 ∷ 6 ∷ 7 ∷ []))) (path 5 (3 ∷ 7 ∷ [])) (path 6 (1 ∷ 4 ∷ 6 ∷ 7 ∷ [])) (path 7 (2 ∷ 5 ∷ 6 ∷ 7 ∷ []))
-    (λ below. all_share claim upper (3 ∷ 7 ∷ []) (2 ∷ 5 ∷ 6 ∷ 7 ∷ []) refl) (λ below. all_share claim upper (1 ∷ 4 ∷ 6 ∷ 7 ∷ []) (2 ∷ 5 ∷ 6 ∷ 7 ∷ []) refl) (λ below. absurd (omega arith)))
-    j q f i p e l m
+apart i zero m p q l e f a b other = absurd (omega arith)
+apart i (suc zero) m p q l e f a b other =
+    let same : path 6 (1 ∷ 4 ∷ 6 ∷ 7 ∷ []) ≡ q = same_Some _ q f in
+    all_may (claim_of certificate.steps) upper (take 1 upper.paths) (1 ∷ 4 ∷ 6 ∷ 7 ∷ []) refl m (subst (λ (r : PathValue). In r.nodes m) (sym same) b) p (get_taken upper.paths i 1 p l e) a other
+apart i (suc (suc zero)) m p q l e f a b other =
+    let same : path 7 (2 ∷ 5 ∷ 6 ∷ 7 ∷ []) ≡ q = same_Some _ q f in
+    all_may (claim_of certificate.steps) upper (take 2 upper.paths) (2 ∷ 5 ∷ 6 ∷ 7 ∷ []) refl m (subst (λ (r : PathValue). In r.nodes m) (sym same) b) p (get_taken upper.paths i 2 p l e) a other
+apart i (suc (suc (suc j))) m p q l e f a b other = absurd (none-some q f)
 
 upper_paths : (p : PathValue) → In upper.paths p → IsPath circuit 7 p.nodes
 upper_paths p (inl e) = rw e path_three
@@ -122,12 +118,6 @@ bound = valid_bound circuit (14 ∷ []) 2 certificate valid
 abbrev unclaimed : CertificateValue
 unclaimed = record { depth = 2; steps = upper ∷ [] }
 
--- a node may stand behind paths, by a test
-may : (earlier : List PathValue) (m : ℕ) → list_all (λ (p : PathValue). may_share (claim_of []) upper p.nodes m) earlier ≡ true → MayStand (claim_of []) upper earlier m
-may [] m t p i j other = absurd i
-may (q ∷ qs) m t p (inl e) j other = one_shares (claim_of []) upper q.nodes m (and_parts _ _ t).0 (subst (λ (r : PathValue). In r.nodes m) e j) other
-may (q ∷ qs) m t p (inr i) j other = may qs m (and_parts (may_share (claim_of []) upper q.nodes m) _ t).1 p i j other
-
 abbrev before_third : List PathValue
 before_third = path 5 (3 ∷ 7 ∷ []) ∷ path 6 (1 ∷ 4 ∷ 6 ∷ 7 ∷ []) ∷ []
 
@@ -135,18 +125,18 @@ shared_node : MayStand (claim_of []) upper before_third 6 → ⊥
 shared_node may = let l : 2 ≤ 0 + 1 = may (path 6 (1 ∷ 4 ∷ 6 ∷ 7 ∷ [])) (inr (inl refl)) (inr (inr (inl refl))) (λ e. let q : 6 ≡ 7 = e in omega arith) in omega arith
 
 third_fault : (R : Type 0) → PathsFault circuit (claim_of []) upper before_third (path 7 (2 ∷ 5 ∷ 6 ∷ 7 ∷ []) ∷ []) R (Shared 7 6)
-third_fault R = inr (path_two, inr (may before_third 2 refl, inr (may before_third 5 refl, inl (shared_node, refl))))
+third_fault R = let stands = may (claim_of []) upper before_third in inr (path_two, inr (stands 2 refl, inr (stands 5 refl, inl (shared_node, refl))))
 
 second_fault : (R : Type 0) → PathsFault circuit (claim_of []) upper (path 5 (3 ∷ 7 ∷ []) ∷ []) (path 6 (1 ∷ 4 ∷ 6 ∷ 7 ∷ []) ∷ path 7 (2 ∷ 5 ∷ 6 ∷ 7 ∷ []) ∷ []) R (Shared 7 6)
 second_fault R =
-    let one : List PathValue = path 5 (3 ∷ 7 ∷ []) ∷ [] in
-    inr (path_one, inr (may one 1 refl, inr (may one 4 refl, inr (may one 6 refl, inr (may one 7 refl, third_fault R)))))
+    let stands = may (claim_of []) upper (path 5 (3 ∷ 7 ∷ []) ∷ []) in
+    inr (path_one, inr (stands 1 refl, inr (stands 4 refl, inr (stands 6 refl, inr (stands 7 refl, third_fault R)))))
 
 pub shared : IsFault circuit (14 ∷ []) 2 unclaimed (Shared 7 6)
 shared =
     inr (
       record { and = (omega arith, omega arith); above = λ t i. absurd i },
-      inr (refl, inr (path_three, inr (may [] 3 refl, inr (may [] 7 refl, second_fault (DepthFault circuit (14 ∷ []) unclaimed (Shared 7 6)))))),
+      inr (refl, inr (path_three, inr (may (claim_of []) upper [] 3 refl, inr (may (claim_of []) upper [] 7 refl, second_fault (DepthFault circuit (14 ∷ []) unclaimed (Shared 7 6)))))),
     )
 
 -- two paths are too few for a claim of 2

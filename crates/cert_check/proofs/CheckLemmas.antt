@@ -1,5 +1,5 @@
 -- The steps of a certificate, one by one.
-use Rattle.cert_check.proofs.Common.{◌≡◌, ℕ, suc, ◌+◌, ◌<◌, ◌≤◌, eqb, List, [], ◌∷◌, ◌++◌, take, drop, drop-cons, set, length, get_or, get_or-set_same, get_or-set_other, length-set, append_assoc, append-nil, refl, sym, ap, ◌∙◌, subst, inl, inr, Result, Ok, Err, arith, IsErrAnd, IfOk, OnOk, fun_ext, eqb-true, eqb-false, cases_eq, cases_lt, take_more, take_all, Aig, first_and, node_count, IsAnd, AreNormal, lits_of, Lit, In, choose, drop_at, In-push, In-pushed, StepValue, CertificateValue, claim_of, IsJustified, SomeNeeds, IsReached, First, IsAbove, StepFault, StepsFault, DepthFault, IsFault, HasOneVerdict, IsNext, AreInTurn, CertErr, BadClaim, NotReached}
+use Rattle.cert_check.proofs.Common.{◌≡◌, ℕ, ◌+◌, ◌<◌, ◌≤◌, eqb, List, [], ◌∷◌, ◌++◌, take, drop, set, length, get_or, get_or-set_same, get_or-set_other, length-set, append_assoc, append-nil, refl, sym, ap, ◌∙◌, subst, inl, inr, arith, fun_ext, eqb-true, eqb-false, cases_eq, cases_lt, take_more, take_all, Aig, first_and, node_count, IsAnd, AreNormal, lits_of, Lit, In, choose, drop_at, In-push, In-pushed, StepValue, CertificateValue, claim_of, IsJustified, SomeNeeds, IsReached, First, IsAbove, StepFault, StepsFault, DepthFault, IsFault, HasOneVerdict, IsNext, AreInTurn, CertErr, BadClaim, NotReached, rules, drop_get, slice_get-get_or}
 use Rattle.cert_check.proofs.FaultLemmas.{step_more, steps_more, steps_met, one_fault}
 use Rattle.cert_check.proofs.InTurnLemmas.{claim_before, valid_turn}
 
@@ -24,16 +24,7 @@ pub record AreStepsTaken (g : Aig) (k : ℕ) (steps : List StepValue) (at last :
   pub skips : (e : CertErr) → StepsFault g k (take at steps) (drop at steps) ⊥ e → StepsFault g k [] steps ⊥ e
 
 pub no_steps : (g : Aig) (k : ℕ) (steps : List StepValue) (claims marks : List ℕ) → length claims ≡ node_count g → length marks ≡ node_count g → ((m : ℕ) → get_or claims m 0 ≡ 0) → ((m : ℕ) → get_or marks m 0 ≡ 0) → AreStepsTaken g k steps 0 0 claims marks
-no_steps g k steps claims marks a b zero_claims zero_marks = record {
-  claims_size = a;
-  marks_size = b;
-  turn = tt;
-  claims_are = zero_claims;
-  most = λ t i. absurd i;
-  last_is = λ n l h. omega arith;
-  used = λ m. let e : get_or marks m 0 ≡ 0 = zero_marks m in omega arith;
-  skips = λ e f. f;
-}
+no_steps g k steps claims marks a b zero_claims zero_marks = search rules
 
 module _ (g : Aig) (k : ℕ) (steps : List StepValue) (at last : ℕ) (claims marks : List ℕ) (taken : AreStepsTaken g k steps at last claims marks) where
   same_claims : (λ (m : ℕ). get_or claims m 0) ≡ claim_of (take at steps)
@@ -117,16 +108,7 @@ neither g (x ∷ xs) ys claim d a b (inl need) = a (inl need)
 neither g (x ∷ xs) ys claim d a b (inr need) = neither g xs ys claim d (λ n. a (inr n)) b need
 
 pub lits_drop : (ls : List Lit) (i : ℕ) → i < length ls → lits_of (drop i ls) ≡ (get_or ls i (record { 0 = 0 })).0 ∷ lits_of (drop (i + 1) ls)
-lits_drop ls i l = let e : suc i ≡ i + 1 = omega arith in ap lits_of (drop-cons ls i (record { 0 = 0 }) l) ∙ ap (λ j. (get_or ls i (record { 0 = 0 })).0 ∷ lits_of (drop j ls)) e
-
--- what holds after an error that a `?` passes on
-pub passed_ok : {T E : Type 0} (r : Result T E) (P : T → Type 0) (Q : E → Type 0) → IsErrAnd r Q → IfOk r P
-passed_ok (Ok x) P Q is = absurd is
-passed_ok (Err y) P Q is = tt
-
-pub passed_on_ok : {T E : Type 0} (r : Result T E) (P : Type 0) (Q : E → Type 0) → IsErrAnd r Q → OnOk r P
-passed_on_ok (Ok x) P Q is = absurd is
-passed_on_ok (Err y) P Q is = tt
+lits_drop ls i l = ap lits_of (drop_get ls i (get_or ls i (record { 0 = 0 })) (slice_get-get_or ls i (record { 0 = 0 }) l))
 
 -- the verdict
 module _ (g : Aig) (roots : List ℕ) (k : ℕ) (c : CertificateValue) where

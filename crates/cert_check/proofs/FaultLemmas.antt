@@ -13,11 +13,10 @@ through f g = ((λ a. g.0 (f.0 a)), (λ c. f.1 (g.1 c)))
 
 -- an element among those before a place stands at a lower place
 taken_get : {A : Type 0} (xs : List A) (j : ℕ) (x : A) → In (take j xs) x → (i : ℕ) × (i < j) × (slice_get xs i ≡ Some x)
-taken_get [] zero x i = absurd i
 taken_get [] (suc j) x i = absurd i
-taken_get (y ∷ xs) zero x i = absurd i
 taken_get (y ∷ xs) (suc j) x (inl e) = (0, omega arith, ap Some (sym e))
 taken_get (y ∷ xs) (suc j) x (inr i) = let r = taken_get xs j x i in (suc r.0, (let l : r.0 < j = r.1 in omega arith), r.2)
+taken_get items zero x i = absurd i
 
 pub nodes_met : (claim : ℕ → ℕ) (s : StepValue) (earlier : List PathValue) (line : ℕ) (ms : List ℕ) (R : Type 0) (e : CertErr) → ((m : ℕ) → In ms m → MayStand claim s earlier m) → Same R (NodesFault claim s earlier line ms R e)
 nodes_met claim s earlier line [] R e may = ((λ r. r), (λ r. r))
@@ -36,14 +35,12 @@ paths_met g claim s earlier (p ∷ ps) R e paths may =
 
 step_met : (g : Aig) (k : ℕ) (claim : ℕ → ℕ) (s : StepValue) (R : Type 0) (e : CertErr) → IsJustified g k claim s → Same R (StepFault g k claim s R e)
 unfolding AllMayStand
-step_met g k claim s R e just =
-    through (paths_met g claim s [] s.paths R e just.paths (λ j q m at i p before k other. let r = taken_get s.paths j p before in just.apart r.0 j m p q r.1 r.2 at k i other)) (first_met just.count)
+step_met g k claim s R e just = grind (arith, through, paths_met, taken_get, first_met)
 
 -- Steps in turn have no fault: one is of the rest.
 pub steps_met : (g : Aig) (k : ℕ) (before ss : List StepValue) (R : Type 0) (e : CertErr) → AreInTurn g k before ss → Same R (StepsFault g k before ss R e)
 steps_met g k before [] R e turn = ((λ r. r), (λ r. r))
-steps_met g k before (s ∷ ss) R e turn =
-    through (steps_met g k (before ++ s ∷ []) ss R e turn.1) (through (step_met g k (claim_of before) s _ e turn.0.justified) (first_met turn.0.above))
+steps_met g k before (s ∷ ss) R e turn = grind (arith, through, step_met, first_met, steps_met g k (before ++ s ∷ []) ss R e turn.1)
 
 -- a fault of more is one of all
 first_more : {D R S : Type 0} {x e : CertErr} → (R → S) → First D x R e → First D x S e
@@ -82,8 +79,7 @@ paths_same g claim s earlier (p ∷ ps) R S e f same a b = first_same (nodes_sam
 
 steps_same : (g : Aig) (k : ℕ) (before ss : List StepValue) (R S : Type 0) (e f : CertErr) → (R → S → e ≡ f) → StepsFault g k before ss R e → StepsFault g k before ss S f → e ≡ f
 steps_same g k before [] R S e f same a b = same a b
-steps_same g k before (s ∷ ss) R S e f same a b =
-    first_same (first_same (paths_same g (claim_of before) s [] s.paths _ _ e f (steps_same g k (before ++ s ∷ []) ss R S e f same))) a b
+steps_same g k before (s ∷ ss) R S e f same a b = grind (arith, first_same, paths_same, steps_same g k (before ++ s ∷ []) ss R S e f same)
 
 -- A certificate has one fault at most.
 pub one_fault : (g : Aig) (roots : List ℕ) (k : ℕ) (c : CertificateValue) (e f : CertErr) → IsFault g roots k c e → IsFault g roots k c f → e ≡ f

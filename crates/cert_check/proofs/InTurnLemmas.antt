@@ -21,8 +21,7 @@ steps_ascending : (g : Aig) (k : ℕ) (before ss : List StepValue) → AreInTurn
 steps_ascending g k before [] r = tt
 steps_ascending g k before (u ∷ us) r = (
   (λ m i. let q = from_map (λ (s : StepValue). s.node) us m i in
-      let l : u.node < q.0.node = steps_above g k (before ++ u ∷ []) us r.1 u q.0 (In-right before (u ∷ []) u (inl refl)) q.1 in
-      let e : m ≡ q.0.node = q.2 in omega arith),
+      let e : m ≡ q.0.node = q.2 in omega (arith, steps_above g k (before ++ u ∷ []) us r.1 u q.0 (In-right before (u ∷ []) u (inl refl)) q.1)),
   steps_ascending g k (before ++ u ∷ []) us r.1,
 )
 
@@ -39,10 +38,7 @@ justified_agree g k f h s normal same just = record {
 
 -- the claims of all steps are below a node those of the steps before its step
 claims_agree : (before ss : List StepValue) (u : StepValue) → ((s : StepValue) → In ss s → u.node < s.node) → (m : ℕ) → m < u.node → claim_of (before ++ (u ∷ ss)) m ≡ claim_of before m
-claims_agree before ss u above m l = claim_before before (u ∷ ss) m (λ t j e. elim j [
-  | inl f ↦ (let h : t.node ≡ u.node = ap (λ (x : StepValue). x.node) f in absurd (omega arith))
-  | inr h ↦ (let a : u.node < t.node = above t h in absurd (omega arith))
-])
+claims_agree before ss u above m l = grind (arith, claim_before)
 
 turn_justified : (g : Aig) (k : ℕ) (before ss all : List StepValue) → AreNormal (first_and g) g.pairs → before ++ ss ≡ all → AreInTurn g k before ss → (s : StepValue) → In ss s → IsJustified g k (claim_of all) s
 turn_justified g k before [] all normal e r s i = absurd i

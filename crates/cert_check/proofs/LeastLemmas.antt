@@ -19,10 +19,7 @@ later_step s ss n v (inr h) = inr (record { step = h.step; there = inr h.there; 
 -- a claim is 0, or that of a step
 claim_cases : (steps : List StepValue) (n : ℕ) → (claim_of steps n ≡ 0) ⊎ HasStep steps n (claim_of steps n)
 claim_cases [] n = inl refl
-claim_cases (s ∷ ss) n =
-    choose (λ v. (v ≡ 0) ⊎ HasStep (s ∷ ss) n v) (eqb s.node n) s.claim (claim_of ss n)
-    (λ e. inr (record { step = s; there = inl refl; of = eqb-true s.node n e; claims = refl }))
-    (λ e. later_step s ss n (claim_of ss n) (claim_cases ss n))
+claim_cases (s ∷ ss) n = grind (arith, eqb, eqb-true, later_step, claim_cases ss n)
 
 -- how many paths there are
 path_count-one : (k claim : ℕ) → 1 ≤ path_count k claim
@@ -54,8 +51,7 @@ pick c (p ∷ ps) apart meets =
       count = (let e : length rest.nodes ≡ length ps = rest.count in omega arith);
       distinct = (
         (λ i. let at = rest.on_path one.at i in
-            let place = place_in ps at.0 at.1 in
-            apart 0 (suc place.0) one.at p at.0 (omega arith) refl place.1 one.in_list at.2 one.in_set),
+            apart 0 (suc (place_in ps at.0 at.1).0) one.at p at.0 (omega arith) refl (place_in ps at.0 at.1).1 one.in_list at.2 one.in_set),
         rest.distinct,
       );
       in_cut = λ x i. elim i [ inl e ↦ subst (λ y. In c y) (sym e) one.in_set | inr j ↦ rest.in_cut x j ];
@@ -69,39 +65,20 @@ some_path (p ∷ ps) l = (p, inl refl)
 module _ (g : Aig) (k : ℕ) (claim : ℕ → ℕ) (s : StepValue) (just : IsJustified g k claim s) where
   -- the empty set does not block its node
   not_free : Blocks g [] s.node → ⊥
-  not_free b =
-      let one : 1 ≤ path_count k s.claim = path_count-one k s.claim in
-      let count : length s.paths ≡ path_count k s.claim = just.count in
-      let p = some_path s.paths (omega arith) in
-      let m : Meets [] p.0.nodes = path_meets g [] s.node p.0.nodes (just.paths p.0 p.1) b in m.in_set
+  not_free b = grind (arith, some_path, path_count-one, path_meets)
 
   -- a cut of its node has a leaf whose claim is at least one less
   not_shallow : (c : List ℕ) (d : ℕ) → IsCut g k s.node c → ((m : ℕ) → In c m → claim m ≤ d) → suc d < s.claim → ⊥
   unfolding SharesNone
   not_shallow c d cut low deep =
-      let r : ArePicked c s.paths = pick c s.paths
-      (λ i j x p q l e f a b inside.
-      let under : x < s.node = (cut.below x inside).0 in
-      let high : s.claim ≤ claim x + 1 = just.apart i j x p q l e f a b (λ same. omega (arith, same)) in
-      let shallow : claim x ≤ d = low x inside in absurd (omega arith))
-      (λ p i. path_meets g c s.node p.nodes (just.paths p i) cut.blocks) in
+      let r : ArePicked c s.paths = grind (arith, pick, path_meets) in
       let l : length r.nodes ≤ length c = apart_short r.nodes c r.distinct r.in_cut in
-      let e : length r.nodes ≡ length s.paths = r.count in
-      let count : length s.paths ≡ path_count k s.claim = just.count in
-      let f : path_count k s.claim ≡ k + 1 = path_count-more k s.claim (omega arith) in
-      let few : length c ≤ k = cut.few in
-      absurd (omega arith)
+      absurd (omega (arith, path_count-more k s.claim (omega arith), cut.few))
 
 module _ (g : Aig) (k : ℕ) (roots : List ℕ) (cert : CertificateValue) (valid : IsValid g roots k cert) (cover_roots : List ℕ) (cover : ℕ → Option (List ℕ)) (is : IsCover g k cover_roots cover) where
   -- a claim that is 0 is no deeper than anything
   by_step : (n d : ℕ) → (HasStep cert.steps n (claim_of cert.steps n) → claim_of cert.steps n ≤ d) → claim_of cert.steps n ≤ d
   by_step n d step = elim (claim_cases cert.steps n) [ inl e ↦ omega arith | inr h ↦ step h ]
-
-  source_case : (n d : ℕ) → n < first_and g → claim_of cert.steps n ≤ d
-  source_case n d l = by_step n d (λ h. let a : first_and g ≤ h.step.node = (valid.nodes h.step h.there).0 in let e : h.step.node ≡ n = h.of in absurd (omega arith))
-
-  free_case : (n d : ℕ) → cover n ≡ Some [] → claim_of cert.steps n ≤ d
-  free_case n d at = by_step n d (λ h. absurd (not_free g k (claim_of cert.steps) h.step (valid.justified h.step h.there) (subst (λ m. Blocks g [] m) (sym h.of) (is.cuts n [] at).1.blocks)))
 
   table_case : (n d : ℕ) (c : List ℕ) → cover n ≡ Some c → ((m : ℕ) → In c m → claim_of cert.steps m ≤ d) → claim_of cert.steps n ≤ suc d
   table_case n d c at low = by_step n (suc d) (λ h. elim (cases_lt (suc d) h.step.claim) [
@@ -111,8 +88,8 @@ module _ (g : Aig) (k : ℕ) (roots : List ℕ) (cert : CertificateValue) (valid
 
   -- a claim is at most the depth of its node
   pub claim_low : {n d : ℕ} → HasDepth g cover n d → claim_of cert.steps n ≤ d
-  claim_low {n} {d} (source l) = source_case n d l
-  claim_low {n} {d} (free at) = free_case n d at
+  claim_low {n} {d} (source l) = by_step n d (λ h. let a : first_and g ≤ h.step.node = (valid.nodes h.step h.there).0 in let e : h.step.node ≡ n = h.of in absurd (omega arith))
+  claim_low {n} {d} (free at) = by_step n d (λ h. absurd (not_free g k (claim_of cert.steps) h.step (valid.justified h.step h.there) (subst (λ m. Blocks g [] m) (sym h.of) (is.cuts n [] at).1.blocks)))
   claim_low {n} (table {d = d} c at sub) = table_case n d c at (λ m i. claim_low (sub m i))
 
   -- and what roots need is at most the depth of the cover

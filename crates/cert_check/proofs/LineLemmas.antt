@@ -1,18 +1,16 @@
 -- The lines of a certificate's text are read one by one: the steps of the lines so far, and the first line that doesn't fit.
-use Rattle.cert_check.proofs.Common.{◌≡◌, ℕ, suc, ◌+◌, ◌<◌, ◌≤◌, true, false, eqb, List, [], ◌∷◌, ◌++◌, length, map, take, drop, get_or, Some, None, Result, Ok, Err, refl, sym, ap, ◌∙◌, subst, arith, append_assoc, append-nil, slice_get, MatchResult, option_map, cond-true, cond-false, le-leb, take_all, map-append, flat_map-append, slice_get-map, slice_get_read, slice_get_within, drop_get, OrMemory, OrMemory-map, LineValue, WordsLine, words_line, PathValue, StepValue, Saying, says_depth, says_claim, says_path, said_of, SaidLine, path_said, step_said, steps_said, AreSaid, AreLinesOf, fits_at, first_misfit, IsMalformed, IsMisfit, refusal_of, CertErr, Malformed, take_get, Option, take-append-drop, token_bytes, Token, number_of, in_front, numbers_of, min, length-take}
+use Rattle.cert_check.proofs.Common.{◌≡◌, ℕ, suc, ◌+◌, ◌<◌, ◌≤◌, true, false, eqb, List, [], ◌∷◌, ◌++◌, length, map, take, drop, get_or, Some, None, Result, Ok, Err, refl, sym, ap, ◌∙◌, subst, arith, append_assoc, append-nil, slice_get, MatchResult, option_map, cond-true, cond-false, le-leb, take_all, map-append, flat_map-append, slice_get-map, slice_get_read, slice_get_within, drop_get, OrMemory, LineValue, WordsLine, words_line, PathValue, StepValue, Saying, says_depth, says_path, said_of, SaidLine, path_said, steps_said, AreSaid, AreLinesOf, fits_at, first_misfit, IsMalformed, IsMisfit, refusal_of, CertErr, Malformed, take_get, Option, take-append-drop, token_bytes, Token, number_of, in_front, numbers_of, min, length-take, rules}
 
 -- one more line
 said_push : (lines : List WordsLine) (others : List SaidLine) (line : WordsLine) (said : SaidLine) → AreSaid lines others → line.number ≡ said.number → said_of line.words ≡ Some said.saying → AreSaid (lines ++ line ∷ []) (others ++ said ∷ [])
 said_push [] [] line said are number says = (number, says, tt)
-said_push [] (x ∷ xs) line said are number says = absurd are
-said_push (l ∷ ls) [] line said are number says = absurd are
 said_push (l ∷ ls) (x ∷ xs) line said are number says = (are.0, are.1, said_push ls xs line said are.2 number says)
+said_push lines others line said are number says = absurd are
 
 said_length : (lines : List WordsLine) (others : List SaidLine) → AreSaid lines others → length others ≡ length lines
 said_length [] [] are = refl
-said_length [] (x ∷ xs) are = absurd are
-said_length (l ∷ ls) [] are = absurd are
 said_length (l ∷ ls) (x ∷ xs) are = ap suc (said_length ls xs are.2)
+said_length lines others are = absurd are
 
 -- the lines before a place are read, and these are their steps
 pub record AreRead (lines : List WordsLine) (i : ℕ) (steps : List StepValue) : Type 0 where
@@ -61,16 +59,7 @@ module _ (lines : List WordsLine) (i : ℕ) (steps : List StepValue) (read : Are
 
 -- the steps that say one line more
 pub path_pushed : (front steps more : List StepValue) (s t : StepValue) (p : PathValue) → steps ≡ front ++ s ∷ [] → more ≡ front ++ t ∷ [] → t.line ≡ s.line → t.node ≡ s.node → t.claim ≡ s.claim → t.paths ≡ s.paths ++ p ∷ [] → steps_said more ≡ steps_said steps ++ path_said p ∷ []
-path_pushed front steps more s t p before after line node claim paths =
-    let one : step_said t ≡ step_said s ++ path_said p ∷ [] =
-    ap (λ l. record { number = l; saying = says_claim t.node t.claim } ∷ map path_said t.paths) line
-    ∙ ap (λ n. record { number = s.line; saying = says_claim n t.claim } ∷ map path_said t.paths) node
-    ∙ ap (λ h. record { number = s.line; saying = says_claim s.node h } ∷ map path_said t.paths) claim
-    ∙ ap (λ ps. record { number = s.line; saying = says_claim s.node s.claim } ∷ map path_said ps) paths
-    ∙ ap (λ ps. record { number = s.line; saying = says_claim s.node s.claim } ∷ ps) (map-append path_said s.paths (p ∷ [])) in
-    ap steps_said after ∙ flat_map-append step_said front (t ∷ []) ∙ ap (λ l. steps_said front ++ l) (append-nil (step_said t) ∙ one)
-    ∙ sym (append_assoc (steps_said front) (step_said s) (path_said p ∷ []))
-    ∙ ap (λ l. l ++ path_said p ∷ []) (sym (ap steps_said before ∙ flat_map-append step_said front (s ∷ []) ∙ ap (λ l. steps_said front ++ l) (append-nil (step_said s))))
+path_pushed front steps more s t p before after line node claim paths = grind (arith, map-append, flat_map-append, append-nil, append_assoc)
 
 -- a path fits where there is a step
 pub path_fits : (steps : List StepValue) (nodes : List ℕ) → 0 < length steps → fits_at (1 + length (steps_said steps)) (Some (says_path nodes)) ≡ true
@@ -86,9 +75,7 @@ path_added (Ok u) old new line nodes saying is added = (
   added.0 ∙ ap (λ s. steps_said old ++ record { number = line; saying = s } ∷ []) (sym is),
   ap (λ s. fits_at (1 + length (steps_said old)) (Some s)) is ∙ path_fits old nodes added.1,
 )
-path_added (Err e) old new line nodes saying is added =
-    OrMemory-map refusal_of (λ x. (old ≡ []) × (x ≡ Malformed line)) (λ x. (fits_at (1 + length (steps_said old)) (Some saying) ≡ false) × (x ≡ Malformed line)) e
-    (λ x f. (ap (λ s. fits_at (1 + length (steps_said old)) (Some s)) is ∙ ap (λ ss. fits_at (1 + length (steps_said ss)) (Some (says_path nodes))) f.0, f.1)) added
+path_added (Err e) old new line nodes saying is added = grind arith
 
 -- the line at a place
 module _ (text : List ℕ) (lines : List LineValue) where
@@ -109,19 +96,11 @@ module _ (text : List ℕ) where
 
   pub first_wrong : (lines : List LineValue) (line : LineValue) (e : CertErr) → 0 < length lines → line ≡ get_or lines 0 line → fits_at 0 (said_of (words_line text line).words) ≡ false → e ≡ Malformed line.number → IsMalformed (map (words_line text) lines) e
   first_wrong [] line e some is misfit error = absurd (omega arith)
-  first_wrong (l ∷ ls) line e some is misfit error = record {
-    line = line.number;
-    first = cond-false (fits_at 0 (said_of (words_line text l).words)) (first_misfit 1 (map (words_line text) ls)) (Some l.number) (subst (λ (x : LineValue). fits_at 0 (said_of (words_line text x).words) ≡ false) is misfit) ∙ ap (λ (x : LineValue). Some x.number) (sym is);
-    is = error;
-  }
+  first_wrong (l ∷ ls) line e some is misfit error = search (rules, cond-false)
 
   pub later_wrong : (lines : List LineValue) (line : LineValue) (depth : ℕ) (e : CertErr) → 0 < length lines → line ≡ get_or lines 0 line → said_of (words_line text line).words ≡ Some (says_depth depth) → IsMisfit 1 (map (words_line text) (drop 1 lines)) e → IsMalformed (map (words_line text) lines) e
   later_wrong [] line depth e some is says misfit = absurd (omega arith)
-  later_wrong (l ∷ ls) line depth e some is says misfit = record {
-    line = misfit.line;
-    first = cond-true (fits_at 0 (said_of (words_line text l).words)) (first_misfit 1 (map (words_line text) ls)) (Some l.number) (ap (fits_at 0) (subst (λ (x : LineValue). said_of (words_line text x).words ≡ Some (says_depth depth)) is says)) ∙ misfit.first;
-    is = misfit.is;
-  }
+  later_wrong (l ∷ ls) line depth e some is says misfit = search (rules, cond-true)
 
 -- numbers
 abbrev joined : Option (List ℕ) → Option (List ℕ) → Option (List ℕ)
@@ -130,10 +109,9 @@ joined (Some xs) None = None
 joined (Some xs) (Some ys) = Some (xs ++ ys)
 
 joined_front : (o : Option ℕ) (xs ys : Option (List ℕ)) → in_front o (joined xs ys) ≡ joined (in_front o xs) ys
-joined_front None xs ys = refl
-joined_front (Some n) None ys = refl
 joined_front (Some n) (Some xs) None = refl
 joined_front (Some n) (Some xs) (Some ys) = refl
+joined_front o xs ys = refl
 
 behind_none : (o : Option (List ℕ)) → o ≡ joined (Some []) o
 behind_none None = refl

@@ -1,5 +1,5 @@
 -- A text is that of one certificate at most, or has one refusal at most, and never both.
-use Rattle.cert_check.proofs.Common.{◌≡◌, ℕ, suc, List, [], ◌∷◌, ◌++◌, map, Some, None, refl, sym, ap, ◌∙◌, arith, cond-true, le-leb, none-some, same_Some, WordsLine, text_settled, PathValue, StepValue, CertificateValue, Saying, says_depth, says_claim, says_path, said_of, SaidLine, path_said, steps_said, AreSaid, AreLinesOf, fits_at, first_misfit, malformed_line, IsMalformed, cert_err, HasOneReading}
+use Rattle.cert_check.proofs.Common.{◌≡◌, ℕ, suc, List, [], ◌∷◌, ◌++◌, map, Some, None, refl, sym, ap, ◌∙◌, arith, cond-true, le-leb, none-some, same_Some, WordsLine, text_settled, PathValue, StepValue, CertificateValue, Saying, says_depth, says_claim, says_path, said_of, SaidLine, path_said, steps_said, AreSaid, AreLinesOf, fits_at, first_misfit, malformed_line, IsMalformed, cert_err, HasOneReading, rules}
 use Rattle.tl_fault.specs.Settled.{IsSettled}
 
 -- lines say one thing
@@ -9,11 +9,9 @@ said_same x y a b = ap (λ n. record { number = n; saying = x.saying }) a ∙ ap
 said_once : (lines : List WordsLine) (xs ys : List SaidLine) → AreSaid lines xs → AreSaid lines ys → xs ≡ ys
 said_once [] [] [] a b = refl
 said_once [] [] (y ∷ ys) a b = absurd b
-said_once [] (x ∷ xs) ys a b = absurd a
-said_once (l ∷ ls) [] ys a b = absurd a
 said_once (l ∷ ls) (x ∷ xs) [] a b = absurd b
-said_once (l ∷ ls) (x ∷ xs) (y ∷ ys) a b =
-    ap (λ z. z ∷ xs) (said_same x y (sym a.0 ∙ b.0) (same_Some x.saying y.saying (sym a.1 ∙ b.1))) ∙ ap (λ zs. y ∷ zs) (said_once ls xs ys a.2 b.2)
+said_once (l ∷ ls) (x ∷ xs) (y ∷ ys) a b = grind (arith, said_same, same_Some, said_once ls xs ys a.2 b.2)
+said_once lines xs ys a b = absurd a
 
 -- the steps that lines say, and the paths before the first of them
 record Unsaid : Type 0 where
@@ -48,37 +46,29 @@ depth_same d e h = let same : says_depth d ≡ says_depth e = same_Some (says_de
 lines_once : (lines : List WordsLine) (c d : CertificateValue) → AreLinesOf lines c → AreLinesOf lines d → c ≡ d
 lines_once [] c d a b = absurd a
 lines_once (l ∷ ls) c d a b =
-    let depth : c.depth ≡ d.depth = depth_same c.depth d.depth (sym a.0 ∙ b.0) in
     let steps : c.steps ≡ d.steps = steps_once c.steps d.steps (said_once ls (steps_said c.steps) (steps_said d.steps) a.1 b.1) in
-    ap (λ x. record { depth = x; steps = c.steps }) depth ∙ ap (λ x. record { depth = d.depth; steps = x }) steps
+    ap (λ x. record { depth = x; steps = c.steps }) (depth_same c.depth d.depth (sym a.0 ∙ b.0)) ∙ ap (λ x. record { depth = d.depth; steps = x }) steps
 
 -- the lines of a certificate fit
 paths_fit : (lines : List WordsLine) (place : ℕ) (ps : List PathValue) (rest : List SaidLine) → AreSaid lines (map path_said ps ++ rest)
     → ((more : List WordsLine) (n : ℕ) → AreSaid more rest → first_misfit (suc n) more ≡ None) → first_misfit (suc (suc place)) lines ≡ None
 paths_fit lines place [] rest are later = later lines (suc place) are
 paths_fit [] place (p ∷ ps) rest are later = absurd are
-paths_fit (l ∷ ls) place (p ∷ ps) rest are later =
-    cond-true (fits_at (suc (suc place)) (said_of l.words)) (first_misfit (suc (suc (suc place))) ls) (Some l.number) (ap (fits_at (suc (suc place))) are.1 ∙ le-leb 2 (suc (suc place)) (omega arith))
-    ∙ paths_fit ls (suc place) ps rest are.2 later
+paths_fit (l ∷ ls) place (p ∷ ps) rest are later = grind (arith, cond-true, le-leb, paths_fit ls (suc place) ps rest are.2 later)
 
 steps_fit : (lines : List WordsLine) (place : ℕ) (ss : List StepValue) → AreSaid lines (steps_said ss) → first_misfit (suc place) lines ≡ None
 steps_fit [] place [] are = refl
-steps_fit (l ∷ ls) place [] are = absurd are
-steps_fit [] place (s ∷ ss) are = absurd are
 steps_fit (l ∷ ls) place (s ∷ ss) are =
     cond-true (fits_at (suc place) (said_of l.words)) (first_misfit (suc (suc place)) ls) (Some l.number) (ap (fits_at (suc place)) are.1 ∙ le-leb 1 (suc place) (omega arith))
     ∙ paths_fit ls place s.paths (steps_said ss) are.2 (λ more n a. steps_fit more n ss a)
+steps_fit lines place ss are = absurd are
 
 lines_fit : (lines : List WordsLine) (c : CertificateValue) → AreLinesOf lines c → malformed_line lines ≡ None
 lines_fit [] c are = absurd are
 lines_fit (l ∷ ls) c are = cond-true (fits_at 0 (said_of l.words)) (first_misfit 1 ls) (Some l.number) (ap (fits_at 0) are.0) ∙ steps_fit ls 0 c.steps are.1
 
 lines_settled : (lines : List WordsLine) → IsSettled (AreLinesOf lines) (IsMalformed lines)
-lines_settled lines = record {
-  one_value = lines_once lines;
-  one_fault = λ e f a b. let line : a.line ≡ b.line = same_Some a.line b.line (sym a.first ∙ b.first) in cc (a.is, b.is, line);
-  not_both = λ c e are fault. none-some fault.line (sym (lines_fit lines c are) ∙ fault.first);
-}
+lines_settled lines = search (rules, lines_once, same_Some, none-some, lines_fit)
 
 pub one_reading : (text : List ℕ) → HasOneReading text
 one_reading text = text_settled cert_err AreLinesOf IsMalformed text lines_settled

@@ -1,6 +1,6 @@
 -- What is read can be written: claims are 1 at least, paths have two nodes at least, and numbers fit a word of 32 bits. What is written
 -- as the text of a certificate is read back as the same certificate, but for the numbers of its lines.
-use Rattle.cert_check.proofs.Common.{◌≡◌, ℕ, suc, ◌+◌, ◌^◌, ◌<◌, ◌≤◌, eqb, leb, List, [], ◌∷◌, ◌++◌, length, map, Some, None, codes, decimal, refl, sym, ap, ◌∙◌, subst, inl, inr, arith, option_and_then, cond-true, cond-false, ne_eqb, le-leb, map-append, length-map, In, In-append, In-left, In-right, from_map, WordsLine, PathValue, StepValue, CertificateValue, Saying, says_depth, says_claim, says_path, small, number_of, in_front, numbers_of, saying_by, path_with, said_of, SaidLine, path_said, steps_said, AreSaid, AreLinesOf, saying_words, cert_lines, cert_text, bare_path, bare_step, IsWritablePath, IsWritableStep, IsWritable, ReadsBack, Bool, true, false, cond, Option, bytes_eq, leb-true, eqb-false, none-some, same_Some, some_then, some_else, In-map, words_line, depth_with, claim_with, step_said, IsCertText}
+use Rattle.cert_check.proofs.Common.{◌≡◌, ℕ, suc, ◌+◌, ◌^◌, ◌<◌, ◌≤◌, eqb, leb, List, [], ◌∷◌, ◌++◌, length, map, Some, None, codes, decimal, refl, sym, ap, ◌∙◌, subst, inl, inr, arith, option_and_then, cond-true, cond-false, ne_eqb, le-leb, map-append, length-map, In, In-append, In-left, In-right, from_map, WordsLine, PathValue, StepValue, CertificateValue, Saying, says_depth, says_claim, says_path, small, number_of, in_front, numbers_of, saying_by, path_with, said_of, SaidLine, path_said, steps_said, AreSaid, AreLinesOf, saying_words, cert_lines, cert_text, bare_path, bare_step, IsWritablePath, IsWritableStep, IsWritable, ReadsBack, Bool, true, false, cond, Option, bytes_eq, eqb-false, none-some, same_Some, some_else, In-map, words_line, depth_with, claim_with, step_said, IsCertText}
 use Rattle.tl_text.specs.Clean.{IsClean}
 use Rattle.tl_text.proofs.WordLemmas.{decimal_back, decimal_clean, word_clean}
 use Rattle.tl_text.proofs.WrittenLineLemmas.{IsCleanLine, AreCleanLines, numbered, ReadsAgain, reads_again, numbered-append}
@@ -9,19 +9,15 @@ use Rattle.tl_text.specs.Decimal.{decimal_of}
 -- numbers that are read
 small_below : (o : Option ℕ) (n : ℕ) → option_and_then small o ≡ Some n → n < 2 ^ 32
 small_below None n e = absurd (none-some n e)
-small_below (Some m) n e =
-    let r = some_then (leb m 4294967295) (Some m) n e in
-    let same : m ≡ n = same_Some m n r.1 in
-    let le : m ≤ 4294967295 = leb-true m 4294967295 r.0 in omega arith
+small_below (Some m) n e = grind arith
 
 -- each of them is below 2^32
 abbrev pub AreSmall : List ℕ → Type 0
 AreSmall ns = (m : ℕ) → In ns m → m < 2 ^ 32
 
 front_small : (o : Option ℕ) (rest : Option (List ℕ)) (ns : List ℕ) → ((n : ℕ) → o ≡ Some n → n < 2 ^ 32) → ((ms : List ℕ) → rest ≡ Some ms → AreSmall ms) → in_front o rest ≡ Some ns → AreSmall ns
-front_small None rest ns one others e = absurd (none-some ns e)
-front_small (Some n) None ns one others e = absurd (none-some ns e)
 front_small (Some n) (Some ms) ns one others e = subst AreSmall (same_Some (n ∷ ms) ns e) (λ m i. elim i [ inl q ↦ subst (λ x. x < 2 ^ 32) (sym q) (one n refl) | inr j ↦ others ms refl m j ])
+front_small o rest ns one others e = absurd (none-some ns e)
 
 numbers_small : (words : List (List ℕ)) (ns : List ℕ) → numbers_of words ≡ Some ns → AreSmall ns
 numbers_small [] ns e = subst AreSmall (same_Some [] ns e) (λ m i. absurd i)
@@ -34,23 +30,18 @@ IsReadable (says_claim n h) = (n < 2 ^ 32) × (h < 2 ^ 32) × (1 ≤ h)
 IsReadable (says_path ns) = (2 ≤ length ns) × AreSmall ns
 
 depth_form : (ns : List ℕ) (s : Saying) → AreSmall ns → depth_with ns ≡ Some s → IsReadable s
-depth_form [] s h e = absurd (none-some s e)
 depth_form (d ∷ []) s h e = subst IsReadable (same_Some (says_depth d) s e) (h d (inl refl))
-depth_form (d ∷ n ∷ ns) s h e = absurd (none-some s e)
+depth_form ns s h e = absurd (none-some s e)
 
 claim_form : (ns : List ℕ) (s : Saying) → AreSmall ns → claim_with ns ≡ Some s → IsReadable s
-claim_form [] s h e = absurd (none-some s e)
-claim_form (n ∷ []) s h e = absurd (none-some s e)
 claim_form (n ∷ c ∷ []) s h e =
     let r = some_else (eqb c 0) (Some (says_claim n c)) s e in
-    let never : c ≡ 0 → ⊥ = eqb-false c 0 r.0 in
-    subst IsReadable (same_Some (says_claim n c) s r.1) (h n (inl refl), h c (inr (inl refl)), (let l : 1 ≤ c = omega (arith, never) in l))
-claim_form (n ∷ c ∷ m ∷ ms) s h e = absurd (none-some s e)
+    subst IsReadable (same_Some (says_claim n c) s r.1) (h n (inl refl), h c (inr (inl refl)), (let l : 1 ≤ c = omega (arith, eqb-false c 0 r.0) in l))
+claim_form ns s h e = absurd (none-some s e)
 
 path_form : (ns : List ℕ) (s : Saying) → AreSmall ns → path_with ns ≡ Some s → IsReadable s
-path_form [] s h e = absurd (none-some s e)
-path_form (m ∷ []) s h e = absurd (none-some s e)
 path_form (m ∷ n ∷ ns) s h e = subst IsReadable (same_Some (says_path (m ∷ n ∷ ns)) s e) ((let l : 2 ≤ length (m ∷ n ∷ ns) = omega arith in l), h)
+path_form ns s h e = absurd (none-some s e)
 
 -- of a choice that is some value: the one, or the other
 of_choice : {A : Type 0} (b : Bool) (x y : Option A) (v : A) (P : Type 0) → (x ≡ Some v → P) → (y ≡ Some v → P) → cond b x y ≡ Some v → P
@@ -58,10 +49,7 @@ of_choice true x y v P f g e = f e
 of_choice false x y v P f g e = g e
 
 form : (word ns : List ℕ) (s : Saying) → AreSmall ns → saying_by word ns ≡ Some s → IsReadable s
-form word ns s h e =
-    of_choice (bytes_eq word (codes "depth")) (depth_with ns) (cond (bytes_eq word (codes "claim")) (claim_with ns) (cond (bytes_eq word (codes "path")) (path_with ns) None)) s (IsReadable s) (depth_form ns s h)
-    (of_choice (bytes_eq word (codes "claim")) (claim_with ns) (cond (bytes_eq word (codes "path")) (path_with ns) None) s (IsReadable s) (claim_form ns s h)
-    (of_choice (bytes_eq word (codes "path")) (path_with ns) None s (IsReadable s) (path_form ns s h) (λ n. absurd (none-some s n)))) e
+form word ns s h e = grind (arith, of_choice, bytes_eq, codes, cond, depth_form, claim_form, path_form, none-some)
 
 of_numbers : (word : List ℕ) (o : Option (List ℕ)) (s : Saying) → ((ns : List ℕ) → o ≡ Some ns → AreSmall ns) → option_and_then (saying_by word) o ≡ Some s → IsReadable s
 of_numbers word None s h e = absurd (none-some s e)
@@ -73,11 +61,10 @@ said_readable (w ∷ ws) s e = of_numbers w (numbers_of ws) s (numbers_small ws)
 
 -- the lines of steps
 lines_readable : (lines : List WordsLine) (others : List SaidLine) → AreSaid lines others → (l : SaidLine) → In others l → IsReadable l.saying
-lines_readable [] [] are l i = absurd i
 lines_readable [] (x ∷ xs) are l i = absurd are
-lines_readable (k ∷ ks) [] are l i = absurd i
 lines_readable (k ∷ ks) (x ∷ xs) are l (inl e) = subst (λ (y : SaidLine). IsReadable y.saying) (sym e) (said_readable k.words x.saying are.1)
 lines_readable (k ∷ ks) (x ∷ xs) are l (inr i) = lines_readable ks xs are.2 l i
+lines_readable lines [] are l i = absurd i
 
 step_lines : (ss : List StepValue) (s : StepValue) (l : SaidLine) → In ss s → In (step_said s) l → In (steps_said ss) l
 step_lines [] s l i j = absurd i
@@ -114,16 +101,12 @@ numbers_back [] h = refl
 numbers_back (n ∷ ns) h = ap (λ o. in_front o (numbers_of (map decimal ns))) (number_back n (h n (inl refl))) ∙ ap (in_front (Some n)) (numbers_back ns (λ m i. h m (inr i)))
 
 path_back : (ns : List ℕ) → 2 ≤ length ns → path_with ns ≡ Some (says_path ns)
-path_back [] l = absurd (omega arith)
-path_back (m ∷ []) l = absurd (omega arith)
 path_back (m ∷ n ∷ ns) l = refl
+path_back ns l = absurd (omega arith)
 
 says_back : (s : Saying) → IsReadable s → said_of (saying_words s) ≡ Some s
 says_back (says_depth d) h = ap (λ o. option_and_then (saying_by (codes "depth")) (in_front o (Some []))) (number_back d h)
-says_back (says_claim n h) f =
-    ap (λ o. option_and_then (saying_by (codes "claim")) (in_front o (in_front (number_of (decimal h)) (Some [])))) (number_back n f.0)
-    ∙ ap (λ o. option_and_then (saying_by (codes "claim")) (in_front (Some n) (in_front o (Some [])))) (number_back h f.1)
-    ∙ cond-false (eqb h 0) None (Some (says_claim n h)) (ne_eqb h 0 (λ e. let l : 1 ≤ h = f.2 in let z : h ≡ 0 = e in omega arith))
+says_back (says_claim n h) f = grind (arith, codes, decimal, number_back, cond-false, eqb, ne_eqb)
 says_back (says_path ns) f = ap (option_and_then (saying_by (codes "path"))) (numbers_back ns f.1) ∙ path_back ns f.0
 
 -- and these are clean
@@ -176,9 +159,8 @@ placed_steps n (s ∷ ss) = record { line = n; node = s.node; claim = s.claim; p
 
 said_append : (ks ls : List WordsLine) (xs ys : List SaidLine) → AreSaid ks xs → AreSaid ls ys → AreSaid (ks ++ ls) (xs ++ ys)
 said_append [] ls [] ys a b = b
-said_append [] ls (x ∷ xs) ys a b = absurd a
-said_append (k ∷ ks) ls [] ys a b = absurd a
 said_append (k ∷ ks) ls (x ∷ xs) ys a b = (a.0, a.1, said_append ks ls xs ys a.2 b)
+said_append ks ls xs ys a b = absurd a
 
 paths_back : (n : ℕ) (ps : List PathValue) → AreFormed (map path_said ps) → AreSaid (numbered n (map said_words (map path_said ps))) (map path_said (placed_paths n ps))
 unfolding said_words AreFormed
@@ -190,8 +172,7 @@ unfolding said_words AreFormed
 steps_back n [] f = tt
 steps_back n (s ∷ ss) f =
     let paths : AreSaid (numbered (suc n) (map said_words (map path_said s.paths))) (map path_said (placed_paths (suc n) s.paths)) = paths_back (suc n) s.paths (λ l i. f l (inr (In-left (map path_said s.paths) (steps_said ss) l i))) in
-    let others : AreSaid (numbered (suc n + length s.paths) (map said_words (steps_said ss))) (steps_said (placed_steps (suc n + length s.paths) ss)) =
-    steps_back (suc n + length s.paths) ss (λ l i. f l (inr (In-right (map path_said s.paths) (steps_said ss) l i))) in
+    let others = steps_back (suc n + length s.paths) ss (λ l i. f l (inr (In-right (map path_said s.paths) (steps_said ss) l i))) in
     let count : suc n + length (map said_words (map path_said s.paths)) ≡ suc n + length s.paths = ap (λ k. suc n + k) (length-map (map path_said s.paths) said_words ∙ length-map s.paths path_said) in
     let shape : numbered (suc n) (map said_words (map path_said s.paths ++ steps_said ss)) ≡ numbered (suc n) (map said_words (map path_said s.paths)) ++ numbered (suc n + length s.paths) (map said_words (steps_said ss)) =
     ap (numbered (suc n)) (map-append said_words (map path_said s.paths) (steps_said ss)) ∙ numbered-append (suc n) (map said_words (map path_said s.paths)) (map said_words (steps_said ss))
@@ -209,24 +190,20 @@ bare_paths n (p ∷ ps) = ap (λ l. bare_path p ∷ l) (bare_paths (suc n) ps)
 
 bare_steps : (n : ℕ) (ss : List StepValue) → map bare_step (placed_steps n ss) ≡ map bare_step ss
 bare_steps n [] = refl
-bare_steps n (s ∷ ss) =
-    ap (λ ps. record { line = 0; node = s.node; claim = s.claim; paths = ps } ∷ map bare_step (placed_steps (suc n + length s.paths) ss)) (bare_paths (suc n) s.paths)
-    ∙ ap (λ l. bare_step s ∷ l) (bare_steps (suc n + length s.paths) ss)
+bare_steps n (s ∷ ss) = grind (arith, placed_steps, bare_paths, bare_steps (suc n + length s.paths) ss)
 
 -- What is written is read back.
 pub reads_back : (c : CertificateValue) → IsWritable c → ReadsBack (cert_text c) c
 unfolding said_words
 reads_back c w =
-    let depth : IsReadable (says_depth c.depth) = w.small in
-    let formed : AreFormed (steps_said c.steps) = steps_formed c.steps w.steps in
-    let clean : AreCleanLines (cert_lines c) = λ words i. elim i [ inl e ↦ subst IsCleanLine (sym e) (clean_line (says_depth c.depth) depth) | inr j ↦ said_clean (steps_said c.steps) formed words j ] in
+    let clean : AreCleanLines (cert_lines c) = λ words i. elim i [ inl e ↦ subst IsCleanLine (sym e) (clean_line (says_depth c.depth) w.small) | inr j ↦ said_clean (steps_said c.steps) (steps_formed c.steps w.steps) words j ] in
     let again : ReadsAgain (cert_lines c) = reads_again (cert_lines c) clean in
     record {
       read = record { depth = c.depth; steps = placed_steps 2 c.steps };
       is = record {
         lines = again.logical;
         lines_are = again.are;
-        are = subst (λ ls. AreLinesOf ls (record { depth = c.depth; steps = placed_steps 2 c.steps })) (sym again.words) (says_back (says_depth c.depth) depth, steps_back 2 c.steps formed);
+        are = subst (λ ls. AreLinesOf ls (record { depth = c.depth; steps = placed_steps 2 c.steps })) (sym again.words) (says_back (says_depth c.depth) w.small, steps_back 2 c.steps (steps_formed c.steps w.steps));
       };
       same = ap (λ ss. record { depth = c.depth; steps = ss }) (bare_steps 2 c.steps);
     }

@@ -1,22 +1,15 @@
 -- Stamps of nodes, and what a clash with them means for the paths of a step.
-use Rattle.cert_check.proofs.Common.{◌≡◌, ℕ, suc, ◌+◌, ◌-◌, ◌<◌, ◌≤◌, List, [], ◌∷◌, ◌++◌, take, drop, drop-cons, set, length, get_or, get_or-set_same, get_or-set_other, length-set, Some, None, sym, ap, ◌∙◌, subst, inl, inr, arith, cases_eq, cases_lt, take_more, none-some, same_Some, Aig, In, In-push, In-pushed, In-left, In-get_or, PathValue, StepValue, IsPath, MayStand, NodesFault, PathsFault, Clashes, IsFirstClash, AreStamped, IsPathFault, no_path, clash, CertErr, Shared}
-
--- what is left from a place on begins with the number there
-pub drop_here : (xs : List ℕ) (i : ℕ) → i < length xs → drop i xs ≡ get_or xs i 0 ∷ drop (i + 1) xs
-drop_here xs i l = let e : suc i ≡ i + 1 = omega arith in drop-cons xs i 0 l ∙ ap (λ j. get_or xs i 0 ∷ drop j xs) e
+use Rattle.cert_check.proofs.Common.{◌≡◌, ℕ, ◌+◌, ◌-◌, ◌<◌, ◌≤◌, List, [], ◌∷◌, ◌++◌, take, set, length, get_or, get_or-set_same, get_or-set_other, length-set, Some, None, sym, ap, ◌∙◌, subst, inl, inr, arith, cases_eq, cases_lt, take_more, none-some, same_Some, Aig, In, In-push, In-pushed, In-left, In-get_or, PathValue, StepValue, IsPath, MayStand, NodesFault, PathsFault, Clashes, IsFirstClash, AreStamped, IsPathFault, no_path, clash, CertErr, Shared, rules}
 
 -- one more node is stamped
 pub stamped_more : (old : List ℕ) (n : ℕ) (nodes : List ℕ) (i : ℕ) (stamps : List ℕ) → ((m : ℕ) → In nodes m → m < length old) → i < length nodes → AreStamped old n (take i nodes) stamps
     → AreStamped old n (take (i + 1) nodes) (set stamps (get_or nodes i 0) n)
 stamped_more old n nodes i stamps inside l are =
     let x : ℕ = get_or nodes i 0 in
-    let b : get_or nodes i 0 < length old = inside (get_or nodes i 0) (In-get_or nodes i 0 l) in
-    let size : length stamps ≡ length old = are.size in
-    let there : get_or (set stamps x n) x 0 ≡ n = get_or-set_same stamps x n 0 (omega arith) in
     rw (take_more nodes i 0 l) (record {
       size = length-set stamps x n ∙ are.size;
       there = λ m j. elim (cases_eq m x) [
-        | inl q ↦ ap (λ y. get_or (set stamps x n) y 0) q ∙ there
+        | inl q ↦ ap (λ y. get_or (set stamps x n) y 0) q ∙ (get_or-set_same stamps x n 0 (omega (arith, are.size, inside (get_or nodes i 0) (In-get_or nodes i 0 l))))
         | inr ne ↦ get_or-set_other stamps x m n 0 ne ∙ (elim (In-push (take i nodes) x m j) [ inl o ↦ are.there m o | inr e ↦ absurd (ne e) ])
       ];
       only = λ m. elim (cases_eq m x) [
@@ -50,16 +43,10 @@ stamps_more n earlier p old new are more = record {
 module _ (claims : List ℕ) (s : StepValue) (earlier : List PathValue) (stamps : List ℕ) (are : AreStampsOf s.node earlier stamps) where
   -- a node that doesn't clash with the stamps may stand behind the paths, and one that does may not
   may_stand : (m : ℕ) → (Clashes stamps claims s.node s.claim m → ⊥) → MayStand (λ x. get_or claims x 0) s earlier m
-  may_stand m never p i j other = elim (cases_lt (get_or claims m 0) (s.claim - 1)) [
-    | inl low ↦ absurd (never (record { stamped = are.there p m i j; other = other; low = low }))
-    | inr high ↦ omega arith
-  ]
+  may_stand m never p i j other = search (rules, cases_lt)
 
   may_not : (m : ℕ) → Clashes stamps claims s.node s.claim m → MayStand (λ x. get_or claims x 0) s earlier m → ⊥
-  may_not m c may =
-      let r = are.only m c.stamped in
-      let high : s.claim ≤ get_or claims m 0 + 1 = may r.0 r.1 r.2 c.other in
-      let low : get_or claims m 0 < s.claim - 1 = c.low in absurd (omega arith)
+  may_not m c may = grind arith
 
   -- no node clashes: so each may stand there, and a fault is one of the rest
   pub all_stand : (nodes : List ℕ) → IsFirstClash stamps claims s.node s.claim nodes None → (m : ℕ) → In nodes m → MayStand (λ x. get_or claims x 0) s earlier m
@@ -77,16 +64,10 @@ module _ (claims : List ℕ) (s : StepValue) (earlier : List PathValue) (stamps 
   -- a path's fault is one of the paths
   pub path_stops : (g : Aig) (p : PathValue) (ps : List PathValue) (e : CertErr) → IsPathFault g claims s p stamps e → PathsFault g (λ x. get_or claims x 0) s earlier (p ∷ ps) ⊥ e
   path_stops g p ps e (no_path never is) = inl (never, is)
-  path_stops g p ps e (clash m path first is) =
-      subst (PathsFault g (λ x. get_or claims x 0) s earlier (p ∷ ps) ⊥) (sym is)
-      (inr (path, nodes_stop p.line p.nodes (PathsFault g (λ x. get_or claims x 0) s (earlier ++ p ∷ []) ps ⊥ (Shared p.line m)) m first))
+  path_stops g p ps e (clash m path first is) = grind (arith, nodes_stop)
 
 -- a clash as the code finds it
 pub clash_as : (g : Aig) (claims : List ℕ) (s : StepValue) (p : PathValue) (stamps marks nodes : List ℕ) (n h line m : ℕ) → n ≡ s.node → h ≡ s.claim → nodes ≡ p.nodes → marks ≡ stamps → line ≡ p.line
     → IsPath g n nodes → IsFirstClash marks claims n h nodes (Some m) → IsPathFault g claims s p stamps (Shared line m)
 clash_as g claims s p stamps marks nodes n h line m node claim same marked at path first =
-    clash m (subst (IsPath g s.node) same (subst (λ x. IsPath g x nodes) node path))
-    (subst (λ x. IsFirstClash x claims s.node s.claim p.nodes (Some m)) marked
-    (subst (λ x. IsFirstClash marks claims s.node s.claim x (Some m)) same
-    (subst (λ x. IsFirstClash marks claims s.node x nodes (Some m)) claim (subst (λ x. IsFirstClash marks claims x h nodes (Some m)) node first))))
-    (ap (λ x. Shared x m) at)
+    clash m (rw (node, same) at path) (rw (node, claim, same, marked) at first) (ap (λ x. Shared x m) at)

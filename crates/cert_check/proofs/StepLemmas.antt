@@ -1,10 +1,10 @@
 -- The paths of a step, one by one.
-use Rattle.cert_check.proofs.Common.{◌≡◌, ℕ, zero, suc, ◌+◌, ◌<◌, ◌≤◌, List, [], ◌∷◌, ◌++◌, take, drop, length, get_or, Some, refl, sym, ap, ◌∙◌, subst, inl, inr, arith, slice_get, ◌≢◌, cases_lt, take_more, take_all, none-some, same_Some, slice_get_within, slice_get_read, Aig, node_count, In, drop_at, In-push, PathValue, StepValue, IsPath, path_count, IsJustified, PathsFault, IsPathTaken, IsPathFault, CertErr}
+use Rattle.cert_check.proofs.Common.{◌≡◌, ℕ, zero, suc, ◌+◌, ◌<◌, ◌≤◌, List, [], ◌∷◌, ◌++◌, take, drop, length, get_or, Some, refl, sym, ap, ◌∙◌, subst, inl, inr, arith, slice_get, ◌≢◌, cases_lt, take_more, take_all, none-some, same_Some, slice_get_within, slice_get_read, Aig, node_count, In, drop_at, In-push, PathValue, StepValue, IsPath, path_count, IsJustified, PathsFault, IsPathTaken, IsPathFault, CertErr, rules}
 use Rattle.cert_check.proofs.FaultLemmas.{nodes_met}
 use Rattle.cert_check.proofs.StampLemmas.{AreStampsOf, stamps_more, all_stand, path_stops}
 
 -- an element before a place is one of the elements before it
-get_taken : {A : Type 0} (xs : List A) (i j : ℕ) (x : A) → i < j → slice_get xs i ≡ Some x → In (take j xs) x
+pub get_taken : {A : Type 0} (xs : List A) (i j : ℕ) (x : A) → i < j → slice_get xs i ≡ Some x → In (take j xs) x
 get_taken [] i j x l e = absurd (none-some x e)
 get_taken (y ∷ xs) i zero x l e = absurd (omega arith)
 get_taken (y ∷ xs) zero (suc j) x l e = inl (sym (same_Some y x e))
@@ -41,23 +41,13 @@ module _ (g : Aig) (claims : List ℕ) (s : StepValue) (at : ℕ) (stamps : List
     apart = λ i j m q r l k e f a b other. elim (cases_lt j at) [
       | inl old ↦ taken.apart i j m q r l old e f a b other
       | inr new ↦ (
-          let same : j ≡ at = omega arith in
-          let is : p ≡ r = same_Some p r (sym here ∙ subst (λ x. slice_get s.paths x ≡ Some r) same f) in
+          let is : p ≡ r = same_Some p r (sym here ∙ subst (λ x. slice_get s.paths x ≡ Some r) (omega arith) f) in
           all_stand claims s (take at s.paths) stamps taken.stamps p.nodes one.no_clash m (subst (λ (x : PathValue). In x.nodes m) (sym is) b) q (get_taken s.paths i at q (omega arith) e) a other)
     ];
     stamps = subst (λ ps. AreStampsOf s.node ps new) (sym more) (stamps_more s.node (take at s.paths) p stamps new taken.stamps one.stamps);
-    skips = λ e f. taken.skips e (subst (λ ps. PathsFault g (λ x. get_or claims x 0) s (take at s.paths) ps ⊥ e) (sym rest)
-        (inr (
-          one.path,
-          (nodes_met (λ x. get_or claims x 0) s (take at s.paths) p.line p.nodes _ e (all_stand claims s (take at s.paths) stamps taken.stamps p.nodes one.no_clash)).0
-              (subst (λ ps. PathsFault g (λ x. get_or claims x 0) s ps (drop (at + 1) s.paths) ⊥ e) more f),
-        )));
+    skips = λ e f. grind (arith, rest, nodes_met, all_stand, more);
   }
 
 -- all paths are taken
 pub all_taken : (g : Aig) (k : ℕ) (claims : List ℕ) (s : StepValue) (at : ℕ) (stamps : List ℕ) → length s.paths ≡ path_count k s.claim → AreTaken g claims s at stamps → length s.paths ≤ at → IsJustified g k (λ m. get_or claims m 0) s
-all_taken g k claims s at stamps count taken past = record {
-  count = count;
-  paths = λ p i. taken.paths p (subst (λ ps. In ps p) (sym (take_all at s.paths past)) i);
-  apart = λ i j m p q l e f a b other. let inside : j < length s.paths = slice_get_within s.paths j q f in taken.apart i j m p q l (omega arith) e f a b other;
-}
+all_taken g k claims s at stamps count taken past = search (rules, take_all, slice_get_within)

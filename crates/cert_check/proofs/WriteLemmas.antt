@@ -1,5 +1,5 @@
 -- The parts of a certificate's text.
-use Rattle.cert_check.proofs.Common.{◌≡◌, ℕ, List, [], ◌∷◌, ◌++◌, map, codes, decimal, refl, sym, ap, ◌∙◌, append_assoc, append-nil, flat_map, map-append, flat_map-append, PathValue, StepValue, CertificateValue, says_depth, says_path, SaidLine, path_said, step_said, steps_said, saying_words, words_text, line_text, cert_text, number_text, path_text, claim_text, step_text}
+use Rattle.cert_check.proofs.Common.{◌≡◌, ℕ, List, [], ◌∷◌, ◌++◌, map, codes, decimal, refl, sym, ap, ◌∙◌, append_assoc, append-nil, flat_map, map-append, flat_map-append, PathValue, StepValue, CertificateValue, says_depth, says_path, SaidLine, path_said, step_said, steps_said, saying_words, words_text, line_text, cert_text, number_text, path_text, claim_text, step_text, arith}
 
 -- the words of numbers
 numbers_text : (ns : List ℕ) → flat_map number_text ns ≡ words_text (map decimal ns)
@@ -11,10 +11,7 @@ pub depth_line : (d : ℕ) → codes "depth" ++ (number_text d ++ 10 ∷ []) ≡
 depth_line d = ap (λ t. codes "depth" ++ (t ++ 10 ∷ [])) (sym (append-nil (number_text d)))
 
 pub claim_line : (s : StepValue) (n h : ℕ) → n ≡ s.node → h ≡ s.claim → codes "claim" ++ (number_text n ++ (number_text h ++ 10 ∷ [])) ≡ claim_text s
-claim_line s n h node claim =
-    ap (λ x. codes "claim" ++ (number_text x ++ (number_text h ++ 10 ∷ []))) node ∙ ap (λ x. codes "claim" ++ (number_text s.node ++ (number_text x ++ 10 ∷ []))) claim
-    ∙ ap (λ t. codes "claim" ++ t) (sym (append_assoc (number_text s.node) (number_text s.claim) (10 ∷ [])))
-    ∙ ap (λ t. codes "claim" ++ ((number_text s.node ++ t) ++ 10 ∷ [])) (sym (append-nil (number_text s.claim)))
+claim_line s n h node claim = grind (arith, codes, append_assoc, append-nil)
 
 pub path_line : (p : PathValue) (ns : List ℕ) → ns ≡ p.nodes → codes "path" ++ (flat_map number_text ns ++ 10 ∷ []) ≡ path_text p
 path_line p ns same = ap (λ t. codes "path" ++ (t ++ 10 ∷ [])) (numbers_text ns) ∙ ap (λ l. line_text (saying_words (says_path l))) same
@@ -31,11 +28,8 @@ steps_text : (ss : List StepValue) → flat_map step_text ss ≡ flat_map line_t
 steps_text [] = refl
 steps_text (s ∷ ss) =
     let words : SaidLine → List (List ℕ) = λ l. saying_words l.saying in
-    let one : step_text s ≡ flat_map line_text (map words (step_said s)) = ap (λ t. claim_text s ++ t) (paths_text s.paths) in
-    ap (λ t. t ++ flat_map step_text ss) one ∙ ap (λ t. flat_map line_text (map words (step_said s)) ++ t) (steps_text ss)
+    ap (λ t. t ++ flat_map step_text ss) (ap (λ t. claim_text s ++ t) (paths_text s.paths)) ∙ ap (λ t. flat_map line_text (map words (step_said s)) ++ t) (steps_text ss)
     ∙ sym (ap (flat_map line_text) (map-append words (step_said s) (steps_said ss)) ∙ flat_map-append line_text (map words (step_said s)) (map words (steps_said ss)))
 
 pub whole_text : (c : CertificateValue) (d : ℕ) (ss : List StepValue) → d ≡ c.depth → ss ≡ c.steps → line_text (saying_words (says_depth d)) ++ flat_map step_text ss ≡ cert_text c
-whole_text c d ss depth steps =
-    ap (λ x. line_text (saying_words (says_depth x)) ++ flat_map step_text ss) depth ∙ ap (λ x. line_text (saying_words (says_depth c.depth)) ++ flat_map step_text x) steps
-    ∙ ap (λ t. line_text (saying_words (says_depth c.depth)) ++ t) (steps_text c.steps)
+whole_text c d ss depth steps = grind (arith, steps_text)

@@ -1,5 +1,5 @@
 -- The bits of some LUTs: those of each lie within those of all, and all are no more than the LUTs' work.
-use Rattle.cover_pick.proofs.Common.{◌≡◌, ℕ, ◌+◌, ◌*◌, ◌^◌, ◌≤◌, List, [], ◌∷◌, length, sym, subst, inl, inr, arith, mul-le-mul_left, mul-one, sum_by-cons, In, Aig, Lut, HaveBases, bits_of, IsTableWork, IsWork, rules}
+use Rattle.cover_pick.proofs.Common.{◌≡◌, ℕ, ◌+◌, ◌^◌, ◌≤◌, List, [], ◌∷◌, length, sym, subst, inl, inr, arith, mul-le-mul_left, mul-one, sum_by-cons, In, Aig, Lut, HaveBases, bits_of, IsWork, rules}
 
 pub base_within : (b : ℕ) (ts : List Lut) (t : Lut) → HaveBases b ts → In ts t → t.base + 2 ^ length t.leaves ≤ b + bits_of ts
 base_within b [] t h i = elim i [ ]

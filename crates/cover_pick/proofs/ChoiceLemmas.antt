@@ -1,12 +1,13 @@
 -- The chosen cut by the rule's own words, and that the rule keeps within the required depth.
-use Rattle.cover_pick.proofs.Common.{◌≡◌, ℕ, ◌<◌, ◌≤◌, true, false, ◌&&◌, cond, ltb, eqb, List, [], ◌∷◌, length, Option, Some, None, refl, sym, ap, ◌∙◌, subst, inl, inr, ◌⊎◌, arith, same_Some, none-some, cases_order, ltb-true, ltb-false, eqb-true, and_parts, and_from, false≢true, both_ways, lt-ltb, eq-eqb, In, lex, comes_before, IsOrdered, height, choose, better, fewest, rules}
+use Rattle.cover_pick.proofs.Common.{◌≡◌, ℕ, ◌<◌, ◌≤◌, true, ◌&&◌, ltb, eqb, List, [], ◌∷◌, length, Option, Some, None, refl, sym, ap, ◌∙◌, subst, inl, inr, ◌⊎◌, arith, same_Some, none-some, cases_order, ltb-true, ltb-false, eqb-true, and_parts, and_from, both_ways, lt-ltb, eq-eqb, In, lex, comes_before, IsOrdered, height, choose, better, fewest, rules, zero, suc, get_or, drop, drop_more, IsAt, IsShorter, cases_lt, comes_before, before_trans, less, earlier, cheaper, cheaper_low, cheapest, sum_by, sum_by-cons, cases_eq, flow_at, cost_where, leaf_cost, cut_cost, need}
 use Rattle.cover_pick.specs.Choice.{Precedes, fewer, lower, before, IsChosen}
+use Rattle.cut_enum.proofs.LevelLemmas.{IsRising, IsRising-ordered, first_least}
+use Rattle.cover_pick.specs.declared.choice.Candidate.{Candidate}
+use Rattle.cover_pick.specs.Sharing.{IsNeededAbove, root, leaf, IsLeafCost, shared, free, new, AreLeafCosts, IsCost, IsCheaper, IsCheapest}
 
--- what `before` says
 before_says : (a b : List ℕ) → comes_before a b ≡ true → (length a < length b) ⊎ ((length a ≡ length b) × (lex a b ≡ true))
 before_says a b h0 = grind arith
 
--- the best of the cuts for which S holds
 record BestIn (S : List ℕ → Type 0) (label : ℕ → ℕ) (r : ℕ) (c : List ℕ) : Type 0 where
   one : S c
   low : height label c ≤ r
@@ -70,7 +71,6 @@ best_is label r cs c up e =
     let s : State (λ d. ⊥ ⊎ In cs d) label r (Some c) = subst (λ o. State (λ d. ⊥ ⊎ In cs d) label r o) e (best_state cs (λ d. ⊥) label r None (λ d i. absurd i) up (λ d c i. absurd i)) in
     record { one = elim s.one [ inl j ↦ absurd j | inr j ↦ j ]; low = s.low; first = λ d i l. s.first d (inr i) l }
 
--- where a cut is chosen
 pub best_in : (label : ℕ → ℕ) (r : ℕ) (cs : List (List ℕ)) (o : Option (List ℕ)) (c : List ℕ) → fewest label r o cs ≡ Some c → In cs c ⊎ (o ≡ Some c)
 best_in label r [] o c h = inr h
 best_in label r (d ∷ cs) None c h = search (rules, ltb, same_Some, best_in label r cs (better label r None d) c h)
@@ -93,3 +93,202 @@ pub best_low : (label : ℕ → ℕ) (r : ℕ) (cs : List (List ℕ)) (o : Optio
 best_low label r [] o c low h = low c h
 best_low label r (d ∷ cs) None c low h = grind (arith, ltb, none-some, ltb-false, same_Some, best_low label r cs (better label r None d) c (λ b e. choose (λ x. x ≡ Some b → height label b ≤ r) (ltb r (height label d)) None (Some d) (λ _ q. absurd (none-some b q)) (λ f q. let g : height label d ≤ r = ltb-false r (height label d) f in let s : height label d ≡ height label b = ap (λ x. height label x) (same_Some d b q) in omega arith) e) h)
 best_low label r (d ∷ cs) (Some a) c low h = grind (arith, eqb, ltb, ltb-true, and_parts, same_Some, best_low label r cs (better label r (Some a) d) c (λ b e. choose (λ x. x ≡ Some b → height label b ≤ r) ((eqb (length d) (length a)) && ltb (height label d) (height label a)) (Some d) (Some a) (λ t q. let u : height label d < height label a = ltb-true (height label d) (height label a) (and_parts (eqb (length d) (length a)) (ltb (height label d) (height label a)) t).1 in let v : height label a ≤ r = low a refl in let s : height label d ≡ height label b = ap (λ x. height label x) (same_Some d b q) in omega arith) (λ _ q. low b q) e) h)
+
+module _ (label : ℕ → ℕ) (r : ℕ) where
+  better_longer : (c d : List ℕ) → length c < length d → better label r (Some c) d ≡ Some c
+  better_longer c d l = grind arith
+
+  fewest_longer : (c : List ℕ) (cs : List (List ℕ)) → ((d : List ℕ) → In cs d → length c < length d) → fewest label r (Some c) cs ≡ Some c
+  fewest_longer c [] l = refl
+  fewest_longer c (d ∷ ds) l = ap (λ o. fewest label r o ds) (better_longer c d (l d (inl refl))) ∙ fewest_longer c ds (λ e i. l e (inr i))
+
+  rising_drop : (cs : List (List ℕ)) (i : ℕ) → IsRising cs → IsRising (drop i cs)
+  rising_drop cs zero s = s
+  rising_drop [] (suc i) s = tt
+  rising_drop (c ∷ cs) (suc i) s = rising_drop cs i s.1
+
+  later_longer : (cs : List (List ℕ)) (i : ℕ) (d : List ℕ) → IsRising cs → i < length cs → In (drop i cs) d → length (get_or cs i []) ≤ length d
+  later_longer cs i d s l h = grind (arith, drop_more, first_least, rising_drop)
+
+  -- So the fold may stop at the first cut of more leaves.
+  pub fewest_stops : (cs : List (List ℕ)) (best : Option Candidate) (o full : Option (List ℕ)) (i : ℕ) → IsOrdered cs → i < length cs → IsShorter best (length (get_or cs i [])) → IsAt label cs best o
+      → fewest label r o (drop i cs) ≡ full → o ≡ full
+  fewest_stops cs None o full i up l s h e = absurd s
+  fewest_stops cs (Some b) None full i up l s h e = absurd h
+  fewest_stops cs (Some b) (Some c) full i up l s h e =
+      sym (fewest_longer c (drop i cs) (λ d k. let m : length (get_or cs i []) ≤ length d = later_longer cs i d (IsRising-ordered cs up) l k in omega arith)) ∙ e
+
+-- The cut that is found for its cost: there is one where a cut is low enough, it is one of the list, and the first of the least cost.
+module _ (cost : List ℕ → ℕ) (label : ℕ → ℕ) (r : ℕ) where
+  high_is : (o : Option (List ℕ)) (e : List ℕ) → r < height label e → cheaper_low cost label r o e ≡ o
+  high_is o e l = choose (λ s. s ≡ o) (ltb r (height label e)) o (cheaper cost o e) (λ _. refl) (λ t. absurd (let a : height label e ≤ r = ltb-false r (height label e) t in omega arith))
+
+  low_is : (o : Option (List ℕ)) (e : List ℕ) → height label e ≤ r → cheaper_low cost label r o e ≡ cheaper cost o e
+  low_is o e l = choose (λ s. s ≡ cheaper cost o e) (ltb r (height label e)) o (cheaper cost o e) (λ t. absurd (let a : r < height label e = ltb-true r (height label e) t in omega arith)) (λ _. refl)
+
+  less_is : (b e : List ℕ) → cost e < cost b → cheaper cost (Some b) e ≡ Some e
+  less_is b e l = choose (λ s. s ≡ Some e) (ltb (cost e) (cost b)) (Some e) (Some b) (λ _. refl) (λ t. absurd (let a : cost b ≤ cost e = ltb-false (cost e) (cost b) t in omega arith))
+
+  more_is : (b e : List ℕ) → cost b ≤ cost e → cheaper cost (Some b) e ≡ Some b
+  more_is b e l = choose (λ s. s ≡ Some b) (ltb (cost e) (cost b)) (Some e) (Some b) (λ t. absurd (let a : cost e < cost b = ltb-true (cost e) (cost b) t in omega arith)) (λ _. refl)
+
+  -- what is found after one more cut, by its cases
+  step_is : (P : Option (List ℕ) → Type 0) (b e : List ℕ) → P (Some b) → P (Some e) → P (cheaper_low cost label r (Some b) e)
+  step_is P b e p q = grind arith
+
+  found_some : (cs : List (List ℕ)) (b : List ℕ) → (c : List ℕ) × (cheapest cost label r (Some b) cs ≡ Some c)
+  found_some [] b = (b, refl)
+  found_some (e ∷ cs) b = step_is (λ o. (c : List ℕ) × (cheapest cost label r o cs ≡ Some c)) b e (found_some cs b) (found_some cs e)
+
+  pub cheapest_found : (cs : List (List ℕ)) (o : Option (List ℕ)) (b : List ℕ) → In cs b → height label b ≤ r → (c : List ℕ) × (cheapest cost label r o cs ≡ Some c)
+  cheapest_found [] o b i l = elim i [ ]
+  cheapest_found (e ∷ cs) (Some a) b i l = found_some (e ∷ cs) a
+  cheapest_found (e ∷ cs) None b (inl q) l = subst (λ o. (c : List ℕ) × (cheapest cost label r o cs ≡ Some c)) (sym (low_is None e (subst (λ x. height label x ≤ r) q l))) (found_some cs e)
+  cheapest_found (e ∷ cs) None b (inr i) l = cheapest_found cs (cheaper_low cost label r None e) b i l
+
+  from_more : (cs : List (List ℕ)) (o next : Option (List ℕ)) (e c : List ℕ) → (next ≡ o) ⊎ (next ≡ Some e) → In cs c ⊎ (next ≡ Some c) → In (e ∷ cs) c ⊎ (o ≡ Some c)
+  from_more cs o next e c s (inl i) = inl (inr i)
+  from_more cs o next e c (inl q) (inr h) = inr (sym q ∙ h)
+  from_more cs o next e c (inr q) (inr h) = inl (inl (sym (same_Some e c (sym q ∙ h))))
+
+  step_either : (o : Option (List ℕ)) (e : List ℕ) → (cheaper_low cost label r o e ≡ o) ⊎ (cheaper_low cost label r o e ≡ Some e)
+  step_either None e = choose (λ s. (s ≡ None) ⊎ (s ≡ Some e)) (ltb r (height label e)) None (Some e) (λ _. inl refl) (λ _. inr refl)
+  step_either (Some b) e = step_is (λ s. (s ≡ Some b) ⊎ (s ≡ Some e)) b e (inl refl) (inr refl)
+
+  pub cheapest_in : (cs : List (List ℕ)) (o : Option (List ℕ)) (c : List ℕ) → cheapest cost label r o cs ≡ Some c → In cs c ⊎ (o ≡ Some c)
+  cheapest_in [] o c h = inr h
+  cheapest_in (e ∷ cs) o c h = from_more cs o (cheaper_low cost label r o e) e c (step_either o e) (cheapest_in cs (cheaper_low cost label r o e) c h)
+
+  low_next : (o : Option (List ℕ)) (e : List ℕ) → ((b : List ℕ) → o ≡ Some b → height label b ≤ r) → (b : List ℕ) → cheaper_low cost label r o e ≡ Some b → height label b ≤ r
+  low_next o e low b h = search (rules, cases_lt, high_is, step_either, same_Some)
+
+  pub cheapest_low : (cs : List (List ℕ)) (o : Option (List ℕ)) (c : List ℕ) → ((b : List ℕ) → o ≡ Some b → height label b ≤ r) → cheapest cost label r o cs ≡ Some c → height label c ≤ r
+  cheapest_low [] o c low h = low c h
+  cheapest_low (e ∷ cs) o c low h = cheapest_low cs (cheaper_low cost label r o e) c (low_next o e low) h
+
+  -- the cheaper of two, over a third
+  cheaper_less : (c e d : List ℕ) → IsCheaper c e (cost c) (cost e) → cost e < cost d → IsCheaper c d (cost c) (cost d)
+  cheaper_less c e d (less l) m = less (omega arith)
+  cheaper_less c e d (earlier q o) m = less (omega arith)
+
+  before_next : (c b e : List ℕ) → (c ≡ b) ⊎ (comes_before c b ≡ true) → comes_before b e ≡ true → comes_before c e ≡ true
+  before_next c b e (inl q) t = subst (λ x. comes_before x e ≡ true) (sym q) t
+  before_next c b e (inr s) t = before_trans c b e s t
+
+  cheaper_next : (c b e : List ℕ) → IsCheaper c b (cost c) (cost b) → cost b ≤ cost e → comes_before b e ≡ true → IsCheaper c e (cost c) (cost e)
+  cheaper_next c b e (less l) m t = less (omega arith)
+  cheaper_next c b e (earlier q o) m t = search (rules, cases_lt, before_next)
+
+  -- what is found is the first of the least cost
+  pub cheapest_first : (cs : List (List ℕ)) (o : Option (List ℕ)) (c : List ℕ) → IsOrdered cs → ((b e : List ℕ) → o ≡ Some b → In cs e → comes_before b e ≡ true) → ((b : List ℕ) → o ≡ Some b → height label b ≤ r)
+      → cheapest cost label r o cs ≡ Some c
+      → (d : List ℕ) → In cs d ⊎ (o ≡ Some d) → height label d ≤ r → IsCheaper c d (cost c) (cost d)
+  cheapest_first [] o c up prior lows h d (inl i) l = absurd i
+  cheapest_first [] o c up prior lows h d (inr q) l = let same : c ≡ d = same_Some c d (sym h ∙ q) in earlier (ap cost same) (inl same)
+  cheapest_first (e ∷ cs) None c up prior lows h d i l =
+      elim (cases_lt r (height label e)) [
+        | inl high ↦ elim i [
+          | inl j ↦ elim j [
+            | inl q ↦ absurd (let a : height label d ≡ height label e = ap (λ x. height label x) q in omega arith)
+            | inr k ↦ cheapest_first cs None c up.1 (λ b x q k. absurd (none-some b q)) lows (subst (λ s. cheapest cost label r s cs ≡ Some c) (high_is None e high) h) d (inl k) l
+          ]
+          | inr q ↦ absurd (none-some d q)
+        ]
+        | inr low ↦ (
+            let next : cheapest cost label r (Some e) cs ≡ Some c = subst (λ s. cheapest cost label r s cs ≡ Some c) (low_is None e low) h in
+            let all : (x : List ℕ) → In cs x ⊎ (Some e ≡ Some x) → height label x ≤ r → IsCheaper c x (cost c) (cost x) = grind (arith, same_Some, cheapest_first cs (Some e) c up.1 (λ b x q k. subst (λ y. comes_before y x ≡ true) (same_Some e b q) (up.0 x k)) (λ b q. subst (λ y. height label y ≤ r) (same_Some e b q) low) next) in
+            elim i [
+              | inl j ↦ elim j [ inl q ↦ all d (inr (ap (λ x. Some x) (sym q))) l | inr k ↦ all d (inl k) l ]
+              | inr q ↦ absurd (none-some d q)
+            ])
+      ]
+  cheapest_first (e ∷ cs) (Some b) c up prior lows h d i l =
+      elim (cases_lt r (height label e)) [
+        | inl high ↦ (
+            let all : (x : List ℕ) → In cs x ⊎ (Some b ≡ Some x) → height label x ≤ r → IsCheaper c x (cost c) (cost x) =
+            cheapest_first cs (Some b) c up.1 (λ y x q k. prior y x q (inr k)) lows (subst (λ s. cheapest cost label r s cs ≡ Some c) (high_is (Some b) e high) h) in
+            elim i [
+              | inl j ↦ elim j [ inl q ↦ absurd (let a : height label d ≡ height label e = ap (λ x. height label x) q in omega arith) | inr k ↦ all d (inl k) l ]
+              | inr q ↦ all d (inr q) l
+            ])
+        | inr low ↦ elim (cases_lt (cost e) (cost b)) [
+          | inl m ↦ (
+              let all : (x : List ℕ) → In cs x ⊎ (Some e ≡ Some x) → height label x ≤ r → IsCheaper c x (cost c) (cost x) =
+              cheapest_first cs (Some e) c up.1 (λ y x q k. subst (λ z. comes_before z x ≡ true) (same_Some e y q) (up.0 x k)) (λ y q. subst (λ z. height label z ≤ r) (same_Some e y q) low) (subst (λ s. cheapest cost label r s cs ≡ Some c) (low_is (Some b) e low ∙ less_is b e m) h) in
+              elim i [
+                | inl j ↦ elim j [ inl q ↦ all d (inr (ap (λ x. Some x) (sym q))) l | inr k ↦ all d (inl k) l ]
+                | inr q ↦ (let same : b ≡ d = same_Some b d q in let costs : cost b ≡ cost d = ap cost same in cheaper_less c e d (all e (inr refl) low) (omega arith))
+              ])
+          | inr m ↦ (
+              let all : (x : List ℕ) → In cs x ⊎ (Some b ≡ Some x) → height label x ≤ r → IsCheaper c x (cost c) (cost x) =
+              cheapest_first cs (Some b) c up.1 (λ y x q k. prior y x q (inr k)) lows (subst (λ s. cheapest cost label r s cs ≡ Some c) (low_is (Some b) e low ∙ more_is b e m) h) in
+              elim i [
+                | inl j ↦ elim j [
+                  | inl q ↦ subst (λ x. IsCheaper c x (cost c) (cost x)) (sym q) (cheaper_next c b e (all b (inr refl) (lows b refl)) m (prior b e refl (inl refl)))
+                  | inr k ↦ all d (inl k) l
+                ]
+                | inr q ↦ all d (inr q) l
+              ])
+        ]
+      ]
+
+pub above_same : (roots : List ℕ) (cover more : ℕ → Option (List ℕ)) (n m : ℕ) → ((i : ℕ) → n < i → cover i ≡ more i) → IsNeededAbove roots cover n m → IsNeededAbove roots more n m
+above_same roots cover more n m same (root l i e) = root l i e
+above_same roots cover more n m same (leaf reader c a e i) = leaf reader c a (sym (same reader a) ∙ e) i
+
+-- costs where the same is needed
+module _ (flow : ℕ → ℕ) (needed other : ℕ → Type 0) (to : (m : ℕ) → needed m → other m) (from : (m : ℕ) → other m → needed m) where
+  leaf_moved : (m cost : ℕ) → IsLeafCost flow needed m cost → IsLeafCost flow other m cost
+  leaf_moved m cost (shared x z) = shared (to m x) z
+  leaf_moved m cost (free f z) = free f z
+  leaf_moved m cost (new x z) = new (λ y. x (from m y)) z
+
+  leaves_moved : (c : List ℕ) (cost : ℕ) → AreLeafCosts flow needed c cost → AreLeafCosts flow other c cost
+  leaves_moved [] cost a = a
+  leaves_moved (m ∷ ms) cost a = (a.0, a.1, leaf_moved m a.0 a.2, leaves_moved ms a.1 a.3, a.4)
+
+  pub cost_moved : (c : List ℕ) (cost : ℕ) → IsCost flow needed c cost → IsCost flow other c cost
+  cost_moved c cost a = record { leaves = a.leaves; are = leaves_moved c a.leaves a.are; is = a.is }
+
+-- what is needed is what has a required depth, where it has a flow
+module _ (flows : List ℕ) (reqs : List (Option ℕ)) (needed : ℕ → Type 0) (to : (m r : ℕ) → need reqs m ≡ Some r → needed m)
+    (from : (m : ℕ) → needed m → (flow_at flows m ≡ 0) ⊎ ((r : ℕ) × (need reqs m ≡ Some r))) where
+  leaf_of : (m : ℕ) (o : Option ℕ) → need reqs m ≡ o → IsLeafCost (flow_at flows) needed m (cost_where o (flow_at flows m))
+  leaf_of m None e =
+      elim (cases_eq (flow_at flows m) 0) [
+        | inl z ↦ free z z
+        | inr d ↦ new (λ x. elim (from m x) [ inl z ↦ d z | inr q ↦ absurd (none-some q.0 (sym e ∙ q.1)) ]) refl
+      ]
+  leaf_of m (Some r) e = shared (to m r e) refl
+
+  leaf_only : (m cost : ℕ) (o : Option ℕ) → need reqs m ≡ o → IsLeafCost (flow_at flows) needed m cost → cost ≡ cost_where o (flow_at flows m)
+  leaf_only m cost None e (shared x z) = elim (from m x) [ inl f ↦ z ∙ sym f | inr q ↦ absurd (none-some q.0 (sym e ∙ q.1)) ]
+  leaf_only m cost (Some r) e (shared x z) = z
+  leaf_only m cost None e (free f z) = z ∙ sym f
+  leaf_only m cost (Some r) e (free f z) = z
+  leaf_only m cost None e (new x z) = z
+  leaf_only m cost (Some r) e (new x z) = absurd (x (to m r e))
+
+  leaves_are : (c : List ℕ) → AreLeafCosts (flow_at flows) needed c (sum_by (leaf_cost flows reqs) c)
+  leaves_are [] = refl
+  leaves_are (m ∷ ms) = (leaf_cost flows reqs m, sum_by (leaf_cost flows reqs) ms, leaf_of m (need reqs m) refl, leaves_are ms, sum_by-cons (leaf_cost flows reqs) m ms)
+
+  leaves_only : (c : List ℕ) (cost : ℕ) → AreLeafCosts (flow_at flows) needed c cost → cost ≡ sum_by (leaf_cost flows reqs) c
+  leaves_only [] cost a = a
+  leaves_only (m ∷ ms) cost a =
+      let first : a.0 ≡ leaf_cost flows reqs m = leaf_only m a.0 (need reqs m) refl a.2 in
+      omega (arith, leaves_only ms a.1 a.3, sum_by-cons (leaf_cost flows reqs) m ms, a.4)
+
+  pub cost_only : (c : List ℕ) (cost : ℕ) → IsCost (flow_at flows) needed c cost → cost ≡ cut_cost flows reqs c
+  cost_only c cost a = grind (arith, leaves_only)
+
+  -- The cut that is found is the cheapest.
+  pub cheapest_is : (label : ℕ → ℕ) (r : ℕ) (row : List (List ℕ)) (c : List ℕ) → IsOrdered row → cheapest (cut_cost flows reqs) label r None row ≡ Some c → IsCheapest (flow_at flows) needed label r row c
+  cheapest_is label r row c up e = record {
+    one = elim (cheapest_in (cut_cost flows reqs) label r row None c e) [ inl i ↦ i | inr q ↦ absurd (none-some c q) ];
+    low = cheapest_low (cut_cost flows reqs) label r row None c (λ b q. absurd (none-some b q)) e;
+    cost = cut_cost flows reqs c;
+    is = record { leaves = sum_by (leaf_cost flows reqs) c; are = leaves_are c; is = refl };
+    first = λ d other i l x. subst (λ v. IsCheaper c d (cut_cost flows reqs c) v) (sym (cost_only d other x))
+        (cheapest_first (cut_cost flows reqs) label r row None c up (λ b y q k. absurd (none-some b q)) (λ b q. absurd (none-some b q)) e d (inl i) l);
+  }

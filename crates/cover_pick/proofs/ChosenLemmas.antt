@@ -3,13 +3,12 @@ use Rattle.cover_pick.proofs.Common.{◌≡◌, ℕ, ◌-◌, ◌*◌, ◌/◌, 
 use Rattle.cover_pick.specs.Tables.{IsNeeded, root, leaf, IsLeaves, constant, parameter, source, node}
 use Rattle.cover_pick.specs.Marks.{IsMarked, root as marked_root, leaf as marked_leaf, leaves_of, source_leaves, Made, IsMade, tables_of, AreMade}
 use Rattle.cover_pick.proofs.TableLemmas.{tables_needed}
-use Rattle.cover_pick.proofs.TemplateLemmas.{leaves_and, cut_in, in_cut, to_tables, tables_within, tables_exact, leaves_inside}
 use Rattle.cover_pick.proofs.MappingLemmas.{leaves_zero, leaves_source, kind_there, regular_leaves}
-use Rattle.cover_pick.proofs.ByLemmas.{depth_from, node_of}
-use Rattle.cover_pick.proofs.RoundsOnceLemmas.{plan_depths_once}
+use Rattle.cover_pick.proofs.TemplateLemmas.{leaves_and, cut_in, in_cut, to_tables, tables_within, tables_exact, leaves_inside}
+use Rattle.cover_pick.proofs.RuleLemmas.{depth_from, node_of}
+use Rattle.cover_pick.proofs.RoundsOnceLemmas.{plan_once}
 use Rattle.cover_pick.proofs.WorkLemmas.{cone_is}
 
--- marks are of the needed literals
 pub marked_is : (roots : List ℕ) (cuts : List (Option (List ℕ))) (l : ℕ) → IsMarked roots cuts l → IsNeeded roots (cut_at cuts) l
 marked_is roots cuts l (marked_root i) = root i
 marked_is roots cuts l (marked_leaf c m i j e) = let r = in_cut cuts c i in leaf r.0 m c r.1 j e
@@ -18,7 +17,6 @@ pub needed_is : (roots : List ℕ) (cuts : List (Option (List ℕ))) (l : ℕ) �
 needed_is roots cuts l (root i) = marked_root i
 needed_is roots cuts l (leaf n m c at i e) = marked_leaf c m (cut_in cuts n c at) i e
 
--- the leaves of a table, as a relation
 leaves_are : (g : Aig) (cuts : List (Option (List ℕ))) (l : ℕ) (c : List ℕ) → l < 2 * node_count g → leaves_of g cuts l ≡ Some c → IsLeaves g (cut_at cuts) l c
 leaves_are g cuts l c b e = elim (cases_eq (l / 2) 0) [
   | inl z ↦ constant z (sym (same_Some [] c (sym (leaves_zero g cuts l z) ∙ e)))
@@ -44,17 +42,12 @@ are_leaves g cuts l c nodes (source s o e) =
 are_leaves g cuts l c nodes (node at) = leaves_and g cuts l (nodes c at) ∙ at
 
 module _ (rule : Rule) (g : Aig) (rows : List (List (List ℕ))) (label : ℕ → ℕ) (roots : List ℕ) (made : Made) (t : IsCutTable g rows) (lits : AreRoots g roots) (a : IsMade rule g rows label roots made) where
-  cut_node : (n : ℕ) (c : List ℕ) → cut_at a.cuts n ≡ Some c → IsAnd g n
-  cut_node n c at = ((a.plan.least t.k t.are).is.cuts n c at).0
-
   needed_lit : (l : ℕ) → IsNeeded roots (cut_at a.cuts) l → l < 2 * node_count g
   needed_lit l (root i) = lits l i
   needed_lit l (leaf n m c at i e) =
       let both = (a.plan.least t.k t.are).is.cuts n c at in
-      let x : n < node_count g = both.0.1 in
-      let y : m < n = (both.1.below m i).0 in omega arith
+      omega (arith, both.0.1, (both.1.below m i).0)
 
-  -- The tables that are made are the chosen ones.
   pub chosen_is : AreChosen rule g rows label roots made.luts made.bits
   chosen_is = record {
     reqs = and_depths g (depths_of rule g rows label roots a.flows);
@@ -63,7 +56,7 @@ module _ (rule : Rule) (g : Aig) (rows : List (List (List ℕ))) (label : ℕ �
     tables = record {
       needed = λ u i. marked_is roots a.cuts u.lit.0 (a.tables.only u i).0;
       leaves = λ u i. leaves_are g a.cuts u.lit.0 u.leaves (a.tables.below u i) (a.tables.only u i).1;
-      all = λ l c needed leaves. a.tables.all l c (needed_lit l needed) (needed_is roots a.cuts l needed) (are_leaves g a.cuts l c (λ d at. cut_node (l / 2) d at) leaves);
+      all = λ l c needed leaves. a.tables.all l c (needed_lit l needed) (needed_is roots a.cuts l needed) (are_leaves g a.cuts l c (λ d at. ((a.plan.least t.k t.are).is.cuts (l / 2) d at).0) leaves);
       ascending = a.tables.ascending;
       bases = a.tables.bases;
       sum = a.tables.sum;
@@ -75,13 +68,12 @@ module _ (rule : Rule) (g : Aig) (rows : List (List (List ℕ))) (label : ℕ �
   timely_is = record {
     each = λ reqs cover plan u r i e.
         let same : reqs (u.lit.0 / 2) ≡ and_depths g (depths_of rule g rows label roots a.flows) (u.lit.0 / 2) =
-        plan_depths_once rule g rows label roots t reqs (and_depths g (depths_of rule g rows label roots a.flows)) cover (cut_at a.cuts) plan a.chosen (u.lit.0 / 2) in
+        ap (λ d. d (u.lit.0 / 2)) (plan_once rule g rows label roots t reqs (and_depths g (depths_of rule g rows label roots a.flows)) cover (cut_at a.cuts) plan a.chosen).0 in
         let d = depth_from g (depths_of rule g rows label roots a.flows) (u.lit.0 / 2) r (sym same ∙ e) in
         let and : IsAnd g (u.lit.0 / 2) = node_of rule g rows label roots a.flows (cut_at a.cuts) a.plan (u.lit.0 / 2) r (sym same ∙ e) in
         to_tables g t.k roots a.cuts made (a.plan.least t.k t.are).is a.tables (a.plan.timely (u.lit.0 / 2) r and d.1) u.lit.0 refl and (a.tables.only u i).0;
   }
 
--- the work of tables of literals of the graph
 pub work_is : (g : Aig) (ts : List Lut) → AreNormal (first_and g) g.pairs → ((t : Lut) → In ts t → t.lit.0 < 2 * node_count g) → IsWork g ts (work_of g ts)
 work_is g [] normal inside = refl
 work_is g (t ∷ ts) normal inside =
@@ -121,7 +113,6 @@ pub too_much_told : (rule : Rule) (g : Aig) (rows : List (List (List ℕ))) (lab
 too_much_told rule g rows label roots flows cuts normal t plan is lits Work l = too_much rule g rows label roots flows cuts normal t plan is lits l
 too_much_told rule g rows label roots flows cuts normal t plan is lits Memory l = tt
 
--- The whole template.
 pub template_is : (rule : Rule) (g : Aig) (rows : List (List (List ℕ))) (label : ℕ → ℕ) (roots : RootsValue) (made : Made) (outputs next : List Lit) (depth : ℕ) → IsCutTable g rows → AreRoots g (roots_of roots) → IsMade rule g rows label (roots_of roots) made
     → outputs ≡ roots.outputs → next ≡ roots.next → depth ≡ target g label (roots_of roots)
     → IsTemplate rule g rows label roots (record { luts = made.luts; outputs = outputs; next = next; bits = made.bits; depth = depth })

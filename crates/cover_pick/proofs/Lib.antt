@@ -1,32 +1,16 @@
 mod Common
-mod MemberLemmas
-mod TargetLemmas
 mod ChoiceLemmas
-mod CandidateLemmas
-mod CheapestLemmas
-mod SharingLemmas
-mod FlowLemmas
-mod CountLemmas
 mod UsesLemmas
-mod StateLemmas
 mod WalkLemmas
-mod NeededLemmas
 mod RuleLemmas
-mod PlaceLemmas
-mod PlanLemmas
-mod ByLemmas
 mod RoundLemmas
-mod ThreeLemmas
-pub mod BitsLemmas
 mod TableLemmas
 pub mod WorkLemmas
 mod SearchLemmas
 mod TemplateLemmas
 mod MappingLemmas
-mod PlanOnceLemmas
+pub mod BitsLemmas
 mod RoundsOnceLemmas
-mod OnceLemmas
 mod ChosenLemmas
 mod ThereLemmas
 mod Examples
-mod RoundExamples

@@ -1,18 +1,15 @@
 -- The chosen LUTs map the graph, and are a cover of the least depth.
-use Rattle.cover_pick.proofs.Common.{◌≡◌, ℕ, ◌-◌, ◌*◌, ◌/◌, ◌%◌, ◌<◌, ◌≤◌, cond, eqb, ltb, List, [], ◌∷◌, Option, Some, None, IsSome, refl, sym, ap, ◌∙◌, subst, inl, inr, ◌⊎◌, arith, get_or, slice_get, same_Some, none-some, slice_get-get_or, cases_lt, cases_eq, eqb-true, eq-eqb, ne_eqb, ltb-true, lt-ltb, false≢true, Aig, first_and, node_count, IsAnd, IsSource, Kind, Regular, Parameter, AreRoots, In, choose, AreRows, Lut, target, need, cover_of, chosen, Rule, choice_of, cut_at, depths_of, FromChoice, IsLeastCover, HasTable, rules}
+use Rattle.cover_pick.proofs.Common.{◌≡◌, ℕ, ◌-◌, ◌*◌, ◌/◌, ◌%◌, ◌<◌, ◌≤◌, cond, List, [], ◌∷◌, Option, Some, None, IsSome, refl, sym, ap, ◌∙◌, subst, inl, inr, ◌⊎◌, arith, get_or, slice_get, same_Some, none-some, slice_get-get_or, cases_lt, cases_eq, eq-eqb, ne_eqb, lt-ltb, false≢true, Aig, first_and, node_count, IsAnd, IsSource, Kind, Regular, Parameter, AreRoots, In, AreRows, Lut, target, need, cover_of, chosen, Rule, choice_of, cut_at, depths_of, FromChoice, IsLeastCover, HasTable, rules}
 use Rattle.cover_pick.specs.Mapping.{IsTableOf, source, free, node, IsPlain, HasLut, HasNode, IsMapping, IsLeast}
 use Rattle.cover_pick.specs.Marks.{leaves_of, source_leaves, Made, IsMarked, root, leaf, IsMade}
 use Rattle.cover_pick.proofs.TemplateLemmas.{leaves_and, cut_in}
 
--- the leaves of a table of the constant
 pub leaves_zero : (g : Aig) (cuts : List (Option (List ℕ))) (l : ℕ) → l / 2 ≡ 0 → leaves_of g cuts l ≡ Some []
 leaves_zero g cuts l e = rw (eq-eqb (l / 2) 0 e) refl
 
--- the leaves of a table of a source
 pub leaves_source : (g : Aig) (cuts : List (Option (List ℕ))) (l : ℕ) → (l / 2 ≡ 0 → ⊥) → l / 2 < first_and g → leaves_of g cuts l ≡ source_leaves (slice_get g.kinds (l / 2 - 1)) (l / 2) (l % 2)
 leaves_source g cuts l d b = rw (ne_eqb (l / 2) 0 d, lt-ltb (l / 2) (first_and g) b) refl
 
--- a source of the graph has a kind
 kind_is : (g : Aig) (n : ℕ) (k : Kind) → 1 ≤ n → slice_get g.kinds (n - 1) ≡ Some k → IsSource g Regular n ⊎ IsSource g Parameter n
 kind_is g n Regular a e = inl (record { above = a; is = e })
 kind_is g n Parameter a e = inr (record { above = a; is = e })
@@ -43,9 +40,6 @@ module _ (rule : Rule) (g : Aig) (rows : List (List (List ℕ))) (label : ℕ �
   and_lut_of l and needed None e s = absurd (false≢true s)
   and_lut_of l and needed (Some c) e s = has_lut l c (let b : l / 2 < node_count g = and.1 in omega arith) needed (leaves_and g a.cuts l and ∙ e)
 
-  and_lut : (l : ℕ) → IsAnd g (l / 2) → IsMarked roots a.cuts l → IsSome (cut_at a.cuts (l / 2)) → HasLut made.luts l
-  and_lut l and needed some = and_lut_of l and needed (cut_at a.cuts (l / 2)) refl some
-
   root_has : (l : ℕ) → In roots l → IsPlain g l ⊎ HasLut made.luts l
   root_has l i =
       let b : l < 2 * node_count g = lits l i in
@@ -59,7 +53,7 @@ module _ (rule : Rule) (g : Aig) (rows : List (List (List ℕ))) (label : ℕ �
             ]
             | inr r ↦ inr (has_lut l [] b (root i) (leaves_source g a.cuts l d s ∙ ap (λ o. source_leaves o (l / 2) (l % 2)) r.is))
           ]
-          | inr s ↦ (let and : IsAnd g (l / 2) = (s, omega arith) in inr (and_lut l and (root i) (plan.is.roots_in l i and)))
+          | inr s ↦ (let and : IsAnd g (l / 2) = (s, omega arith) in inr (and_lut_of l and (root i) (cut_at a.cuts (l / 2)) refl (plan.is.roots_in l i and)))
         ]
       ]
 
@@ -76,7 +70,7 @@ module _ (rule : Rule) (g : Aig) (rows : List (List (List ℕ))) (label : ℕ �
         | inl s ↦ absurd (source_leaf t m (table_of t i) j s and.0)
         | inr s ↦ (
             let at : cut_at a.cuts (t.lit.0 / 2) ≡ Some t.leaves = sym (leaves_and g a.cuts t.lit.0 (s, omega arith)) ∙ ((a.tables.only t i).1) in
-            and_lut (2 * m) (subst (λ n. IsAnd g n) (sym half) and) (leaf t.leaves m (cut_in a.cuts (t.lit.0 / 2) t.leaves at) j refl)
+            and_lut_of (2 * m) (subst (λ n. IsAnd g n) (sym half) and) (leaf t.leaves m (cut_in a.cuts (t.lit.0 / 2) t.leaves at) j refl) (cut_at a.cuts ((2 * m) / 2)) refl
             (subst (λ n. IsSome (cut_at a.cuts n)) (sym half) (plan.is.leaves_in (t.lit.0 / 2) m t.leaves at j and)))
       ]
 

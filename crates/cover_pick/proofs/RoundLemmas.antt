@@ -1,10 +1,7 @@
 -- The rounds that are made are rounds by their own words, and the flows that are found are those of the first plan of the least cost.
 use Rattle.cover_pick.proofs.Common.{◌≡◌, ℕ, ◌/◌, ◌<◌, ◌≤◌, cond, ltb, Bool, true, false, List, [], ◌∷◌, ◌++◌, Option, refl, sym, ap, ◌∙◌, subst, inl, inr, arith, ltb-true, ltb-false, Aig, first_and, node_count, AreNormal, In, In-append, choose, choose_one, row_at, AreLabels, IsCutTable, Rule, FewestLeaves, LeastCost, Scope, AnyHeight, LeastHeight, flow_at, fan_out, allowed, flows_by, IsPlanBy, uses, cost_of, AreCounted, count_at, AreLeaves, AreUsed, PlanValue, AreRounds, NoneBelow, IsFirst, IsPlan, and_depths, depths_of, plan_of, AreFlows, cut_at, IsPlanned, plan_by, next_flows, cost_by, cheaper_flows, three_rounds, least_flows, flows_for}
-use Rattle.cover_pick.proofs.FlowLemmas.{flows_same, flows_fit, no_flows_fit}
-use Rattle.cover_pick.proofs.CountLemmas.{counted_all}
-use Rattle.cover_pick.proofs.UsesLemmas.{uses_same, cost_same}
-use Rattle.cover_pick.proofs.PlanLemmas.{plan_all}
-use Rattle.cover_pick.proofs.ByLemmas.{plan_is}
+use Rattle.cover_pick.proofs.UsesLemmas.{flows_same, flows_fit, no_flows_fit, counted_all, uses_same, cost_same}
+use Rattle.cover_pick.proofs.RuleLemmas.{plan_all, plan_is}
 
 -- the first of the least cost, in a list alone and among more
 module _ (g : Aig) where
@@ -42,8 +39,7 @@ module _ (g : Aig) (rows : List (List (List ℕ))) (label : ℕ → ℕ) (roots 
       let n : cost_by g rows label roots b < cost_of g r.cover = omega arith in n) fb)
       (λ t. first_left g (plan_by g rows label roots a) xs ys fa
       (λ r i. let l : cost_by g rows label roots a ≤ cost_by g rows label roots b = ltb-false (cost_by g rows label roots b) (cost_by g rows label roots a) t in
-      let m : cost_by g rows label roots b ≤ cost_of g r.cover = first_low g (plan_by g rows label roots b) ys fb r i in
-      let n : cost_by g rows label roots a ≤ cost_of g r.cover = omega arith in n))
+      let n : cost_by g rows label roots a ≤ cost_of g r.cover = omega (arith, first_low g (plan_by g rows label roots b) ys fb r i) in n))
 
   -- the plans of the first three rounds
   abbrev three : Scope → List ℕ → List PlanValue
@@ -140,7 +136,6 @@ module _ (g : Aig) (rows : List (List (List ℕ))) (label : ℕ → ℕ) (roots 
       subst (λ c. IsPlanned LeastCost g rows label roots (cheaper_flows g rows label roots a b) (cut_at c)) (sym is)
       (both_if (λ fs c. IsPlanned LeastCost g rows label roots fs (cut_at c)) (ltb (cost_by g rows label roots b) (cost_by g rows label roots a)) b a second first q p)
 
--- the leaves of a planned cover
 pub leaves_there : (rule : Rule) (g : Aig) (rows : List (List (List ℕ))) (label : ℕ → ℕ) (roots flows : List ℕ) (cover : ℕ → Option (List ℕ)) → IsCutTable g rows → IsPlanned rule g rows label roots flows cover → AreLeaves g cover
 leaves_there rule g rows label roots flows cover t p =
     let is = (p.least t.k t.are).is in
@@ -160,3 +155,34 @@ rule_fit FewestLeaves g rows label roots = no_flows_fit g
 rule_fit LeastCost g rows label roots =
     cheaper_fit g rows label roots (three_rounds g rows label roots AnyHeight (flows_by g rows label AnyHeight (fan_out g))) (three_rounds g rows label roots LeastHeight (flows_by g rows label LeastHeight (fan_out g)))
     (three_fit g rows label roots AnyHeight (fan_out g)) (three_fit g rows label roots LeastHeight (fan_out g))
+
+module _ (g : Aig) (rows : List (List (List ℕ))) (label : ℕ → ℕ) (roots : List ℕ) (scope : Scope) where
+  -- the flows of the first round
+  abbrev start : List ℕ
+  start = flows_by g rows label scope (fan_out g)
+
+  abbrev after : List ℕ → List ℕ
+  after flows = next_flows g rows label roots scope flows
+
+  abbrev Plans : List ℕ → List (Option (List ℕ)) → Type 0
+  Plans flows cuts = IsPlanned LeastCost g rows label roots flows (cut_at cuts)
+
+  pub first_plan : (fans : List ℕ) (first : List (Option (List ℕ))) → AreCounted g (node_count g) fans → Plans (flows_by g rows label scope (count_at fans)) first → Plans start first
+  first_plan fans first a p = subst (λ fs. Plans fs first) (fan_flows g rows label roots scope fans a) p
+
+  -- a later round, over the uses of the cover before it
+  pub later_plan : (flows used seen : List ℕ) (cuts next : List (Option (List ℕ))) → Plans flows cuts → AreUsed g (cut_at cuts) (node_count g) used → seen ≡ used → Plans (flows_by g rows label scope (count_at seen)) next → Plans (after flows) next
+  later_plan flows used seen cuts next p u e q = subst (λ fs. Plans fs next) (ap (λ s. flows_by g rows label scope (count_at s)) e ∙ used_flows g rows label roots scope flows used (cut_at cuts) p u) q
+
+  -- where the uses are the counts of the round, the next round has the same flows
+  same_after : (flows used counts : List ℕ) (cuts : List (Option (List ℕ))) → Plans flows cuts → AreUsed g (cut_at cuts) (node_count g) used → used ≡ counts → flows_by g rows label scope (count_at counts) ≡ flows → after flows ≡ flows
+  same_after flows used counts cuts p u e f = sym (used_flows g rows label roots scope flows used (cut_at cuts) p u) ∙ (ap (λ s. flows_by g rows label scope (count_at s)) e ∙ f)
+
+  pub stop_first : (fans used : List ℕ) (first : List (Option (List ℕ))) → AreCounted g (node_count g) fans → Plans start first → AreUsed g (cut_at first) (node_count g) used → used ≡ fans → Plans (three_rounds g rows label roots scope start) first
+  stop_first fans used first a p u e =
+      subst (λ fs. Plans fs first) (sym (three_stop g rows label roots scope start (same_after start used fans first p u e (fan_flows g rows label roots scope fans a)))) p
+
+  pub stop_second : (used again : List ℕ) (first second best : List (Option (List ℕ))) → Plans start first → AreUsed g (cut_at first) (node_count g) used → Plans (after start) second → AreUsed g (cut_at second) (node_count g) again → again ≡ used
+      → Plans (cheaper_flows g rows label roots start (after start)) best → Plans (three_rounds g rows label roots scope start) best
+  stop_second used again first second best p u q v e b =
+      subst (λ fs. Plans fs best) (sym (three_stop_late g rows label roots scope start (same_after (after start) again used second q v e (used_flows g rows label roots scope start used (cut_at first) p u)))) b

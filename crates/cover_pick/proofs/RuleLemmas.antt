@@ -1,14 +1,10 @@
 -- What is found by a rule: a cut of the node that is low enough, wherever there is one, and the one that the rule's own words tell.
-use Rattle.cover_pick.proofs.Common.{◌≡◌, ℕ, ◌-◌, ◌+◌, ◌/◌, ◌<◌, ◌≤◌, List, length, Option, Some, None, refl, sym, ap, ◌∙◌, subst, inl, inr, ◌⊎◌, arith, none-some, cases_lt, Aig, first_and, node_count, IsAnd, In, IsOrdered, AreRows, row_at, height, AreLabels, Rule, FewestLeaves, LeastCost, flow_at, IsNeededAbove, IsRuled, target, cut_cost, need, walk_by, met_at, roots_required, cover_of, AreBestPlaces, Chooses, depths_of, AreFlows}
+use Rattle.cover_pick.proofs.Common.{◌≡◌, ℕ, ◌-◌, ◌+◌, ◌/◌, ◌<◌, ◌≤◌, List, length, Option, Some, None, refl, sym, ap, ◌∙◌, subst, inl, inr, ◌⊎◌, arith, none-some, cases_lt, Aig, first_and, node_count, IsAnd, In, IsOrdered, AreRows, row_at, height, AreLabels, Rule, FewestLeaves, LeastCost, flow_at, IsNeededAbove, IsRuled, target, cut_cost, need, walk_by, met_at, roots_required, cover_of, AreBestPlaces, Chooses, depths_of, AreFlows, zero, suc, [], ◌∷◌, get_or-set_same, get_or-set_other, slice_set, get_or_past, length-set, cases_eq, cut_at, place_at, cut_of, cuts_from, cuts_of, found_for, ltb, ◌*◌, get_or, ltb-true, AreNormal, Lit, AreMinimal, IsCutTable, choose, lits_of, AreRoots, chosen, plan_of, IsLeastCover, IsPlanned, Bool, false, cond, same_Some, AtMost, IsPlanBy, and_depths, In-map, In-get_or, fun_ext}
 use Rattle.cover_pick.specs.Ruled.{or_empty, found_in, choice_by, found_from, found_of, choice_of}
-use Rattle.cover_pick.proofs.ChoiceLemmas.{best_is, best_in, best_low, best_found}
-use Rattle.cover_pick.proofs.CheapestLemmas.{cheapest_found, cheapest_in, cheapest_low}
-use Rattle.cover_pick.proofs.SharingLemmas.{cheapest_is, above_same}
-use Rattle.cover_pick.proofs.StateLemmas.{walk_same}
-use Rattle.cover_pick.proofs.WalkLemmas.{Walked, start_walked, required_walked}
-use Rattle.cover_pick.proofs.NeededLemmas.{Met, met, needed_above, above_needed}
+use Rattle.cover_pick.proofs.ChoiceLemmas.{best_is, best_in, best_low, best_found, cheapest_found, cheapest_in, cheapest_low, cheapest_is}
+use Rattle.cover_pick.proofs.WalkLemmas.{walk_same, Walked, start_walked, required_walked, Met, met, needed_above, above_needed, schedule_is, template_within, template_cover, target_least, depth_le_required, need_in}
+use Rattle.cover_pick.proofs.MappingLemmas.{cover_at}
 
--- a cut that is found
 pub record Found (rule : Rule) (label : ℕ → ℕ) (flows : List ℕ) (reqs : List (Option ℕ)) (row : List (List ℕ)) (r : ℕ) : Type 0 where
   pub cut : List ℕ
   pub is : found_in rule label flows reqs row r ≡ Some cut
@@ -61,7 +57,6 @@ module _ (rule : Rule) (g : Aig) (rows : List (List (List ℕ))) (label : ℕ �
     pub walked : Walked g label (choice_of rule g rows label roots flows) roots (target g label roots) 0 (depths_of rule g rows label roots flows)
     walked = required_walked g k roots (row_at rows) label (choice_of rule g rows label roots flows) inside (λ n and. are.each n and.1 and) (choice_keeps labels)
 
-    -- the walk comes to each node
     met_node : (n : ℕ) → IsAnd g n → (j : ℕ) → first_and g + j ≡ n → Met g label (choice_of rule g rows label roots flows) roots (target g label roots) j (state_of n) (depths_of rule g rows label roots flows)
     met_node n and j e =
         subst (λ i. Met g label (choice_of rule g rows label roots flows) roots (target g label roots) j (state_of i) (depths_of rule g rows label roots flows)) e
@@ -70,33 +65,173 @@ module _ (rule : Rule) (g : Aig) (rows : List (List (List ℕ))) (label : ℕ �
         (start_walked g k roots (row_at rows) label (choice_of rule g rows label roots flows) inside (λ i b. are.each i b.1 b) (choice_keeps labels)) (λ i r l. refl) j (omega arith))
 
     -- The choice of a needed node, by the rule's own words.
-    pub choice_ruled : AreFlows g flows → (cover : ℕ → Option (List ℕ)) → ((i : ℕ) → cover i ≡ cover_of g (choice_of rule g rows label roots flows) (depths_of rule g rows label roots flows) i)
-        → (n r : ℕ) → IsAnd g n → label n ≤ r → IsRuled rule (flow_at flows) (IsNeededAbove roots cover n) label r (row_at rows n) (choice_of rule g rows label roots flows n r)
-    choice_ruled fit cover same n r and l =
+    pub choice_ruled : AreFlows g flows → (n r : ℕ) → IsAnd g n → label n ≤ r
+        → IsRuled rule (flow_at flows) (IsNeededAbove roots (plan_of rule g rows label roots flows) n) label r (row_at rows n) (choice_of rule g rows label roots flows n r)
+    choice_ruled fit n r and l =
         let choice : ℕ → ℕ → List ℕ = choice_of rule g rows label roots flows in
         let last : List (Option ℕ) = depths_of rule g rows label roots flows in
+        let plan : ℕ → Option (List ℕ) = plan_of rule g rows label roots flows in
         let j : ℕ = n - first_and g in
         let here : first_and g + j ≡ n = omega (arith, and.0) in
         let at : Met g label choice roots (target g label roots) j (state_of n) last = met_node n and j here in
         let f = found_at labels n r and l in
-        let to : (m s : ℕ) → need (state_of n) m ≡ Some s → IsNeededAbove roots cover n m =
-        (λ m s e. above_same roots (cover_of g choice last) cover n m (λ i a. sym (same i))
-        (subst (λ i. IsNeededAbove roots (cover_of g choice last) i m) here
-        (needed_above g k roots (row_at rows) label choice inside (λ i b. are.each i b.1 b) (choice_keeps labels) (target g label roots) j (state_of n) last walked at m s e))) in
-        let from : (m : ℕ) → IsNeededAbove roots cover n m → (flow_at flows m ≡ 0) ⊎ ((s : ℕ) × (need (state_of n) m ≡ Some s)) =
+        let to : (m s : ℕ) → need (state_of n) m ≡ Some s → IsNeededAbove roots plan n m =
+        (λ m s e. subst (λ i. IsNeededAbove roots plan i m) here
+        (needed_above g k roots (row_at rows) label choice inside (λ i b. are.each i b.1 b) (choice_keeps labels) (target g label roots) j (state_of n) last walked at m s e)) in
+        let from : (m : ℕ) → IsNeededAbove roots plan n m → (flow_at flows m ≡ 0) ⊎ ((s : ℕ) × (need (state_of n) m ≡ Some s)) =
         (λ m x. elim (cases_lt m (first_and g)) [
           | inl low ↦ inl (fit.sources m low)
           | inr high ↦ elim (cases_lt m (node_count g)) [
             | inl b ↦ inr (above_needed g k roots (row_at rows) label choice inside (λ i b. are.each i b.1 b) (choice_keeps labels) (target g label roots) j (state_of n) last walked at m (high, b)
-                (subst (λ i. IsNeededAbove roots (cover_of g choice last) i m) (sym here) (above_same roots cover (cover_of g choice last) n m (λ i a. same i) x)))
+                (subst (λ i. IsNeededAbove roots plan i m) (sym here) x))
             | inr past ↦ inl (fit.past m past)
           ]
         ]) in
-        subst (λ o. IsRuled rule (flow_at flows) (IsNeededAbove roots cover n) label r (row_at rows n) (or_empty o)) (sym f.is)
-        (ruled_is rule flows (state_of n) (IsNeededAbove roots cover n) to from label r (row_at rows n) f.cut (are.each n and.1 and).ordered f.is)
+        subst (λ o. IsRuled rule (flow_at flows) (IsNeededAbove roots plan n) label r (row_at rows n) (or_empty o)) (sym f.is)
+        (ruled_is rule flows (state_of n) (IsNeededAbove roots plan n) to from label r (row_at rows n) f.cut (are.each n and.1 and).ordered f.is)
 
 -- The places that the walk finds are those of the choices.
 pub places_chosen : (rule : Rule) (g : Aig) (rows : List (List (List ℕ))) (label : ℕ → ℕ) (roots flows : List ℕ) (start last places : List (Option ℕ)) → start ≡ roots_required g roots (target g label roots)
     → last ≡ walk_by (choice_by rule rows label flows) (first_and g) (length g.pairs) start → AreBestPlaces g rows (found_from rule g rows label flows start) last (first_and g) places
     → AreBestPlaces g rows (found_of rule g rows label roots flows) (depths_of rule g rows label roots flows) (first_and g) places
 places_chosen rule g rows label roots flows start last places from walk are = grind (arith, walk_same)
+
+-- the cuts that places stand for
+pub cuts_length : (rows : List (List (List ℕ))) (n : ℕ) (places : List (Option ℕ)) → length (cuts_from rows n places) ≡ length places
+cuts_length rows n [] = refl
+cuts_length rows n (p ∷ ps) = ap suc (cuts_length rows (n + 1) ps)
+
+cut_from : (rows : List (List (List ℕ))) (n : ℕ) (places : List (Option ℕ)) (i m : ℕ) → n + i ≡ m → cut_at (cuts_from rows n places) i ≡ cut_of (row_at rows m) (place_at places i)
+cut_from rows n [] i m e = refl
+cut_from rows n (p ∷ ps) zero m e = ap (λ j. cut_of (row_at rows j) p) (let f : n ≡ m = omega arith in f)
+cut_from rows n (p ∷ ps) (suc i) m e = cut_from rows (n + 1) ps i m (omega arith)
+
+pub cut_is : (rows : List (List (List ℕ))) (places : List (Option ℕ)) (n : ℕ) → cut_at (cuts_of rows places) n ≡ cut_of (row_at rows n) (place_at places n)
+cut_is rows places n = cut_from rows 0 places n n (omega arith)
+
+-- what is read at a place is the node's cut
+pub cut_at_place : (rows : List (List (List ℕ))) (places seen : List (Option ℕ)) (cuts : List (Option (List ℕ))) (n : ℕ) (o p : Option ℕ) → cuts_of rows places ≡ cuts → seen ≡ places → o ≡ place_at seen n → o ≡ p
+    → cut_at cuts n ≡ cut_of (row_at rows n) p
+cut_at_place rows places seen cuts n o p view same read is = grind (arith, cut_is)
+
+-- the place of the next node below, where no required depth above it changes
+pub places_next : (g : Aig) (rows : List (List (List ℕ))) (found : ℕ → ℕ → Option (List ℕ)) (depths next : List (Option ℕ)) (n m : ℕ) (places : List (Option ℕ)) (p : Option ℕ) → n + 1 ≡ m → n < node_count g
+    → AreBestPlaces g rows found depths m places → ((i : ℕ) → n ≤ i → need next i ≡ need depths i) → cut_of (row_at rows n) p ≡ found_for (found n) (need depths n)
+    → ((i : ℕ) → p ≡ Some i → i < length (row_at rows n)) → AreBestPlaces g rows found next n (slice_set places n p)
+places_next g rows found depths next n m places p s l w above best inside = grind (arith, slice_set, get_or-set_same, get_or-set_other, length-set, cases_eq)
+
+-- The chosen cuts: the rule in its own words, and that they are a cover of the least depth.
+
+-- what the cover has at a source, and past the nodes
+cover_source : (g : Aig) (choice : ℕ → ℕ → List ℕ) (reqs : List (Option ℕ)) (n : ℕ) → n < first_and g → cover_of g choice reqs n ≡ None
+cover_source g choice reqs n l = grind arith
+
+cover_past : (g : Aig) (choice : ℕ → ℕ → List ℕ) (reqs : List (Option ℕ)) (n : ℕ) → length reqs ≡ node_count g → node_count g ≤ n → cover_of g choice reqs n ≡ None
+cover_past g choice reqs n e l = grind (arith, ltb, get_or_past)
+
+-- the facts of a plan, of which the table's number k and the labels are given
+module _ (rule : Rule) (g : Aig) (rows : List (List (List ℕ))) (label : ℕ → ℕ) (roots flows : List ℕ) (inside : (l : ℕ) → In roots l → l / 2 < node_count g) (labels : AreLabels g (row_at rows) label) where
+  pub depths_size : (k : ℕ) → AreRows g k (node_count g) rows → length (depths_of rule g rows label roots flows) ≡ node_count g
+  depths_size k are = (walked rule g rows label roots flows inside labels k are).size
+
+  -- the cut that is found for a node's required depth is its choice
+  best_chosen : (k : ℕ) → AreRows g k (node_count g) rows → (n : ℕ) (o : Option ℕ) → IsAnd g n → need (depths_of rule g rows label roots flows) n ≡ o → found_for (found_of rule g rows label roots flows n) o ≡ chosen (choice_of rule g rows label roots flows) n o
+  best_chosen k are n None and e = refl
+  best_chosen k are n (Some r) and e =
+      let f = found_at rule g rows label roots flows labels n r and ((walked rule g rows label roots flows inside labels k are).low n r and e) in
+      f.is ∙ ap (λ o. Some (or_empty o)) (sym f.is)
+
+  -- The cuts at the best places are the plan.
+  pub places_plan : (k : ℕ) → AreRows g k (node_count g) rows → (places : List (Option ℕ)) → AreBestPlaces g rows (found_of rule g rows label roots flows) (depths_of rule g rows label roots flows) (first_and g) places
+      → (n : ℕ) → n < node_count g → cut_at (cuts_of rows places) n ≡ plan_of rule g rows label roots flows n
+  places_plan k are places best n l =
+      let depths : List (Option ℕ) = depths_of rule g rows label roots flows in
+      let choice : ℕ → ℕ → List ℕ = choice_of rule g rows label roots flows in
+      cut_is rows places n ∙ elim (cases_lt n (first_and g)) [
+        | inl s ↦ ap (λ p. cut_of (row_at rows n) p) (best.below n s) ∙ sym (cover_source g choice depths n s)
+        | inr a ↦ best.best n a l ∙ (best_chosen k are n (need depths n) (a, l) refl ∙ sym (cover_at g choice depths n (need depths n) a refl))
+      ]
+
+  plan_least : AreNormal (first_and g) g.pairs → (k : ℕ) → AreRows g k (node_count g) rows → IsLeastCover g k roots (plan_of rule g rows label roots flows) (target g label roots)
+  plan_least normal k are =
+      let choice : ℕ → ℕ → List ℕ = choice_of rule g rows label roots flows in
+      let chooses : Chooses g (row_at rows) label choice = choice_keeps rule g rows label roots flows labels in
+      let minimal : (n : ℕ) → IsAnd g n → AreMinimal g k n (row_at rows n) = (λ n and. are.each n and.1 and) in
+      let is_cover = template_cover g k roots (row_at rows) label choice inside minimal chooses in
+      let is_within = template_within g k roots (row_at rows) label choice inside minimal chooses in
+      record {
+        is = is_cover;
+        within = is_within;
+        least = record { cover = plan_of rule g rows label roots flows; is = is_cover; within = is_within; least = target_least g k roots (row_at rows) label choice inside minimal chooses normal labels };
+      }
+
+  -- what is planned is known of each cover that is the plan
+  pub plan_all : AreFlows g flows → AreNormal (first_and g) g.pairs → IsCutTable g rows → (cover : ℕ → Option (List ℕ)) → ((n : ℕ) → cover n ≡ plan_of rule g rows label roots flows n) → IsPlanned rule g rows label roots flows cover
+  plan_all fit normal t cover same = subst (IsPlanned rule g rows label roots flows) (fun_ext (λ n. sym (same n))) (record {
+    chosen = λ n. refl;
+    schedule = schedule_is g t.k roots (row_at rows) label (choice_of rule g rows label roots flows) inside (λ n and. t.are.each n and.1 and) (choice_keeps rule g rows label roots flows labels) (target g label roots) (depths_of rule g rows label roots flows)
+        (walked rule g rows label roots flows inside labels t.k t.are);
+    best = λ n r and e. choice_ruled rule g rows label roots flows inside labels t.k t.are fit n r and ((walked rule g rows label roots flows inside labels t.k t.are).low n r and e);
+    size = depths_size t.k t.are;
+    timely = depth_le_required g t.k roots (row_at rows) label (choice_of rule g rows label roots flows) inside (λ n and. t.are.each n and.1 and) (choice_keeps rule g rows label roots flows labels) (target g label roots) (depths_of rule g rows label roots flows)
+        (walked rule g rows label roots flows inside labels t.k t.are);
+    least = plan_least normal;
+  })
+
+  -- all nodes' cuts are the plan, where those of the graph are
+  pub cuts_all : IsCutTable g rows → (cuts : List (Option (List ℕ))) → length cuts ≡ node_count g → ((n : ℕ) → n < node_count g → cut_at cuts n ≡ plan_of rule g rows label roots flows n) → (n : ℕ) → cut_at cuts n ≡ plan_of rule g rows label roots flows n
+  cuts_all t cuts e below n = elim (cases_lt n (node_count g)) [
+    | inl l ↦ below n l
+    | inr l ↦ get_or_past cuts n None (omega arith) ∙ sym (cover_past g (choice_of rule g rows label roots flows) (depths_of rule g rows label roots flows) n (depths_size t.k t.are) l)
+  ]
+
+pub roots_inside : (g : Aig) (roots : List ℕ) → AreRoots g roots → (l : ℕ) → In roots l → l / 2 < node_count g
+roots_inside g roots inside l i = let a : l < 2 * node_count g = inside l i in omega arith
+
+pub root_there : (ls : List Lit) (i : ℕ) (d : Lit) → i < length ls → In (lits_of ls) ((get_or ls i d).0)
+root_there ls i d h = In-map (λ (l : Lit). l.0) ls (get_or ls i d) (In-get_or ls i d h)
+
+pub root_below : (g : Aig) (ls : List Lit) (i : ℕ) (d : Lit) → AreRoots g (lits_of ls) → i < length ls → (get_or ls i d).0 / 2 < node_count g
+root_below g ls i d inside h = let a : (get_or ls i d).0 < 2 * node_count g = inside ((get_or ls i d).0) (root_there ls i d h) in omega arith
+
+and_depth : (g : Aig) (reqs : List (Option ℕ)) (n : ℕ) → first_and g ≤ n → and_depths g reqs n ≡ need reqs n
+and_depth g reqs n a = choose (λ o. o ≡ need reqs n) (ltb n (first_and g)) None (need reqs n) (λ t. absurd (let b : n < first_and g = ltb-true n (first_and g) t in omega arith)) (λ t. refl)
+
+pub depth_from : (g : Aig) (reqs : List (Option ℕ)) (n r : ℕ) → and_depths g reqs n ≡ Some r → (first_and g ≤ n) × (need reqs n ≡ Some r)
+depth_from g reqs n r e0 = grind arith
+
+none_of : (choice : ℕ → ℕ → List ℕ) (n : ℕ) (b : Bool) (o : Option ℕ) → cond b None o ≡ None → cond b None (chosen choice n o) ≡ None
+none_of choice n false (Some r) e = absurd (none-some r (sym e))
+none_of choice n b o e = refl
+
+module _ (rule : Rule) (g : Aig) (rows : List (List (List ℕ))) (label : ℕ → ℕ) (roots flows : List ℕ) (cover : ℕ → Option (List ℕ)) (p : IsPlanned rule g rows label roots flows cover) where
+  pub node_of : (n r : ℕ) → and_depths g (depths_of rule g rows label roots flows) n ≡ Some r → IsAnd g n
+  node_of n r e = grind (arith, depth_from, need_in)
+
+  cut_there : (n r : ℕ) → first_and g ≤ n → need (depths_of rule g rows label roots flows) n ≡ Some r → cover n ≡ Some (choice_of rule g rows label roots flows n r)
+  cut_there n r a e = p.chosen n ∙ cover_at g (choice_of rule g rows label roots flows) (depths_of rule g rows label roots flows) n (Some r) a e
+
+  -- The walk's depths and cuts are the plan by its flows.
+  pub plan_is : IsPlanBy rule g rows label roots (flow_at flows) (and_depths g (depths_of rule g rows label roots flows)) cover
+  plan_is = record {
+    schedule = record {
+      nodes = node_of;
+      low = λ n r e. p.schedule.low n r (node_of n r e) (depth_from g (depths_of rule g rows label roots flows) n r e).1;
+      root = λ l i and. subst (λ o. AtMost o (target g label roots)) (sym (and_depth g (depths_of rule g rows label roots flows) (l / 2) and.0)) (p.schedule.root l i and);
+      leaf = λ n r m c e at i and. grind (arith, depth_from, same_Some, cut_there, and_depth, node_of);
+      whence = λ n r e. elim (p.schedule.whence n r (depth_from g (depths_of rule g rows label roots flows) n r e).1) [
+        | inl f ↦ inl f
+        | inr f ↦ inr (record {
+          reader = f.reader;
+          depth = f.depth;
+          cut = choice_of rule g rows label roots flows f.reader f.depth;
+          needed = and_depth g (depths_of rule g rows label roots flows) f.reader f.and.0 ∙ f.needed;
+          chosen = cut_there f.reader f.depth f.and.0 f.needed;
+          leaf = f.leaf;
+          is = f.is;
+        })
+      ];
+    };
+    chosen = λ n r e. grind (arith, depth_from, cut_there, node_of);
+    none = λ n e. p.chosen n ∙ none_of (choice_of rule g rows label roots flows) n (ltb n (first_and g)) (need (depths_of rule g rows label roots flows) n) e;
+  }

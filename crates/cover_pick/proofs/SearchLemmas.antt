@@ -1,8 +1,48 @@
 -- A search reaches exactly the cone of its top, each node once.
-use Rattle.cover_pick.proofs.Common.{◌≡◌, ℕ, ◌+◌, ◌/◌, ◌<◌, ◌≤◌, true, false, cond, eqb, List, [], ◌∷◌, ◌++◌, length, Some, refl, sym, ap, ◌∙◌, subst, inl, inr, ◌⊎◌, arith, get_or-set_same, get_or-set_other, slice_set, replicate, length-append, get_or-replicate, get_or_past, length-replicate, length-set, get_or-append, same_Some, cases_lt, cases_eq, eqb-true, eqb-false, both_ways, Aig, first_and, node_count, IsAnd, pair_of, IsNormal, AreNormal, Pair, In, In-get_or, In-left, In-push, In-pushed, choose, is_stop, cone_of, IsInner, Path, here, left, right, IsCone, SearchValue, stamp_at, reach}
+use Rattle.cover_pick.proofs.Common.{◌≡◌, ℕ, ◌+◌, ◌/◌, ◌<◌, ◌≤◌, true, false, cond, eqb, List, [], ◌∷◌, ◌++◌, length, Some, refl, sym, ap, ◌∙◌, subst, inl, inr, ◌⊎◌, arith, get_or-set_same, get_or-set_other, slice_set, length-append, length-set, get_or-append, same_Some, cases_lt, cases_eq, eqb-true, eqb-false, IsNode, Aig, first_and, node_count, IsAnd, pair_of, IsNormal, AreNormal, Pair, In, In-get_or, In-left, In-push, In-pushed, choose, is_stop, cone_of, IsInner, Path, here, left, right, IsCone, SearchValue, stamp_at, reach, AllByRecursion, list_any, cases_Bool, eq-eqb, ne_eqb, false≢true, IsDescending, same_test, rules}
 use Rattle.std.specs.List.{IsDistinct}
-use Rattle.cover_pick.proofs.MemberLemmas.{In-place, distinct_push, distinct_descending, length_same, length_below}
-use Rattle.cover_pick.proofs.WorkLemmas.{stop_inner, inner_stop, cone_is, past_sources}
+use Rattle.cover_pick.proofs.WorkLemmas.{stop_inner, stopped, cone_is, past_sources}
+use Rattle.std.specs.Cmp.{IsEquivalence}
+use Rattle.std.proofs.lemmas.Map.Made.{length-from_same_keys}
+use Rattle.std.proofs.lemmas.Map.Steps.{length-le_from_distinct_below}
+pub use Rattle.list_laws.proofs.Members.{In-place}
+
+-- membership by the test of equality
+pub In-any : (xs : List ℕ) (n : ℕ) → In xs n → list_any (eqb n) xs ≡ true
+In-any [] n i = elim i [ ]
+In-any (x ∷ xs) n (inl e) = rw (eq-eqb n x e) refl
+In-any (x ∷ xs) n (inr i) = elim (cases_Bool (eqb n x)) [ inl t ↦ rw t refl | inr t ↦ rw t (In-any xs n i) ]
+
+pub any_In : (xs : List ℕ) (n : ℕ) → list_any (eqb n) xs ≡ true → In xs n
+any_In [] n h = absurd (false≢true h)
+any_In (x ∷ xs) n h = elim (cases_Bool (eqb n x)) [ inl t ↦ inl (eqb-true n x t) | inr t ↦ inr (any_In xs n (rw t at h)) ]
+
+apart_push : (x : ℕ) (xs : List ℕ) (n : ℕ) → AllByRecursion (λ y. eqb x y ≡ false) xs → (x ≡ n → ⊥) → AllByRecursion (λ y. eqb x y ≡ false) (xs ++ n ∷ [])
+apart_push x [] n a d = (ne_eqb x n d, tt)
+apart_push x (y ∷ xs) n a d = (a.0, apart_push x xs n a.1 d)
+
+pub distinct_push : (xs : List ℕ) (n : ℕ) → IsDistinct eqb xs → (In xs n → ⊥) → IsDistinct eqb (xs ++ n ∷ [])
+unfolding IsDistinct
+distinct_push [] n d no_n = (tt, tt)
+distinct_push (x ∷ xs) n d no_n = (apart_push x xs n d.0 (λ e. no_n (inl (sym e))), distinct_push xs n d.1 (λ i. no_n (inr i)))
+
+apart_below : (x : ℕ) (xs : List ℕ) → ((m : ℕ) → In xs m → m < x) → AllByRecursion (λ y. eqb x y ≡ false) xs
+apart_below x [] b = tt
+apart_below x (y ∷ xs) b = (ne_eqb x y (λ e. let l : y < x = b y (inl refl) in omega arith), apart_below x xs (λ m i. b m (inr i)))
+
+pub distinct_descending : (xs : List ℕ) → IsDescending xs → IsDistinct eqb xs
+unfolding IsDistinct
+distinct_descending [] d = tt
+distinct_descending (x ∷ xs) d = (apart_below x xs d.0, distinct_descending xs d.1)
+
+eqb_laws : IsEquivalence eqb
+eqb_laws = search (rules, eq-eqb, same_test, eqb, eqb-true)
+
+-- two lists of the same numbers, each without repeats, are as long
+pub length_same : (xs ys : List ℕ) → IsDistinct eqb xs → IsDistinct eqb ys → ((n : ℕ) → In xs n → In ys n) → ((n : ℕ) → In ys n → In xs n) → length xs ≡ length ys
+length_same xs ys dx dy to from =
+    length-from_same_keys eqb_laws xs ys dx dy
+    (λ q. same_test (list_any (eqb q) xs) (list_any (eqb q) ys) (λ t. In-any ys q (to q (any_In xs q t))) (λ t. In-any xs q (from q (any_In ys q t))))
 
 -- a node ends the way down, or is reached
 abbrev pub Taken : Aig → List ℕ → List ℕ → ℕ → Type 0
@@ -20,13 +60,6 @@ pub record IsReached (g : Aig) (c : List ℕ) (top stamp : ℕ) (s : SearchValue
   pub within : i ≤ length s.reached
   pub closed : (j : ℕ) (p : Pair) → j < i → pair_of g (stamp_at s.reached j) ≡ Some p → Taken g c s.reached (p.x.0 / 2) × Taken g c s.reached (p.y.0 / 2)
 
-stamp_same : (xs : List ℕ) (n v : ℕ) → n < length xs → stamp_at (slice_set xs n v) n ≡ v
-stamp_same xs n v l = rw get_or-set_same refl
-
-stamp_other : (xs : List ℕ) (n m v : ℕ) → (m ≡ n → ⊥) → stamp_at (slice_set xs n v) m ≡ stamp_at xs m
-stamp_other xs n m v d = rw get_or-set_other refl
-
--- nothing is reached yet
 pub reached_none : (g : Aig) (c : List ℕ) (top stamp : ℕ) (stamps : List ℕ) → length stamps ≡ node_count g → ((m : ℕ) → stamp_at stamps m < stamp) → IsReached g c top stamp (record { stamps = stamps; reached = [] }) 0
 unfolding IsDistinct
 reached_none g c top stamp stamps e fresh = record {
@@ -41,16 +74,11 @@ reached_none g c top stamp stamps e fresh = record {
   closed = λ j p l. absurd (omega arith);
 }
 
--- a way down, one node longer
-path_left : (g : Aig) (c : List ℕ) (m : ℕ) (p : Pair) → pair_of g m ≡ Some p → IsInner g c (p.x.0 / 2) → {n : ℕ} → Path g c m n → Path g c (p.x.0 / 2) n
-path_left g c m p at free (here t e) = left p t (record { above = t.and.0; is = subst (λ i. pair_of g i ≡ Some p) (sym e) at }) (here free refl)
-path_left g c m p at free (left q t e r) = left q t e (path_left g c m p at free r)
-path_left g c m p at free (right q t e r) = right q t e (path_left g c m p at free r)
-
-path_right : (g : Aig) (c : List ℕ) (m : ℕ) (p : Pair) → pair_of g m ≡ Some p → IsInner g c (p.y.0 / 2) → {n : ℕ} → Path g c m n → Path g c (p.y.0 / 2) n
-path_right g c m p at free (here t e) = right p t (record { above = t.and.0; is = subst (λ i. pair_of g i ≡ Some p) (sym e) at }) (here free refl)
-path_right g c m p at free (left q t e r) = left q t e (path_right g c m p at free r)
-path_right g c m p at free (right q t e r) = right q t e (path_right g c m p at free r)
+-- a way down, and another one from where it ends
+path_on : (g : Aig) (c : List ℕ) {k m n : ℕ} → Path g c k m → Path g c m n → Path g c k n
+path_on g c {k} w (here t e) = subst (λ i. Path g c k i) (sym e) w
+path_on g c w (left p t e q) = left p t e (path_on g c w q)
+path_on g c w (right p t e q) = right p t e (path_on g c w q)
 
 -- what a step keeps: the facts of the search, what was reached, and that the node is taken
 pub record Keeps (g : Aig) (c : List ℕ) (top stamp : ℕ) (old new : SearchValue) (i n : ℕ) : Type 0 where
@@ -69,7 +97,7 @@ module _ (g : Aig) (c : List ℕ) (top stamp : ℕ) where
       → Keeps g c top stamp s (record { stamps = slice_set s.stamps n stamp; reached = s.reached ++ n ∷ [] }) i n
   new_reached s i n w l free fresh p =
       let size : length s.stamps ≡ node_count g = w.size in
-      let same : stamp_at (slice_set s.stamps n stamp) n ≡ stamp = stamp_same s.stamps n stamp (omega arith) in
+      let same : stamp_at (slice_set s.stamps n stamp) n ≡ stamp = get_or-set_same s.stamps n stamp 0 (omega arith) in
       let place : (j : ℕ) → j < length s.reached → stamp_at (s.reached ++ n ∷ []) j ≡ stamp_at s.reached j = (λ j b. get_or-append s.reached (n ∷ []) 0 j b) in
       let longer : length (s.reached ++ n ∷ []) ≡ length s.reached + 1 = length-append s.reached (n ∷ []) in
       let w_in : i ≤ length s.reached = w.within in
@@ -78,15 +106,15 @@ module _ (g : Aig) (c : List ℕ) (top stamp : ℕ) where
           size = length-set s.stamps n stamp ∙ w.size;
           most = λ m. elim (cases_eq m n) [
             | inl e ↦ (let a : stamp_at (slice_set s.stamps n stamp) m ≡ stamp = subst (λ k. stamp_at (slice_set s.stamps n stamp) k ≡ stamp) (sym e) same in omega arith)
-            | inr d ↦ (let a : stamp_at (slice_set s.stamps n stamp) m ≡ stamp_at s.stamps m = stamp_other s.stamps n m stamp d in let b : stamp_at s.stamps m ≤ stamp = w.most m in omega arith)
+            | inr d ↦ (let a : stamp_at (slice_set s.stamps n stamp) m ≡ stamp_at s.stamps m = get_or-set_other s.stamps n m stamp 0 d in let b : stamp_at s.stamps m ≤ stamp = w.most m in omega arith)
           ];
           stamped = λ m j. elim (cases_eq m n) [
             | inl e ↦ subst (λ k. stamp_at (slice_set s.stamps n stamp) k ≡ stamp) (sym e) same
-            | inr d ↦ elim (In-push s.reached n m j) [ inl k ↦ stamp_other s.stamps n m stamp d ∙ w.stamped m k | inr e ↦ absurd (d e) ]
+            | inr d ↦ elim (In-push s.reached n m j) [ inl k ↦ get_or-set_other s.stamps n m stamp 0 d ∙ w.stamped m k | inr e ↦ absurd (d e) ]
           ];
           known = λ m e. elim (cases_eq m n) [
             | inl q ↦ subst (λ k. In (s.reached ++ n ∷ []) k) (sym q) (In-pushed s.reached n)
-            | inr d ↦ In-left s.reached (n ∷ []) m (w.known m (sym (stamp_other s.stamps n m stamp d) ∙ e))
+            | inr d ↦ In-left s.reached (n ∷ []) m (w.known m (sym (get_or-set_other s.stamps n m stamp 0 d) ∙ e))
           ];
           apart = distinct_push s.reached n w.apart (λ j. fresh (w.stamped n j));
           inside = λ m j. elim (In-push s.reached n m j) [ inl k ↦ w.inside m k | inr e ↦ subst (λ k. (is_stop g c k ≡ false) × (k < node_count g)) (sym e) (free, l) ];
@@ -102,7 +130,6 @@ module _ (g : Aig) (c : List ℕ) (top stamp : ℕ) where
         taken = inr (In-pushed s.reached n);
       }
 
-  -- a step
   pub reach_keeps : (s : SearchValue) (i n : ℕ) → IsReached g c top stamp s i → n < node_count g → (is_stop g c n ≡ false → Path g c n top) → Keeps g c top stamp s (reach g c stamp s n) i n
   reach_keeps s i n w l p =
       let new : SearchValue = record { stamps = slice_set s.stamps n stamp; reached = s.reached ++ n ∷ [] } in
@@ -112,11 +139,6 @@ module _ (g : Aig) (c : List ℕ) (top stamp : ℕ) where
       (λ e. record { is = w; old' = λ m k. k; longer = omega arith; places = λ j b. refl; taken = inr (w.known n (eqb-true (stamp_at s.stamps n) stamp e)) })
       (λ e. new_reached s i n w l t (eqb-false (stamp_at s.stamps n) stamp e) (p t)))
 
-  -- the first node that is reached
-  pub top_keeps : (s : SearchValue) → IsReached g c top stamp s 0 → top < node_count g → Keeps g c top stamp s (reach g c stamp s top) 0 top
-  top_keeps s w l = reach_keeps s 0 top w l (λ t. here (stop_inner g c top l t) refl)
-
-  -- the fan-ins of the next node
   pub fan_ins_keep : (s : SearchValue) (i : ℕ) (p : Pair) → IsReached g c top stamp s i → i < length s.reached → pair_of g (stamp_at s.reached i) ≡ Some p → IsNormal (stamp_at s.reached i) p → Taken g c s.reached top
       → IsReached g c top stamp (reach g c stamp (reach g c stamp s (p.x.0 / 2)) (p.y.0 / 2)) (i + 1) × Taken g c (reach g c stamp (reach g c stamp s (p.x.0 / 2)) (p.y.0 / 2)).reached top
   fan_ins_keep s i p w l at normal start =
@@ -124,11 +146,13 @@ module _ (g : Aig) (c : List ℕ) (top stamp : ℕ) where
       let here_in : In s.reached m = In-get_or s.reached i 0 l in
       let both = w.inside m here_in in
       let m_in : m < node_count g = both.1 in
+      let own : IsInner g c m = stop_inner g c m m_in both.0 in
+      let node : IsNode g p m = record { above = own.and.0; is = at } in
       let y_below : p.y.0 / 2 < m = normal.below in
       let x_below : p.x.0 / 2 < p.y.0 / 2 = normal.ordered in
-      let a = reach_keeps s i (p.x.0 / 2) w (omega arith) (λ t. path_left g c m p at (stop_inner g c (p.x.0 / 2) (omega arith) t) (w.path m here_in)) in
+      let a = reach_keeps s i (p.x.0 / 2) w (omega arith) (λ t. path_on g c (left p own node (here (stop_inner g c (p.x.0 / 2) (omega arith) t) refl)) (w.path m here_in)) in
       let mid : SearchValue = reach g c stamp s (p.x.0 / 2) in
-      let b = reach_keeps mid i (p.y.0 / 2) a.is (omega arith) (λ t. path_right g c m p at (stop_inner g c (p.y.0 / 2) (omega arith) t) (w.path m here_in)) in
+      let b = reach_keeps mid i (p.y.0 / 2) a.is (omega arith) (λ t. path_on g c (right p own node (here (stop_inner g c (p.y.0 / 2) (omega arith) t) refl)) (w.path m here_in)) in
       let new : SearchValue = reach g c stamp mid (p.y.0 / 2) in
       let more : (k : ℕ) → In s.reached k → In new.reached k = (λ k j. b.old' k (a.old' k j)) in
       let longer_a : length s.reached ≤ length mid.reached = a.longer in
@@ -157,26 +181,22 @@ module _ (g : Aig) (c : List ℕ) (top stamp : ℕ) where
 
 -- where all that were reached are closed, each node of the cone is reached
 all_reached : (g : Aig) (c : List ℕ) (top stamp : ℕ) (s : SearchValue) → IsReached g c top stamp s (length s.reached) → (m : ℕ) → {n : ℕ} → Path g c m n → Taken g c s.reached n → In s.reached m
-all_reached g c top stamp s w m {n} (here t e) (inl h) = absurd (both_ways (is_stop g c n) (inner_stop g c n t) h)
+all_reached g c top stamp s w m {n} path (inl h) = absurd (stopped g c m n path h)
 all_reached g c top stamp s w m {n} (here t e) (inr i) = subst (λ k. In s.reached k) e i
-all_reached g c top stamp s w m {n} (left p t e q) (inl h) = absurd (both_ways (is_stop g c n) (inner_stop g c n t) h)
 all_reached g c top stamp s w m {n} (left p t e q) (inr i) =
     let r = In-place s.reached n i in
     all_reached g c top stamp s w m q (w.closed r.0 p r.1 (subst (λ k. pair_of g k ≡ Some p) (sym r.2) e.is)).0
-all_reached g c top stamp s w m {n} (right p t e q) (inl h) = absurd (both_ways (is_stop g c n) (inner_stop g c n t) h)
 all_reached g c top stamp s w m {n} (right p t e q) (inr i) =
     let r = In-place s.reached n i in
     all_reached g c top stamp s w m q (w.closed r.0 p r.1 (subst (λ k. pair_of g k ≡ Some p) (sym r.2) e.is)).1
 
--- no more nodes than there are
 pub reached_few : (g : Aig) (c : List ℕ) (top stamp : ℕ) (s : SearchValue) (i : ℕ) → IsReached g c top stamp s i → length s.reached ≤ node_count g
-reached_few g c top stamp s i w = length_below s.reached (node_count g) w.apart (λ m j. (w.inside m j).1)
+reached_few g c top stamp s i w = length-le_from_distinct_below s.reached (node_count g) w.apart (λ m t. (w.inside m (any_In s.reached m t)).1)
 
 -- The search ends with as many nodes as the cone has.
 pub reached_all : (g : Aig) (c : List ℕ) (top stamp : ℕ) (s : SearchValue) (i : ℕ) → AreNormal (first_and g) g.pairs → top < node_count g → IsReached g c top stamp s i → length s.reached ≤ i → Taken g c s.reached top → length s.reached ≡ length (cone_of g c top)
 reached_all g c top stamp s i normal inside w end start =
-    let in_i : i ≤ length s.reached = w.within in
-    let all : IsReached g c top stamp s (length s.reached) = subst (λ k. IsReached g c top stamp s k) (let e : i ≡ length s.reached = omega arith in e) w in
+    let all : IsReached g c top stamp s (length s.reached) = subst (λ k. IsReached g c top stamp s k) (let e : i ≡ length s.reached = omega (arith, w.within) in e) w in
     let cone : IsCone g c top (cone_of g c top) = cone_is g c top normal inside in
     length_same s.reached (cone_of g c top) w.apart (distinct_descending (cone_of g c top) cone.descending)
     (λ n j. cone.all n (w.path n j)) (λ n j. all_reached g c top stamp s all n (cone.only n j) start)
@@ -191,7 +211,7 @@ pub search_start : (g : Aig) (c : List ℕ) (top stamp : ℕ) (stamps : List ℕ
     → new ≡ reach g c stamp (record { stamps = stamps; reached = [] }) top → Found g c top stamp new 0
 search_start g c top stamp stamps new e fresh l q =
     let old : SearchValue = record { stamps = stamps; reached = [] } in
-    let k = top_keeps g c top stamp old (reached_none g c top stamp stamps e fresh) l in
+    let k = reach_keeps g c top stamp old 0 top (reached_none g c top stamp stamps e fresh) l (λ t. here (stop_inner g c top l t) refl) in
     subst (λ s. Found g c top stamp s 0) (sym q) (record { is = k.is; start = k.taken; few = reached_few g c top stamp (reach g c stamp old top) 0 k.is })
 
 pub search_step : (g : Aig) (c : List ℕ) (top stamp : ℕ) (s new : SearchValue) (i n : ℕ) (p : Pair) → Found g c top stamp s i → i < length s.reached → n ≡ stamp_at s.reached i → pair_of g n ≡ Some p → IsNormal n p
@@ -200,15 +220,7 @@ search_step g c top stamp s new i n p f l e at normal q =
     let r = fan_ins_keep g c top stamp s i p f.is l (subst (λ k. pair_of g k ≡ Some p) e at) (subst (λ k. IsNormal k p) e normal) f.start in
     subst (λ s. Found g c top stamp s (i + 1)) (sym q) (record { is = r.0; start = r.1; few = reached_few g c top stamp (reach g c stamp (reach g c stamp s (p.x.0 / 2)) (p.y.0 / 2)) (i + 1) r.0 })
 
--- a node that is reached is an AND node
 pub found_and : (g : Aig) (c : List ℕ) (top stamp : ℕ) (s : SearchValue) (i n : ℕ) → Found g c top stamp s i → i < length s.reached → n ≡ stamp_at s.reached i → IsAnd g n
 found_and g c top stamp s i n f l e =
     let both = f.is.inside (stamp_at s.reached i) (In-get_or s.reached i 0 l) in
     subst (λ k. IsAnd g k) (sym e) (past_sources g c (stamp_at s.reached i) both.0, both.1)
-
-pub search_end : (g : Aig) (c : List ℕ) (top stamp : ℕ) (s : SearchValue) (i : ℕ) → AreNormal (first_and g) g.pairs → top < node_count g → Found g c top stamp s i → length s.reached ≤ i → length s.reached ≡ length (cone_of g c top)
-search_end g c top stamp s i normal inside f end = reached_all g c top stamp s i normal inside f.is end f.start
-
--- no node has a stamp at the start
-pub stamps_none : (n m : ℕ) → stamp_at (replicate n 0) m ≡ 0
-stamps_none n m = let none : ℕ = 0 in elim (cases_lt m n) [ inl l ↦ get_or-replicate n m 0 0 l | inr l ↦ get_or_past (replicate n 0) m 0 (rw (length-replicate n none) l) ]

@@ -1,23 +1,14 @@
 -- The LUTs that are made are those of the needed literals, with their bases, bits and work.
-use Rattle.cover_pick.proofs.Common.{◌≡◌, ℕ, zero, suc, ◌+◌, ◌*◌, ◌^◌, ◌<◌, ◌≤◌, Bool, true, false, List, [], ◌∷◌, ◌++◌, length, Option, Some, None, refl, sym, ap, ◌∙◌, subst, inl, inr, ◌⊎◌, arith, get_or, slice_set, get_or-set_same, get_or-set_other, replicate, drop, mul-le-mul, length-set, length-replicate, get_or-replicate, get_or_past, sum_by_push, sum_by-cons, same_Some, none-some, cases_lt, cases_eq, false≢true, Aig, node_count, In, MOST_LEAVES, In-left, In-push, In-pushed, OrMemory, refusal_of, MOST_WORK, PickErr, Work, Memory, Lut, HaveBases, AscendByLit, bits_of, table_work, work_of, rules}
+use Rattle.cover_pick.proofs.Common.{◌≡◌, ℕ, zero, suc, ◌+◌, ◌*◌, ◌^◌, ◌<◌, ◌≤◌, Bool, true, false, List, [], ◌∷◌, ◌++◌, length, Option, Some, None, refl, sym, ◌∙◌, subst, inl, inr, ◌⊎◌, arith, get_or, slice_set, get_or-set_same, get_or-set_other, replicate, drop, drop_more, length-set, length-replicate, get_or-replicate, get_or_past, sum_by_push, sum_by-cons, same_Some, none-some, cases_lt, cases_eq, false≢true, Aig, node_count, In, MOST_LEAVES, In-left, In-push, In-pushed, OrMemory, refusal_of, MOST_WORK, PickErr, Work, Memory, Lut, HaveBases, AscendByLit, bits_of, table_work, work_of, rules}
 use Rattle.cover_pick.specs.Marks.{mark_at, mark_each, mark_leaves, mark_cut, mark_cuts, marks_of, IsMarked, root, leaf, leaves_of, Made, add_table, add_marked, tables_from, tables_of, AreMade}
 
--- a write
-mark_same : (xs : List Bool) (n : ℕ) → n < length xs → mark_at (slice_set xs n true) n ≡ true
-mark_same xs n l = rw get_or-set_same refl
-
-mark_other : (xs : List Bool) (n m : ℕ) → (m ≡ n → ⊥) → mark_at (slice_set xs n true) m ≡ mark_at xs m
-mark_other xs n m d = rw get_or-set_other refl
-
 mark_stays : (xs : List Bool) (n m : ℕ) → mark_at xs m ≡ true → mark_at (slice_set xs n true) m ≡ true
-mark_stays [] n m h = h
 mark_stays (x ∷ xs) zero zero h = refl
-mark_stays (x ∷ xs) zero (suc m) h = h
-mark_stays (x ∷ xs) (suc n) zero h = h
 mark_stays (x ∷ xs) (suc n) (suc m) h = mark_stays xs n m h
+mark_stays xs n m h = h
 
 mark_from : (xs : List Bool) (n m : ℕ) → mark_at (slice_set xs n true) m ≡ true → (m ≡ n) ⊎ (mark_at xs m ≡ true)
-mark_from xs n m h = elim (cases_eq m n) [ inl e ↦ inl e | inr d ↦ inr (sym (mark_other xs n m d) ∙ h) ]
+mark_from xs n m h = elim (cases_eq m n) [ inl e ↦ inl e | inr d ↦ inr (sym (get_or-set_other xs n m true false d) ∙ h) ]
 
 each_stays : (ls : List ℕ) (xs : List Bool) (m : ℕ) → mark_at xs m ≡ true → mark_at (mark_each xs ls) m ≡ true
 each_stays [] xs m h = h
@@ -25,7 +16,7 @@ each_stays (l ∷ ls) xs m h = each_stays ls (slice_set xs l true) m (mark_stays
 
 each_in : (ls : List ℕ) (xs : List Bool) (m : ℕ) → In ls m → m < length xs → mark_at (mark_each xs ls) m ≡ true
 each_in [] xs m i b = elim i [ ]
-each_in (l ∷ ls) xs m (inl e) b = each_stays ls (slice_set xs l true) m (subst (λ k. mark_at (slice_set xs k true) m ≡ true) e (mark_same xs m b))
+each_in (l ∷ ls) xs m (inl e) b = each_stays ls (slice_set xs l true) m (subst (λ k. mark_at (slice_set xs k true) m ≡ true) e (get_or-set_same xs m true false b))
 each_in (l ∷ ls) xs m (inr i) b = each_in ls (slice_set xs l true) m i (rw (length-set xs l true) b)
 
 each_from : (ls : List ℕ) (xs : List Bool) (m : ℕ) → mark_at (mark_each xs ls) m ≡ true → In ls m ⊎ (mark_at xs m ≡ true)
@@ -42,7 +33,7 @@ leaves_stay (m ∷ ms) xs l h = leaves_stay ms (slice_set xs (2 * m) true) l (ma
 
 leaves_in : (ms : List ℕ) (xs : List Bool) (m : ℕ) → In ms m → 2 * m < length xs → mark_at (mark_leaves xs ms) (2 * m) ≡ true
 leaves_in [] xs m i b = elim i [ ]
-leaves_in (x ∷ ms) xs m (inl e) b = leaves_stay ms (slice_set xs (2 * x) true) (2 * m) (subst (λ k. mark_at (slice_set xs (2 * k) true) (2 * m) ≡ true) e (mark_same xs (2 * m) b))
+leaves_in (x ∷ ms) xs m (inl e) b = leaves_stay ms (slice_set xs (2 * x) true) (2 * m) (subst (λ k. mark_at (slice_set xs (2 * k) true) (2 * m) ≡ true) e (get_or-set_same xs (2 * m) true false b))
 leaves_in (x ∷ ms) xs m (inr i) b = leaves_in ms (slice_set xs (2 * x) true) m i (rw (length-set xs (2 * x) true) b)
 
 leaves_from : (ms : List ℕ) (xs : List Bool) (l : ℕ) → mark_at (mark_leaves xs ms) l ≡ true → ((m : ℕ) × In ms m × (l ≡ 2 * m)) ⊎ (mark_at xs l ≡ true)
@@ -78,7 +69,6 @@ cuts_from : (os : List (Option (List ℕ))) (xs : List Bool) (l : ℕ) → mark_
 cuts_from [] xs l h = inr h
 cuts_from (o ∷ os) xs l h = search (rules, cut_from, cuts_from os (mark_cut xs o) l h)
 
--- The marked literals are the needed ones.
 pub marked_needed : (g : Aig) (roots : List ℕ) (cuts : List (Option (List ℕ))) (l : ℕ) → mark_at (marks_of g roots cuts) l ≡ true → IsMarked roots cuts l
 marked_needed g roots cuts l h =
     elim (cuts_from cuts (mark_each (replicate (2 * node_count g) false) roots) l h) [
@@ -158,7 +148,6 @@ tables_needed g roots cuts inside lits =
     (tables_are g cuts (IsMarked roots cuts) (marks_of g roots cuts) 0 (record { luts = []; bits = 0; work = 0 }) (no_tables g cuts (IsMarked roots cuts))
     (λ j b. let z : j ≡ 0 + j = omega arith in ((λ t. subst (λ i. IsMarked roots cuts i) z (marked_needed g roots cuts j t)), (λ n. needed_marked g roots cuts j inside lits (subst (λ i. IsMarked roots cuts i) (sym z) n)))))
 
--- work only grow
 table_more : (g : Aig) (made : Made) (l : ℕ) (o : Option (List ℕ)) → made.work ≤ (add_table g made l o).work
 table_more g made l None = omega arith
 table_more g made l (Some c) = omega arith
@@ -171,21 +160,14 @@ pub tables_more : (g : Aig) (cuts : List (Option (List ℕ))) (ms : List Bool) (
 tables_more g cuts [] made l = omega arith
 tables_more g cuts (m ∷ ms) made l = grind (arith, marked_more, tables_more g cuts ms (add_marked g cuts made l m) (l + 1))
 
--- the work of a table fits
 pub work_small : (bits size count : ℕ) → bits ≤ 2 ^ MOST_LEAVES → size ≤ count → count ≤ 2 ^ 30 → bits * (1 + size) ≤ 2 ^ 37
 work_small bits size count b s l = grind arith
-
-drop_there : (xs : List Bool) (i : ℕ) → i < length xs → drop i xs ≡ get_or xs i false ∷ drop (suc i) xs
-drop_there [] i l = absurd (omega arith)
-drop_there (x ∷ xs) zero l = refl
-drop_there (x ∷ xs) (suc i) l = drop_there xs i (omega arith)
 
 -- where the work so far are too many, all are
 pub tables_past : (g : Aig) (cuts : List (Option (List ℕ))) (marks : List Bool) (made all : Made) (l i : ℕ) → i < length marks → tables_from g cuts made l (drop i marks) ≡ all
     → (add_marked g cuts made l (get_or marks i false)).work ≤ all.work
-tables_past g cuts marks made all l i b e = grind (arith, tables_more, drop_there)
+tables_past g cuts marks made all l i b e = grind (arith, tables_more, drop_more)
 
--- where some work is too much, more is
 pub work_more : (e : PickErr) {some all : ℕ} → some ≤ all → OrMemory refusal_of (λ _. MOST_WORK < some) e → OrMemory refusal_of (λ _. MOST_WORK < all) e
 work_more Work l h = omega arith
 work_more Memory l h = tt

@@ -1,7 +1,13 @@
 -- The walk of required depths: what it keeps, and that its cuts are a cover of the least depth.
-use Rattle.cover_pick.proofs.Common.{◌≡◌, ℕ, zero, suc, ◌+◌, ◌-◌, ◌/◌, ◌<◌, ◌≤◌, min, ltb, List, [], ◌∷◌, length, Option, Some, None, IsSome, refl, sym, ap, ◌∙◌, subst, inl, inr, ◌⊎◌, arith, get_or-set_same, get_or-set_other, replicate, length-replicate, get_or-replicate, get_or_past, length-set, same_Some, none-some, cases_lt, cases_eq, ltb-true, ltb-false, Aig, first_and, node_count, IsAnd, AreNormal, Regular, source_below, In, IsCut, AreMinimal, IsCover, HasDepth, source, free, table, RootsWithin, greatest, height, AreLabels, choose, source_level, root_level, target, need, least_of, require, require_each, visit, walk, require_root, require_roots, roots_required, required, chosen, cover_of, AtMost, FromRoot, Chooses, IsWalked, rules}
+use Rattle.cover_pick.proofs.Common.{◌≡◌, ℕ, zero, suc, ◌+◌, ◌-◌, ◌/◌, ◌<◌, ◌≤◌, min, ltb, List, [], ◌∷◌, length, Option, Some, None, IsSome, refl, sym, ap, ◌∙◌, subst, inl, inr, ◌⊎◌, arith, get_or-set_same, get_or-set_other, replicate, length-replicate, get_or-replicate, get_or_past, length-set, same_Some, none-some, cases_lt, cases_eq, ltb-true, ltb-false, Aig, first_and, node_count, IsAnd, AreNormal, Regular, source_below, In, IsCut, AreMinimal, IsCover, HasDepth, source, free, table, RootsWithin, greatest, height, AreLabels, choose, source_level, root_level, target, need, least_of, require, require_each, visit, walk, require_root, require_roots, roots_required, required, chosen, cover_of, AtMost, FromRoot, Chooses, IsWalked, rules, ◌%◌, IsSource, walk_by, met_at}
 use Rattle.depth_label.proofs.DepthLemmas.{greatest_le, label_le_depth, greatest_in}
-use Rattle.cover_pick.proofs.TargetLemmas.{level_complemented, level_within}
+use Rattle.cover_pick.specs.Sharing.{IsNeededAbove, root, leaf}
+
+pub level_complemented : (g : Aig) (l : ℕ) → IsSource g Regular (l / 2) → l % 2 ≡ 1 → source_level g l ≡ 1
+level_complemented g l s e = grind arith
+
+pub level_within : (g : Aig) (l d : ℕ) → (IsSource g Regular (l / 2) → l % 2 ≡ 1 → 1 ≤ d) → source_level g l ≤ d
+level_within g l d h = grind arith
 
 -- a required depth comes from a node that was taken, one of `first` or above
 pub record FromAbove (g : Aig) (choice : ℕ → ℕ → List ℕ) (reqs : ℕ → Option ℕ) (first n r : ℕ) : Type 0 where
@@ -21,7 +27,6 @@ pub record Walked (g : Aig) (label : ℕ → ℕ) (choice : ℕ → ℕ → List
   pub leaves : (n r m : ℕ) → IsAnd g n → first_and g + k ≤ n → need reqs n ≡ Some r → In (choice n r) m → AtMost (need reqs m) (r - 1)
   pub whence : (n r : ℕ) → need reqs n ≡ Some r → FromRoot roots t n r ⊎ FromAbove g choice (need reqs) (first_and g + k) n r
 
--- one write
 need_same : (reqs : List (Option ℕ)) (m r : ℕ) → m < length reqs → need (require reqs m r) m ≡ least_of (need reqs m) r
 need_same reqs m r l = rw get_or-set_same refl
 
@@ -52,7 +57,6 @@ require_from reqs m r n s l h = search (rules, cases_eq, least_from, need_same, 
 size_require : (reqs : List (Option ℕ)) (m r : ℕ) → length (require reqs m r) ≡ length reqs
 size_require reqs m r = length-set reqs m (least_of (need reqs m) r)
 
--- the same over a list
 each_size : (ms : List ℕ) (reqs : List (Option ℕ)) (r : ℕ) → length (require_each reqs ms r) ≡ length reqs
 each_size [] reqs r = refl
 each_size (m ∷ ms) reqs r = each_size ms (require reqs m r) r ∙ size_require reqs m r
@@ -83,7 +87,6 @@ height_in : (label : ℕ → ℕ) (c : List ℕ) (m : ℕ) → In c m → 1 + la
 height_in label [] m i = elim i [ ]
 height_in label (x ∷ xs) m i = let a : label m ≤ greatest label (x ∷ xs) = greatest_in label (x ∷ xs) m i in omega arith
 
--- the roots
 root_size : (first t : ℕ) (reqs : List (Option ℕ)) (l : ℕ) → length (require_root first t reqs l) ≡ length reqs
 root_size first t reqs l = choose (λ s. length s ≡ length reqs) (ltb (l / 2) first) reqs (require reqs (l / 2) t) (λ _. refl) (λ _. size_require reqs (l / 2) t)
 
@@ -111,7 +114,6 @@ need_none : (c n : ℕ) → need (replicate c None) n ≡ None
 unfolding no_depth
 need_none c n = elim (cases_lt n c) [ inl l ↦ get_or-replicate c n None None l | inr l ↦ get_or_past (replicate c None) n None (rw (length-replicate c no_depth) l) ]
 
--- a greater bound on the depth
 pub HasDepth-more : (g : Aig) (cover : ℕ → Option (List ℕ)) {n d : ℕ} (e : ℕ) → HasDepth g cover n d → d ≤ e → HasDepth g cover n e
 HasDepth-more g cover e (source l) le = source l
 HasDepth-more g cover e (free at) le = free at
@@ -169,7 +171,6 @@ module _ (g : Aig) (k : ℕ) (roots : List ℕ) (cuts : ℕ → List (List ℕ))
   walk_walked t zero reqs l w = w
   walk_walked t (suc j) reqs l w = grind (arith, visit_walked, walk_walked t j (visit choice (first_and g + j) (need reqs (first_and g + j)) reqs) (omega arith) (visit_walked t j reqs (need reqs (first_and g + j)) (omega arith) w refl))
 
-  -- a root's level is at most the target
   root_low : (l : ℕ) → In roots l → root_level g label l ≤ target g label roots
   root_low l i = greatest_in (root_level g label) roots l i
 
@@ -198,7 +199,6 @@ module _ (g : Aig) (k : ℕ) (roots : List ℕ) (cuts : ℕ → List (List ℕ))
         whence = λ n r h. inl (from n r h).1;
       }
 
-  -- the walk of the whole graph
   pub required_walked : Walked g label choice roots (target g label roots) 0 (required g choice roots (target g label roots))
   required_walked = walk_walked (target g label roots) (length g.pairs) (roots_required g roots (target g label roots)) (omega arith) start_walked
 
@@ -235,7 +235,6 @@ module _ (g : Aig) (k : ℕ) (roots : List ℕ) (cuts : ℕ → List (List ℕ))
     pub depth_le_required : (n r : ℕ) → IsAnd g n → need reqs n ≡ Some r → HasDepth g (cover_of g choice reqs) n r
     depth_le_required n r and e = depth_needed (suc n) n r (omega arith) and e
 
-    -- what the cover has at a node
     chosen_at : (n : ℕ) (c : List ℕ) (o : Option ℕ) → first_and g ≤ n → need reqs n ≡ o → chosen choice n o ≡ Some c → (r : ℕ) × IsAnd g n × (need reqs n ≡ Some r) × (c ≡ choice n r)
     chosen_at n c None a e h = absurd (none-some c h)
     chosen_at n c (Some r) a e h =
@@ -251,7 +250,6 @@ module _ (g : Aig) (k : ℕ) (roots : List ℕ) (cuts : ℕ → List (List ℕ))
     has_cover : (n d : ℕ) → IsAnd g n → AtMost (need reqs n) d → IsSome (cover_of g choice reqs n)
     has_cover n d and q = subst (λ o. IsSome o) (sym (cover_is n q.by and q.is)) refl
 
-    -- The chosen cuts are a cover of the graph.
     pub is_cover : IsCover g k roots (cover_of g choice reqs)
     is_cover = record {
       cuts = λ n c h. let q = cover_at n c h in (q.1, subst (λ x. IsCut g k n x) (sym q.3) (choice_cut n q.0 q.1 (w.low n q.0 q.1 q.2)));
@@ -275,3 +273,101 @@ module _ (g : Aig) (k : ℕ) (roots : List ℕ) (cuts : ℕ → List (List ℕ))
   -- and the target at most the depth of any cover.
   pub target_least : AreNormal (first_and g) g.pairs → AreLabels g cuts label → (cover : ℕ → Option (List ℕ)) (d : ℕ) → IsCover g k roots cover → RootsWithin g cover roots d → target g label roots ≤ d
   target_least normal labels cover d is within = grind (arith, greatest_le, ltb, level_within, ltb-false, label_le_depth)
+
+-- a node is taken in the same way by two choices that are the same there
+pub visit_same : (choice other : ℕ → ℕ → List ℕ) (n : ℕ) (o : Option ℕ) (reqs : List (Option ℕ)) → ((r : ℕ) → choice n r ≡ other n r) → visit choice n o reqs ≡ visit other n o reqs
+visit_same choice other n None reqs e = refl
+visit_same choice other n (Some r) reqs e = ap (λ c. require_each reqs c (r - 1)) (e r)
+
+module _ (by : List (Option ℕ) → ℕ → ℕ → List ℕ) (first : ℕ) where
+  -- a choice that is what is found at each of the nodes that are left
+  abbrev pub Agrees : (ℕ → ℕ → List ℕ) → ℕ → List (Option ℕ) → Type 0
+  Agrees choice k reqs = (j r : ℕ) → j < k → choice (first + j) r ≡ by (met_at by first k reqs (first + j)) (first + j) r
+
+  -- what is needed at the last of the nodes that are left, and at the others
+  pub met_here : (k : ℕ) (reqs : List (Option ℕ)) → met_at by first (suc k) reqs (first + k) ≡ reqs
+  met_here k reqs = grind arith
+
+  pub met_next : (k j : ℕ) (reqs : List (Option ℕ)) → j < k → met_at by first (suc k) reqs (first + j) ≡ met_at by first k (visit (by reqs) (first + k) (need reqs (first + k)) reqs) (first + j)
+  met_next k j reqs l = grind arith
+
+  pub agrees_next : (choice : ℕ → ℕ → List ℕ) (k : ℕ) (reqs : List (Option ℕ)) → Agrees choice (suc k) reqs → Agrees choice k (visit (by reqs) (first + k) (need reqs (first + k)) reqs)
+  agrees_next choice k reqs a j r l = a j r (omega arith) ∙ ap (λ s. by s (first + j) r) (met_next k j reqs l)
+
+  pub step_same : (choice : ℕ → ℕ → List ℕ) (k : ℕ) (reqs : List (Option ℕ)) → Agrees choice (suc k) reqs
+      → visit choice (first + k) (need reqs (first + k)) reqs ≡ visit (by reqs) (first + k) (need reqs (first + k)) reqs
+  step_same choice k reqs a = visit_same choice (by reqs) (first + k) (need reqs (first + k)) reqs (λ r. a k r (omega arith) ∙ ap (λ s. by s (first + k) r) (met_here k reqs))
+
+  pub walk_same : (choice : ℕ → ℕ → List ℕ) (k : ℕ) (reqs : List (Option ℕ)) → Agrees choice k reqs → walk choice first k reqs ≡ walk_by by first k reqs
+  walk_same choice zero reqs a = refl
+  walk_same choice (suc k) reqs a = grind (arith, step_same, agrees_next, walk_same choice k (visit (by reqs) (first + k) (need reqs (first + k)) reqs) (agrees_next choice k reqs a))
+
+pub walk_step : (by : List (Option ℕ) → ℕ → ℕ → List ℕ) (first m j n : ℕ) (reqs next : List (Option ℕ)) → m ≡ suc j → n ≡ first + j → next ≡ visit (by reqs) n (need reqs n) reqs → walk_by by first j next ≡ walk_by by first m reqs
+walk_step by first m j n reqs next e f h = rw (h, f, e) refl
+
+-- what is needed at that node, and at those below it
+pub met_now : (by : List (Option ℕ) → ℕ → ℕ → List ℕ) (first m j n : ℕ) (reqs : List (Option ℕ)) → m ≡ suc j → n ≡ first + j → met_at by first m reqs n ≡ reqs
+met_now by first m j n reqs e f = rw (f, e) (met_here by first j reqs)
+
+pub met_later : (by : List (Option ℕ) → ℕ → ℕ → List ℕ) (first m j n i : ℕ) (reqs next : List (Option ℕ)) → m ≡ suc j → n ≡ first + j → next ≡ visit (by reqs) n (need reqs n) reqs → i < j
+    → met_at by first j next (first + i) ≡ met_at by first m reqs (first + i)
+met_later by first m j n i reqs next e f h l = rw (h, f, e) (sym (met_next by first j i reqs l))
+
+-- When the walk comes to a node, required depths are there exactly of what is needed from above it.
+-- the walk when it comes to a node: that node and all above it have their last required depths
+pub record Met (g : Aig) (label : ℕ → ℕ) (choice : ℕ → ℕ → List ℕ) (roots : List ℕ) (t j : ℕ) (reqs last : List (Option ℕ)) : Type 0 where
+  pub walked : Walked g label choice roots t (suc j) reqs
+  pub kept : (i : ℕ) → first_and g + j ≤ i → need last i ≡ need reqs i
+
+module _ (g : Aig) (k : ℕ) (roots : List ℕ) (cuts : ℕ → List (List ℕ)) (label : ℕ → ℕ) (choice : ℕ → ℕ → List ℕ)
+    (inside : (l : ℕ) → In roots l → l / 2 < node_count g)
+    (minimal : (n : ℕ) → IsAnd g n → AreMinimal g k n (cuts n)) (chooses : Chooses g cuts label choice) where
+  -- a node that is taken, and all above it, keep their required depths
+  visit_above : (t j : ℕ) (reqs : List (Option ℕ)) (o : Option ℕ) → j < length g.pairs → Walked g label choice roots t (suc j) reqs → need reqs (first_and g + j) ≡ o
+      → (i : ℕ) → first_and g + j ≤ i → need (visit choice (first_and g + j) o reqs) i ≡ need reqs i
+  visit_above t j reqs None b w e i l = refl
+  visit_above t j reqs (Some r) b w e i l = grind (arith, each_other, leaf_below)
+
+  walk_above : (t j : ℕ) (reqs : List (Option ℕ)) → j ≤ length g.pairs → Walked g label choice roots t j reqs → (i : ℕ) → first_and g + j ≤ i → need (walk choice (first_and g) j reqs) i ≡ need reqs i
+  walk_above t zero reqs b w i l = refl
+  walk_above t (suc j) reqs b w i l =
+      walk_above t j (visit choice (first_and g + j) (need reqs (first_and g + j)) reqs) (omega arith)
+      (visit_walked g k roots cuts label choice inside minimal chooses t j reqs (need reqs (first_and g + j)) (omega arith) w refl) i (omega arith)
+      ∙ visit_above t j reqs (need reqs (first_and g + j)) (omega arith) w refl i (omega arith)
+
+  module _ (by : List (Option ℕ) → ℕ → ℕ → List ℕ) where
+    pub met : (t m : ℕ) (reqs : List (Option ℕ)) → m ≤ length g.pairs → Walked g label choice roots t m reqs → Agrees by (first_and g) choice m reqs
+        → (j : ℕ) → j < m → Met g label choice roots t j (met_at by (first_and g) m reqs (first_and g + j)) (walk choice (first_and g) m reqs)
+    met t zero reqs b w a j l = absurd (omega arith)
+    met t (suc m) reqs b w a j l =
+        let next : List (Option ℕ) = visit choice (first_and g + m) (need reqs (first_and g + m)) reqs in
+        let by_next : List (Option ℕ) = visit (by reqs) (first_and g + m) (need reqs (first_and g + m)) reqs in
+        let same : next ≡ by_next = step_same by (first_and g) choice m reqs a in
+        let w_next : Walked g label choice roots t m next = visit_walked g k roots cuts label choice inside minimal chooses t m reqs (need reqs (first_and g + m)) (omega arith) w refl in
+        elim (cases_eq j m) [
+          | inl e ↦ subst (λ i. Met g label choice roots t i (met_at by (first_and g) (suc m) reqs (first_and g + i)) (walk choice (first_and g) m next)) (sym e)
+              (subst (λ s. Met g label choice roots t m s (walk choice (first_and g) m next)) (sym (met_here by (first_and g) m reqs)) (record {
+                walked = w;
+                kept = λ i c. walk_above t m next (omega arith) w_next i c ∙ visit_above t m reqs (need reqs (first_and g + m)) (omega arith) w refl i c;
+              }))
+          | inr d ↦ subst (λ s. Met g label choice roots t j s (walk choice (first_and g) m next)) (sym (met_next by (first_and g) m j reqs (omega arith)))
+              (subst (λ s. Met g label choice roots t j (met_at by (first_and g) m by_next (first_and g + j)) (walk choice (first_and g) m s)) (sym same)
+              (met t m by_next (omega arith) (subst (λ s. Walked g label choice roots t m s) same w_next) (agrees_next by (first_and g) choice m reqs a) j (omega arith)))
+        ]
+
+  -- what is needed from above a node, by the required depths when the walk comes to it
+  module _ (t j : ℕ) (reqs last : List (Option ℕ)) (end : Walked g label choice roots t 0 last) (at : Met g label choice roots t j reqs last) where
+    pub needed_above : (m r : ℕ) → need reqs m ≡ Some r → IsNeededAbove roots (cover_of g choice last) (first_and g + j) m
+    needed_above m r e = elim (at.walked.whence m r e) [
+      | inl f ↦ root f.root f.is_root f.node
+      | inr f ↦ (
+          let a : first_and g + suc j ≤ f.reader = f.above in
+          leaf f.reader (choice f.reader f.depth) (omega arith) (cover_is g k roots cuts label choice inside minimal chooses t last end f.reader f.depth f.and (at.kept f.reader (omega arith) ∙ f.needed)) f.leaf)
+    ]
+
+    pub above_needed : (m : ℕ) → IsAnd g m → IsNeededAbove roots (cover_of g choice last) (first_and g + j) m → (r : ℕ) × (need reqs m ≡ Some r)
+    above_needed m and (root l i e) = let q = at.walked.tops l i (subst (λ n. IsAnd g n) (sym e) and) in (q.by, subst (λ n. need reqs n ≡ Some q.by) e q.is)
+    above_needed m and (leaf reader c above cover i) =
+        let q = cover_at g k roots cuts label choice inside minimal chooses t last end reader c cover in
+        let p = at.walked.leaves reader q.0 m q.1 (omega arith) (sym (at.kept reader (omega arith)) ∙ q.2) (subst (λ x. In x m) q.3 i) in
+        (p.by, p.is)

@@ -1,5 +1,5 @@
 -- The cone of a node, as a list, is what is reached from it.
-use Rattle.cover_pick.proofs.Common.{◌≡◌, ℕ, zero, suc, ◌-◌, ◌/◌, ◌<◌, ◌≤◌, true, false, cond, ltb, eqb, List, [], ◌∷◌, Option, Some, None, refl, sym, length, subst, inl, inr, ◌⊎◌, arith, list_any, slice_get_within, cases_Bool, or_cases, or_parts, cases_lt, ltb-true, ltb-false, eqb-true, eqb-false, both_ways, lt-ltb, Aig, first_and, node_count, pair_of, IsNode, IsNormal, AreNormal, Pair, node_normal, In, choose, IsDescending, put_down, is_stop, put_fan_ins, cone, cone_of, IsInner, Path, here, left, right, IsCone, rules}
+use Rattle.cover_pick.proofs.Common.{◌≡◌, ℕ, zero, suc, ◌-◌, ◌/◌, ◌<◌, ◌≤◌, true, false, ltb, eqb, List, [], ◌∷◌, Option, Some, None, refl, sym, length, subst, inl, inr, ◌⊎◌, arith, slice_get_within, cases_Bool, or_cases, or_parts, cases_lt, ltb-true, ltb-false, both_ways, lt-ltb, Aig, first_and, node_count, pair_of, IsNode, IsNormal, AreNormal, Pair, node_normal, In, choose, IsDescending, put_down, is_stop, put_fan_ins, cone, cone_of, IsInner, Path, here, left, right, IsCone, rules}
 use Rattle.cut_enum.proofs.SetLemmas.{has_true, has_from}
 
 -- what does not end the way down is an AND node that is no leaf
@@ -13,9 +13,14 @@ inner_stop g c n inner = search (rules, cases_Bool, or_cases, ltb, eqb, ltb-true
 pub past_sources : (g : Aig) (c : List ℕ) (n : ℕ) → is_stop g c n ≡ false → first_and g ≤ n
 past_sources g c n s = search (rules, cases_lt, both_ways, lt-ltb)
 
--- a node with a pair is a node of the graph
 pub node_inside : (g : Aig) (p : Pair) (n : ℕ) → IsNode g p n → n < node_count g
 node_inside g p n is = let a : first_and g ≤ n = is.above in let b : n - first_and g < length g.pairs = slice_get_within g.pairs (n - first_and g) p is.is in omega arith
+
+-- no way starts at a node that ends it
+pub stopped : (g : Aig) (c : List ℕ) (m n : ℕ) → Path g c m n → is_stop g c n ≡ true → ⊥
+stopped g c m n (here t e) h = both_ways (is_stop g c n) (inner_stop g c n t) h
+stopped g c m n (left p t e q) h = both_ways (is_stop g c n) (inner_stop g c n t) h
+stopped g c m n (right p t e q) h = both_ways (is_stop g c n) (inner_stop g c n t) h
 
 -- a node that is reached from a pending one
 pub record From (g : Aig) (c pending : List ℕ) (m : ℕ) : Type 0 where
@@ -90,20 +95,12 @@ module _ (g : Aig) (c : List ℕ) (normal : (n : ℕ) (p : Pair) → is_stop g c
   right_kept : (o : Option Pair) (p : Pair) (rest : List ℕ) → o ≡ Some p → In (put_fan_ins o rest) (p.y.0 / 2)
   right_kept o p rest e = rw e (down_old (p.x.0 / 2) (put_down (p.y.0 / 2) rest) (p.y.0 / 2) (down_new (p.y.0 / 2) rest))
 
-  stopped : (m s : ℕ) → Path g c m s → is_stop g c s ≡ true → ⊥
-  stopped m s (here t e) h = both_ways (is_stop g c s) (inner_stop g c s t) h
-  stopped m s (left p t e q) h = both_ways (is_stop g c s) (inner_stop g c s t) h
-  stopped m s (right p t e q) h = both_ways (is_stop g c s) (inner_stop g c s t) h
-
   first_step : (n m : ℕ) (rest out : List ℕ) → ((r : ℕ) → In (put_fan_ins (pair_of g n) rest) r → Path g c m r → In out m) → Path g c m n → (m ≡ n) ⊎ In out m
   first_step n m rest out go (here t e) = inl (sym e)
   first_step n m rest out go (left p t e q) = inr (go (p.x.0 / 2) (left_kept (pair_of g n) p rest e.is) q)
   first_step n m rest out go (right p t e q) = inr (go (p.y.0 / 2) (right_kept (pair_of g n) p rest e.is) q)
 
-  -- each node of the cone is reached
   pub cone_only : (f : ℕ) (pending : List ℕ) (m : ℕ) → IsDescending pending → ((k : ℕ) → In pending k → k < node_count g) → In (cone g c f pending) m → From g c pending m
-  cone_only zero pending m d b i = elim i [ ]
-  cone_only (suc f) [] m d b i = elim i [ ]
   cone_only (suc f) (n ∷ rest) m d b i0 =
       choose (λ s. In s m → From g c (n ∷ rest) m) (is_stop g c n) (cone g c f rest) (n ∷ cone g c f (put_fan_ins (pair_of g n) rest))
       (λ t i. let r = cone_only f rest m d.1 (λ k j. b k (inr j)) i in record { start = r.start; pending_in = inr r.pending_in; path = r.path })
@@ -112,8 +109,8 @@ module _ (g : Aig) (c : List ℕ) (normal : (n : ℕ) (p : Pair) → is_stop g c
         | inr j ↦ next_from n m (pair_of g n) rest t refl (cone_only f (put_fan_ins (pair_of g n) rest) m (next_order (pair_of g n) rest d.1)
             (λ k l. let x : k < n = next_below n (pair_of g n) rest t refl d.0 k l in let y : n < node_count g = b n (inl refl) in omega arith) j)
       ]) i0
+  cone_only f pending m d b i = elim i [ ]
 
-  -- each node that is reached is in the cone
   pub cone_all : (f : ℕ) (pending : List ℕ) (m : ℕ) → IsDescending pending → ((n : ℕ) → In pending n → n < f) → (s : ℕ) → In pending s → Path g c m s → In (cone g c f pending) m
   cone_all zero pending m d b s i p = absurd (let l : s < 0 = b s i in omega arith)
   cone_all (suc f) [] m d b s i p = elim i [ ]
@@ -124,7 +121,7 @@ module _ (g : Aig) (c : List ℕ) (normal : (n : ℕ) (p : Pair) → is_stop g c
       (λ k l. let x : k < n = next_below n (pair_of g n) rest t refl d.0 k l in omega arith) r j q) in
       choose (λ x. In x m) (is_stop g c n) (cone g c f rest) (n ∷ cone g c f (put_fan_ins (pair_of g n) rest))
       (λ t. elim i [
-        | inl q ↦ absurd (stopped m s p (subst (λ k. is_stop g c k ≡ true) (sym q) t))
+        | inl q ↦ absurd (stopped g c m s p (subst (λ k. is_stop g c k ≡ true) (sym q) t))
         | inr j ↦ cone_all f rest m d.1 (λ k l. let x : k < n = d.0 k l in omega arith) s j p
       ])
       (λ t. elim i [
@@ -134,14 +131,13 @@ module _ (g : Aig) (c : List ℕ) (normal : (n : ℕ) (p : Pair) → is_stop g c
 
   -- in order, so each stands once
   pub cone_order : (f : ℕ) (pending : List ℕ) → IsDescending pending → IsDescending (cone g c f pending) × ((b : ℕ) → ((n : ℕ) → In pending n → n < b) → (m : ℕ) → In (cone g c f pending) m → m < b)
-  cone_order zero pending d = (tt, (λ b h m i. absurd i))
-  cone_order (suc f) [] d = (tt, (λ b h m i. absurd i))
   cone_order (suc f) (n ∷ rest) d =
       choose (λ x. IsDescending x × ((b : ℕ) → ((k : ℕ) → In (n ∷ rest) k → k < b) → (m : ℕ) → In x m → m < b)) (is_stop g c n) (cone g c f rest) (n ∷ cone g c f (put_fan_ins (pair_of g n) rest))
       (λ t. let r = cone_order f rest d.1 in (r.0, (λ b h m i. r.1 b (λ k j. h k (inr j)) m i)))
       (λ t. let r = cone_order f (put_fan_ins (pair_of g n) rest) (next_order (pair_of g n) rest d.1) in
       let low = r.1 n (next_below n (pair_of g n) rest t refl d.0) in
       ((low, r.0), (λ b h m i. let x : n < b = h n (inl refl) in elim i [ inl q ↦ (let f : m ≡ n = q in omega arith) | inr j ↦ (let y : m < n = low m j in omega arith) ])))
+  cone_order f pending d = (tt, (λ b h m i. absurd i))
 
 -- The cone by its own words.
 pub cone_is : (g : Aig) (c : List ℕ) (n : ℕ) → AreNormal (first_and g) g.pairs → n < node_count g → IsCone g c n (cone_of g c n)

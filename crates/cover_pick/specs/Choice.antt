@@ -1,8 +1,6 @@
 -- The rule by which a cut is chosen for a node with a required depth.
 use Rattle.std.specs.Prelude.{◌≡◌, ℕ, ◌<◌, ◌≤◌, true, List, length, ◌⊎◌}
-use Rattle.list_laws.specs.Members.{In}
-use Rattle.cut_sets.specs.Sets.{lex}
-use Rattle.depth_label.specs.Label.{height}
+use Rattle.cover_pick.specs.Words.{In, lex, height}
 
 -- c is chosen before d: it has fewer leaves, or as many and a lower height, or as many and the same and comes no later
 pub data Precedes (label : ℕ → ℕ) (c d : List ℕ) : Type 0 where

@@ -1,9 +1,7 @@
 -- How the cone of a node is listed, the greatest node first, and the work of LUTs as a sum over these lists.
-use Rattle.std.specs.Prelude.{ℕ, zero, suc, ◌+◌, ◌*◌, ◌/◌, ◌^◌, Bool, ◌||◌, if◌then◌else◌, ◌==◌, nat_lt, List, [], ◌∷◌, length, sum_by, Option, Some, None}
+use Rattle.std.specs.Prelude.{ℕ, zero, suc, ◌+◌, ◌*◌, ◌/◌, ◌^◌, Bool, ◌||◌, if◌then◌else◌, ◌==◌, nat_lt, List, [], ◌∷◌, length, sum_by, Option, Some, None, ◌++◌, slice_set, slice_index_or}
 use Rattle.std.specs.List.{list_any}
-use Rattle.aig_core.specs.Aig.{Aig, first_and, pair_of}
-use Rattle.aig_core.specs.declared.lit.Pair.{Pair}
-use Rattle.cover_pick.specs.declared.lut.Lut.{Lut}
+use Rattle.cover_pick.specs.Words.{Aig, first_and, pair_of, Pair, Lut}
 
 -- does a node end the way down: a source or a leaf
 abbrev pub is_stop : Aig → List ℕ → ℕ → Bool
@@ -35,3 +33,18 @@ table_work g l c = 2 ^ length c * (1 + length (cone_of g c (l / 2)))
 -- the work of all tables
 abbrev pub work_of : Aig → List Lut → ℕ
 work_of g ts = sum_by (λ t. table_work g t.lit.0 t.leaves) ts
+
+-- the stamps of all nodes, and the nodes that are reached, in the order in which they were
+pub record SearchValue : Type 0 where
+  pub stamps : List ℕ
+  pub reached : List ℕ
+
+abbrev pub stamp_at : List ℕ → ℕ → ℕ
+stamp_at stamps n = slice_index_or stamps n 0
+
+-- a node is reached: it is taken, unless it ends the way down or has this search's stamp
+abbrev pub reach : Aig → List ℕ → ℕ → SearchValue → ℕ → SearchValue
+reach g c stamp s n =
+    if is_stop g c n then s
+    else if stamp_at s.stamps n == stamp then s
+    else record { stamps = slice_set s.stamps n stamp; reached = s.reached ++ n ∷ [] }

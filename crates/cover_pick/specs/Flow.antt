@@ -1,9 +1,6 @@
 -- The flow of a node: what its table and all tables below it cost, each shared evenly among as many readers as are counted of it.
 use Rattle.std.specs.Prelude.{ℕ, zero, suc, ◌+◌, ◌/◌, ◌^◌, min, max, if◌then◌else◌, ◌==◌, nat_lt, List, [], ◌∷◌, ◌++◌, length, sum_by, slice_index_or}
-use Rattle.aig_core.specs.Aig.{Aig, first_and}
-use Rattle.aig_core.specs.declared.lit.Pair.{Pair}
-use Rattle.cut_enum.specs.Table.{row_at}
-use Rattle.cover_pick.specs.declared.limits.TheConstants.{MOST_FLOW, TABLE_PRICE}
+use Rattle.cover_pick.specs.Words.{Aig, first_and, node_count, Pair, row_at, MOST_FLOW, TABLE_PRICE, height, Scope, AnyHeight, LeastHeight}
 
 -- how many of a pair's fan-ins are a node
 abbrev pub times_read : ℕ → Pair → ℕ
@@ -34,3 +31,31 @@ node_flow g rows counts flows n = if nat_lt n (first_and g) then 0 else least_fl
 abbrev pub flows_below : Aig → List (List (List ℕ)) → (ℕ → ℕ) → ℕ → List ℕ
 flows_below g rows counts zero = []
 flows_below g rows counts (suc n) = flows_below g rows counts n ++ node_flow g rows counts (flows_below g rows counts n) n ∷ []
+
+-- the cuts of a height of at most this one
+abbrev pub cuts_within : (ℕ → ℕ) → ℕ → List (List ℕ) → List (List ℕ)
+cuts_within label most [] = []
+cuts_within label most (c ∷ cs) = if nat_lt most (height label c) then cuts_within label most cs else c ∷ cuts_within label most cs
+
+-- a node's cuts over which its flow is the least: its label is the least height of its cuts
+abbrev pub allowed_row : Scope → (ℕ → ℕ) → ℕ → List (List ℕ) → List (List ℕ)
+allowed_row AnyHeight label n row = row
+allowed_row LeastHeight label n row = cuts_within label (label n) row
+
+-- those of the nodes from n on
+abbrev pub allowed_from : Scope → (ℕ → ℕ) → ℕ → List (List (List ℕ)) → List (List (List ℕ))
+allowed_from scope label n [] = []
+allowed_from scope label n (row ∷ rows) = allowed_row scope label n row ∷ allowed_from scope label (n + 1) rows
+
+-- a row for each node
+abbrev pub allowed : Scope → (ℕ → ℕ) → List (List (List ℕ)) → List (List (List ℕ))
+allowed scope label rows = allowed_from scope label 0 rows
+
+-- what a cut's table and all below it cost, and the most where it is not allowed
+abbrev pub allowed_flow : Scope → (ℕ → ℕ) → ℕ → List ℕ → List ℕ → ℕ
+allowed_flow AnyHeight label n flows c = cut_flow flows c
+allowed_flow LeastHeight label n flows c = if nat_lt (label n) (height label c) then MOST_FLOW else cut_flow flows c
+
+-- the flows of a graph's nodes over the allowed cuts, for these counts
+abbrev pub flows_by : Aig → List (List (List ℕ)) → (ℕ → ℕ) → Scope → (ℕ → ℕ) → List ℕ
+flows_by g rows label scope counts = flows_below g (allowed scope label rows) counts (node_count g)

@@ -1,27 +1,22 @@
 -- What public clauses say.
+pub mod Words
 pub mod Mapping
 pub mod Target
 pub mod Choice
 pub mod Flow
 pub mod Sharing
 pub mod Schedule
-pub mod Allowed
 pub mod Uses
 pub mod Rounds
-pub mod Plan
 pub mod Tables
 pub mod Work
 pub mod Template
 pub mod Refusals
 -- What only bodies are compared with.
-pub mod Fewest
-pub mod Cheapest
 pub mod Ruled
 pub mod Counts
 pub mod Required
 pub mod Planned
 pub mod Places
 pub mod Cone
-pub mod Search
-pub mod Rounded
 pub mod Marks

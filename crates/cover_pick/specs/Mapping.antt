@@ -1,11 +1,6 @@
 -- LUTs that map a graph, and LUTs of the least depth.
 use Rattle.std.specs.Prelude.{◌≡◌, ℕ, ◌+◌, ◌*◌, ◌/◌, ◌%◌, ◌^◌, ◌<◌, List, [], ◌∷◌, length, sum_by, Option, Some, ◌⊎◌}
-use Rattle.aig_core.specs.Aig.{Aig, IsAnd, IsSource}
-use Rattle.aig_core.specs.declared.lit.Kind.TheVariants.{Regular, Parameter}
-use Rattle.list_laws.specs.Members.{In}
-use Rattle.cut_sets.specs.Cuts.{IsCut}
-use Rattle.cut_sets.specs.Covers.{IsCover, RootsWithin, IsLeastDepth}
-use Rattle.cover_pick.specs.declared.lut.Lut.{Lut}
+use Rattle.cover_pick.specs.Words.{Aig, IsAnd, IsSource, Regular, Parameter, In, IsCut, IsCover, RootsWithin, IsLeastDepth, Lut}
 
 -- what a table computes from its leaves: a complemented regular source from that source, a constant or a parameter from nothing, an AND node from a cut of it
 pub data IsTableOf (g : Aig) (k : ℕ) (t : Lut) : Type 0 where

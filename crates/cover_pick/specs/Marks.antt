@@ -1,15 +1,10 @@
 -- How the LUTs are made: the needed literals are marked, and the marked ones taken in ascending order.
 use Rattle.std.specs.Prelude.{◌≡◌, ℕ, ◌+◌, ◌-◌, ◌*◌, ◌/◌, ◌%◌, ◌^◌, ◌<◌, Bool, true, false, if◌then◌else◌, ◌==◌, nat_lt, List, [], ◌∷◌, ◌++◌, length, Option, Some, None, slice_get, slice_set, replicate}
-use Rattle.aig_core.specs.Aig.{Aig, first_and, node_count}
-use Rattle.aig_core.specs.declared.lit.Kind.{Kind}
-use Rattle.aig_core.specs.declared.lit.Kind.TheVariants.{Regular, Parameter}
-use Rattle.list_laws.specs.Members.{In}
+use Rattle.cover_pick.specs.Words.{Aig, first_and, node_count, Kind, Regular, Parameter, In, Rule, Lut}
 -- is a literal marked
 pub use Rattle.list_laws.specs.Digits.{bit_in as mark_at}
-use Rattle.cover_pick.specs.declared.rule.Rule.{Rule}
-use Rattle.cover_pick.specs.declared.lut.Lut.{Lut}
 use Rattle.cover_pick.specs.Mapping.{AscendByLit, HaveBases, bits_of}
-use Rattle.cover_pick.specs.Plan.{IsPlan}
+use Rattle.cover_pick.specs.Rounds.{IsPlan}
 use Rattle.cover_pick.specs.Planned.{cut_at, and_depths, depths_of, IsPlanned}
 use Rattle.cover_pick.specs.Tables.{HasTable}
 use Rattle.cover_pick.specs.Cone.{table_work, work_of}

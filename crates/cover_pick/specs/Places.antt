@@ -1,7 +1,6 @@
 -- The chosen cuts, each by its place among the cuts of its node.
 use Rattle.std.specs.Prelude.{◌≡◌, ℕ, ◌+◌, ◌<◌, ◌≤◌, List, [], ◌∷◌, length, Option, Some, None, slice_index_or}
-use Rattle.aig_core.specs.Aig.{Aig, node_count}
-use Rattle.cut_enum.specs.Table.{row_at}
+use Rattle.cover_pick.specs.Words.{Aig, node_count, row_at}
 -- the place of a node's cut, none where it has no cut, stands in a list as a required depth does
 pub use Rattle.cover_pick.specs.Required.{need as place_at}
 use Rattle.cover_pick.specs.Required.{need}

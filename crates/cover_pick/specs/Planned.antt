@@ -1,18 +1,14 @@
 -- The required depths and the chosen cuts as the walk finds them.
-use Rattle.std.specs.Prelude.{◌≡◌, ℕ, ◌-◌, ◌/◌, ◌<◌, ◌≤◌, if◌then◌else◌, nat_lt, List, length, Option, Some, None, slice_index_or, ◌⊎◌}
-use Rattle.aig_core.specs.Aig.{Aig, first_and, node_count, IsAnd}
-use Rattle.list_laws.specs.Members.{In}
-use Rattle.cut_sets.specs.Covers.{IsCover, HasDepth, RootsWithin, IsLeastDepth}
-use Rattle.cut_enum.specs.Table.{AreRows, row_at}
-use Rattle.depth_label.specs.Label.{height}
+use Rattle.std.specs.Prelude.{◌≡◌, ℕ, ◌-◌, ◌/◌, ◌<◌, ◌≤◌, if◌then◌else◌, nat_lt, List, length, Option, Some, None, slice_index_or, ◌⊎◌, []}
+use Rattle.cover_pick.specs.Words.{Aig, first_and, node_count, IsAnd, In, IsCover, HasDepth, RootsWithin, IsLeastDepth, AreRows, row_at, height, Rule, FewestLeaves, LeastCost, Scope, AnyHeight, LeastHeight}
 use Rattle.cover_pick.specs.Target.{target}
-use Rattle.cover_pick.specs.declared.rule.Rule.{Rule}
-use Rattle.cover_pick.specs.Flow.{flow_at}
+use Rattle.cover_pick.specs.Flow.{flow_at, fan_out, flows_by}
 use Rattle.cover_pick.specs.Sharing.{IsNeededAbove}
-use Rattle.cover_pick.specs.Cheapest.{AreCapped}
-use Rattle.cover_pick.specs.Ruled.{choice_of}
+use Rattle.cover_pick.specs.Ruled.{AreCapped, choice_of}
 use Rattle.cover_pick.specs.Required.{need, required, cover_of}
 use Rattle.cover_pick.specs.Schedule.{AtMost, FromRoot, IsRuled}
+use Rattle.cover_pick.specs.Uses.{uses, cost_of}
+use Rattle.cover_pick.specs.Rounds.{PlanValue}
 
 -- A rule of choice keeps within the required depth: wherever a node's label is at most a depth, the choice is one of the node's cuts, of no greater height.
 pub record Chooses (g : Aig) (cuts : ℕ → List (List ℕ)) (label : ℕ → ℕ) (choice : ℕ → ℕ → List ℕ) : Type 0 where
@@ -71,3 +67,33 @@ pub record IsPlanned (rule : Rule) (g : Aig) (rows : List (List (List ℕ))) (la
   pub timely : (n r : ℕ) → IsAnd g n → need (depths_of rule g rows label roots flows) n ≡ Some r → HasDepth g cover n r
   pub size : length (depths_of rule g rows label roots flows) ≡ node_count g
   pub least : (k : ℕ) → AreRows g k (node_count g) rows → IsLeastCover g k roots cover (target g label roots)
+
+-- the plan that the walk finds by some flows
+abbrev pub plan_by : Aig → List (List (List ℕ)) → (ℕ → ℕ) → List ℕ → List ℕ → PlanValue
+plan_by g rows label roots flows = record { reqs = and_depths g (depths_of LeastCost g rows label roots flows); cover = plan_of LeastCost g rows label roots flows }
+
+-- the flows of the round after that by some flows
+abbrev pub next_flows : Aig → List (List (List ℕ)) → (ℕ → ℕ) → List ℕ → Scope → List ℕ → List ℕ
+next_flows g rows label roots scope flows = flows_by g rows label scope (uses g (plan_of LeastCost g rows label roots flows))
+
+abbrev pub cost_by : Aig → List (List (List ℕ)) → (ℕ → ℕ) → List ℕ → List ℕ → ℕ
+cost_by g rows label roots flows = cost_of g (plan_of LeastCost g rows label roots flows)
+
+-- of two flows those whose plan costs less, the first ones where both cost the same
+abbrev pub cheaper_flows : Aig → List (List (List ℕ)) → (ℕ → ℕ) → List ℕ → List ℕ → List ℕ → List ℕ
+cheaper_flows g rows label roots first second = if nat_lt (cost_by g rows label roots second) (cost_by g rows label roots first) then second else first
+
+-- of the first three rounds that begin with these flows
+abbrev pub three_rounds : Aig → List (List (List ℕ)) → (ℕ → ℕ) → List ℕ → Scope → List ℕ → List ℕ
+three_rounds g rows label roots scope flows =
+    cheaper_flows g rows label roots (cheaper_flows g rows label roots flows (next_flows g rows label roots scope flows)) (next_flows g rows label roots scope (next_flows g rows label roots scope flows))
+
+-- of the rounds over all cuts and those over the cuts of the least height
+abbrev pub least_flows : Aig → List (List (List ℕ)) → (ℕ → ℕ) → List ℕ → List ℕ
+least_flows g rows label roots =
+    cheaper_flows g rows label roots (three_rounds g rows label roots AnyHeight (flows_by g rows label AnyHeight (fan_out g))) (three_rounds g rows label roots LeastHeight (flows_by g rows label LeastHeight (fan_out g)))
+
+-- the flows of a rule's plan
+abbrev pub flows_for : Rule → Aig → List (List (List ℕ)) → (ℕ → ℕ) → List ℕ → List ℕ
+flows_for FewestLeaves g rows label roots = []
+flows_for LeastCost g rows label roots = least_flows g rows label roots

@@ -1,6 +1,6 @@
 -- How the required depths are found: the AND nodes are taken in descending order, and each needed one requires the leaves of its chosen cut.
 use Rattle.std.specs.Prelude.{ℕ, zero, suc, ◌+◌, ◌-◌, ◌/◌, min, if◌then◌else◌, ◌==◌, nat_lt, List, [], ◌∷◌, length, Option, Some, None, slice_set, slice_index_or, replicate}
-use Rattle.aig_core.specs.Aig.{Aig, first_and, node_count}
+use Rattle.cover_pick.specs.Words.{Aig, first_and, node_count}
 
 -- the required depth of a node, if it is needed so far
 abbrev pub need : List (Option ℕ) → ℕ → Option ℕ

@@ -1,12 +1,7 @@
 -- Rounds: plans each of which is made by flows over what the one before it uses, and the first plan of the least cost.
 use Rattle.std.specs.Prelude.{◌≡◌, ℕ, ◌<◌, ◌≤◌, List, [], ◌∷◌, ◌++◌, length, Option, ◌⊎◌}
-use Rattle.aig_core.specs.Aig.{Aig}
-use Rattle.list_laws.specs.Members.{In}
-use Rattle.cover_pick.specs.declared.rule.Rule.TheVariants.{LeastCost}
-use Rattle.cover_pick.specs.declared.scope.Scope.{Scope}
-use Rattle.cover_pick.specs.declared.scope.Scope.TheVariants.{AnyHeight, LeastHeight}
-use Rattle.cover_pick.specs.Flow.{flow_at, fan_out}
-use Rattle.cover_pick.specs.Allowed.{flows_by}
+use Rattle.cover_pick.specs.Words.{Aig, In, LeastCost, FewestLeaves, Scope, AnyHeight, LeastHeight, Rule}
+use Rattle.cover_pick.specs.Flow.{flow_at, fan_out, flows_by}
 use Rattle.cover_pick.specs.Schedule.{IsPlanBy}
 use Rattle.cover_pick.specs.Uses.{uses, cost_of}
 
@@ -41,3 +36,12 @@ pub record IsLeastOfRounds (g : Aig) (rows : List (List (List ℕ))) (label : �
   pub first : IsFirst g plan (any ++ low)
   pub depths : (n : ℕ) → reqs n ≡ plan.reqs n
   pub cuts : (n : ℕ) → cover n ≡ plan.cover n
+
+-- no node has a flow
+abbrev pub no_flow : ℕ → ℕ
+no_flow m = 0
+
+-- The required depths and the chosen cuts of a rule: the fewest leaves need no flows, and the least cost is that of six plans, each by flows of its own.
+abbrev pub IsPlan : Rule → Aig → List (List (List ℕ)) → (ℕ → ℕ) → List ℕ → (ℕ → Option ℕ) → (ℕ → Option (List ℕ)) → Type 0
+IsPlan FewestLeaves g rows label roots reqs cover = IsPlanBy FewestLeaves g rows label roots no_flow reqs cover
+IsPlan LeastCost g rows label roots reqs cover = IsLeastOfRounds g rows label roots reqs cover

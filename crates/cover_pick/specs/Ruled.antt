@@ -1,14 +1,70 @@
 -- How the cut of a node is found by a rule, in the walk of the required depths.
-use Rattle.std.specs.Prelude.{ℕ, List, length, Option, None}
-use Rattle.aig_core.specs.Aig.{Aig, first_and}
-use Rattle.cut_enum.specs.Table.{row_at}
-use Rattle.cover_pick.specs.declared.rule.Rule.{Rule}
-use Rattle.cover_pick.specs.declared.rule.Rule.TheVariants.{FewestLeaves, LeastCost}
+use Rattle.std.specs.Prelude.{ℕ, List, length, Option, None, ◌≡◌, ◌<◌, ◌&&◌, if◌then◌else◌, ◌==◌, nat_lt, [], ◌∷◌, Some, slice_index_or, ◌+◌, ◌^◌, ◌≤◌, sum_by}
+use Rattle.cover_pick.specs.Words.{Aig, first_and, row_at, Rule, FewestLeaves, LeastCost, height, MOST_FLOW}
 pub use Rattle.depth_label.specs.Fold.{or_empty}
 use Rattle.cover_pick.specs.Target.{target}
-use Rattle.cover_pick.specs.Fewest.{fewest}
-use Rattle.cover_pick.specs.Cheapest.{cut_cost, cheapest}
-use Rattle.cover_pick.specs.Required.{met_at, roots_required}
+use Rattle.cover_pick.specs.Required.{met_at, roots_required, need}
+use Rattle.cover_pick.specs.declared.choice.Candidate.{Candidate}
+use Rattle.cover_pick.specs.declared.cost.Offer.{Offer}
+use Rattle.cover_pick.specs.Flow.{flow_at}
+
+-- what a leaf of this flow costs, which is needed by a depth, or not yet
+abbrev pub cost_where : Option ℕ → ℕ → ℕ
+cost_where None flow = flow
+cost_where (Some r) flow = 0
+
+abbrev pub leaf_cost : List ℕ → List (Option ℕ) → ℕ → ℕ
+leaf_cost flows reqs m = cost_where (need reqs m) (flow_at flows m)
+
+abbrev pub cut_cost : List ℕ → List (Option ℕ) → List ℕ → ℕ
+cut_cost flows reqs c = 2 ^ length c + sum_by (leaf_cost flows reqs) c
+
+-- no flow is greater than the most
+abbrev pub AreCapped : List ℕ → Type 0
+AreCapped flows = (m : ℕ) → flow_at flows m ≤ MOST_FLOW
+
+-- the cheaper of a cut that was found and a later one
+abbrev pub cheaper : (List ℕ → ℕ) → Option (List ℕ) → List ℕ → Option (List ℕ)
+cheaper cost None c = Some c
+cheaper cost (Some b) c = if nat_lt (cost c) (cost b) then Some c else Some b
+
+-- the same where the later one is low enough
+abbrev pub cheaper_low : (List ℕ → ℕ) → (ℕ → ℕ) → ℕ → Option (List ℕ) → List ℕ → Option (List ℕ)
+cheaper_low cost label r best c = if nat_lt r (height label c) then best else cheaper cost best c
+
+-- the cheapest cut of a list for a required depth, if one is low enough
+abbrev pub cheapest : (List ℕ → ℕ) → (ℕ → ℕ) → ℕ → Option (List ℕ) → List (List ℕ) → Option (List ℕ)
+cheapest cost label r best [] = best
+cheapest cost label r best (c ∷ cs) = cheapest cost label r (cheaper_low cost label r best c) cs
+
+-- an offer tells of a cut of a list, with what it costs, or none of none
+abbrev pub IsOffer : (List ℕ → ℕ) → List (List ℕ) → Option Offer → Option (List ℕ) → Type 0
+IsOffer cost cs None None = Unit {0}
+IsOffer cost cs None (Some c) = ⊥
+IsOffer cost cs (Some b) None = ⊥
+IsOffer cost cs (Some b) (Some c) = (b.place < length cs) × (slice_index_or cs b.place [] ≡ c) × (b.cost ≡ cost c)
+
+-- the better of two cuts, where the second has no fewer leaves and comes later: it is taken where it is the first one low enough, or has as few leaves and a lower height
+abbrev pub better : (ℕ → ℕ) → ℕ → Option (List ℕ) → List ℕ → Option (List ℕ)
+better label r None c = if nat_lt r (height label c) then None else Some c
+better label r (Some b) c = if (length c == length b) && nat_lt (height label c) (height label b) then Some c else Some b
+
+-- the best cut of an ordered list for a required depth, if one is low enough
+abbrev pub fewest : (ℕ → ℕ) → ℕ → Option (List ℕ) → List (List ℕ) → Option (List ℕ)
+fewest label r best [] = best
+fewest label r best (c ∷ cs) = fewest label r (better label r best c) cs
+
+-- a place tells of a cut of a list, with the number of its leaves and its height, or none of none
+abbrev pub IsAt : (ℕ → ℕ) → List (List ℕ) → Option Candidate → Option (List ℕ) → Type 0
+IsAt label cs None None = Unit {0}
+IsAt label cs None (Some c) = ⊥
+IsAt label cs (Some b) None = ⊥
+IsAt label cs (Some b) (Some c) = (b.place < length cs) × (slice_index_or cs b.place [] ≡ c) × (b.len ≡ length c) × (b.height ≡ height label c)
+
+-- there is one of fewer leaves
+abbrev pub IsShorter : Option Candidate → ℕ → Type 0
+IsShorter None len = ⊥
+IsShorter (Some b) len = b.len < len
 
 -- the cut that is found in a row for a required depth, where these nodes are needed so far
 abbrev pub found_in : Rule → (ℕ → ℕ) → List ℕ → List (Option ℕ) → List (List ℕ) → ℕ → Option (List ℕ)

@@ -1,11 +1,7 @@
 -- Which AND nodes are needed, by which depth, and by which cut.
 use Rattle.std.specs.Prelude.{◌≡◌, ℕ, ◌-◌, ◌/◌, ◌≤◌, List, Option, Some, None, ◌⊎◌}
-use Rattle.aig_core.specs.Aig.{Aig, IsAnd}
-use Rattle.list_laws.specs.Members.{In}
-use Rattle.cut_enum.specs.Table.{row_at}
+use Rattle.cover_pick.specs.Words.{Aig, IsAnd, In, row_at, Rule, FewestLeaves, LeastCost}
 use Rattle.cover_pick.specs.Target.{target}
-use Rattle.cover_pick.specs.declared.rule.Rule.{Rule}
-use Rattle.cover_pick.specs.declared.rule.Rule.TheVariants.{FewestLeaves, LeastCost}
 use Rattle.cover_pick.specs.Choice.{IsChosen}
 use Rattle.cover_pick.specs.Sharing.{IsNeededAbove, IsCheapest}
 

@@ -1,8 +1,6 @@
 -- What a cut costs where some nodes are needed already, and the cut of the least cost.
 use Rattle.std.specs.Prelude.{◌≡◌, ℕ, ◌+◌, ◌/◌, ◌^◌, ◌<◌, ◌≤◌, true, List, [], ◌∷◌, length, Option, Some, ◌⊎◌}
-use Rattle.list_laws.specs.Members.{In}
-use Rattle.cut_sets.specs.Sets.{before}
-use Rattle.depth_label.specs.Label.{height}
+use Rattle.cover_pick.specs.Words.{In, before, height}
 
 -- m is needed from above n: it is a root's node, or a leaf of the chosen cut of a node above n
 pub data IsNeededAbove (roots : List ℕ) (cover : ℕ → Option (List ℕ)) (n m : ℕ) : Type 0 where

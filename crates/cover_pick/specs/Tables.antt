@@ -1,9 +1,6 @@
 -- The needed literals and their LUTs.
 use Rattle.std.specs.Prelude.{◌≡◌, ℕ, ◌*◌, ◌/◌, ◌%◌, List, [], ◌∷◌, Option, Some}
-use Rattle.aig_core.specs.Aig.{Aig, IsSource}
-use Rattle.aig_core.specs.declared.lit.Kind.TheVariants.{Regular, Parameter}
-use Rattle.list_laws.specs.Members.{In}
-use Rattle.cover_pick.specs.declared.lut.Lut.{Lut}
+use Rattle.cover_pick.specs.Words.{Aig, IsSource, Regular, Parameter, In, Lut}
 use Rattle.cover_pick.specs.Mapping.{AscendByLit, HaveBases, bits_of}
 
 -- a literal is needed: a root, or the positive literal of a leaf of a chosen cut

@@ -1,9 +1,6 @@
 -- The target depth of some roots.
 use Rattle.std.specs.Prelude.{ℕ, ◌-◌, ◌/◌, ◌%◌, if◌then◌else◌, ◌==◌, nat_lt, List, Option, Some, None, slice_get}
-use Rattle.aig_core.specs.Aig.{Aig, first_and}
-use Rattle.aig_core.specs.declared.lit.Kind.{Kind}
-use Rattle.aig_core.specs.declared.lit.Kind.TheVariants.{Regular, Parameter}
-use Rattle.depth_label.specs.Label.{greatest}
+use Rattle.cover_pick.specs.Words.{Aig, first_and, Kind, Regular, Parameter, greatest}
 
 -- what a source of this kind counts as a root, in this phase
 abbrev pub kind_level : Option Kind → ℕ → ℕ

@@ -1,14 +1,7 @@
 -- The chosen template of a graph for some roots.
 use Rattle.std.specs.Prelude.{◌≡◌, ℕ, suc, ◌*◌, ◌/◌, ◌%◌, ◌<◌, ◌≤◌, List, [], Option, Some}
-use Rattle.aig_core.specs.Aig.{Aig, first_and, IsAnd, IsSource}
-use Rattle.aig_core.specs.declared.lit.Kind.TheVariants.{Regular}
-use Rattle.aig_core.specs.declared.lit.Lit.{Lit}
-use Rattle.aig_core.specs.Roots.{RootsValue, roots_of}
-use Rattle.list_laws.specs.Members.{In}
-use Rattle.cover_pick.specs.declared.rule.Rule.{Rule}
-use Rattle.cover_pick.specs.declared.limits.TheConstants.{MOST_WORK}
-use Rattle.cover_pick.specs.declared.lut.Lut.{Lut}
-use Rattle.cover_pick.specs.Plan.{IsPlan}
+use Rattle.cover_pick.specs.Words.{Aig, first_and, IsAnd, IsSource, Regular, Lit, RootsValue, roots_of, In, Rule, MOST_WORK, Lut}
+use Rattle.cover_pick.specs.Rounds.{IsPlan}
 use Rattle.cover_pick.specs.Tables.{HasTable, AreTables}
 use Rattle.cover_pick.specs.Work.{IsWork}
 

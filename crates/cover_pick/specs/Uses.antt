@@ -1,7 +1,6 @@
 -- How often a cover uses each node, and what a cover costs.
 use Rattle.std.specs.Prelude.{ℕ, zero, suc, ◌+◌, ◌^◌, if◌then◌else◌, ◌==◌, List, length, sum_by, Option, Some, None}
-use Rattle.aig_core.specs.Aig.{Aig, node_count}
-use Rattle.cover_pick.specs.declared.limits.TheConstants.{TABLE_PRICE}
+use Rattle.cover_pick.specs.Words.{Aig, node_count, TABLE_PRICE}
 
 -- how often a node is among some leaves: a cut names no leaf twice
 abbrev pub times_in : ℕ → List ℕ → ℕ

@@ -1,11 +1,6 @@
 -- The work of LUTs: what it takes to make the functions of their bits.
 use Rattle.std.specs.Prelude.{◌≡◌, ℕ, ◌+◌, ◌*◌, ◌/◌, ◌^◌, ◌≤◌, List, [], ◌∷◌, length}
-use Rattle.aig_core.specs.Aig.{Aig, IsAnd, IsNode}
-use Rattle.aig_core.specs.declared.lit.Pair.{Pair}
-use Rattle.list_laws.specs.Members.{In}
-use Rattle.list_laws.specs.Order.{IsDescending}
-use Rattle.cover_pick.specs.declared.limits.TheConstants.{MOST_WORK}
-use Rattle.cover_pick.specs.declared.lut.Lut.{Lut}
+use Rattle.cover_pick.specs.Words.{Aig, IsAnd, IsNode, Pair, In, IsDescending, MOST_WORK, Lut}
 
 -- an AND node that is no leaf
 pub record IsInner (g : Aig) (leaves : List ℕ) (n : ℕ) : Type 0 where

@@ -3,9 +3,7 @@ ghost use Rattle.std.specs.Prelude.{◌≡◌, ℕ, ◌<◌, ◌≤◌, true, Li
 ghost use Rattle.cut_sets.specs.Sets.{IsOrdered};
 ghost use Rattle.cut_enum.specs.Table.{row_at};
 ghost use Rattle.depth_label.specs.Label.{height, label_of};
-ghost use Rattle.cover_pick.specs.Fewest.{IsAt, IsShorter, better as the_better, fewest as the_fewest};
-ghost use Rattle.cover_pick.specs.Cheapest.{AreCapped};
-ghost use Rattle.cover_pick.specs.Ruled.{found_in};
+ghost use Rattle.cover_pick.specs.Ruled.{IsAt, IsShorter, better as the_better, fewest as the_fewest, found_in, AreCapped};
 ghost use Rattle.cover_pick.specs.Places.{cut_of};
 
 use crate::cost::cheapest;

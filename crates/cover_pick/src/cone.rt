@@ -1,8 +1,7 @@
 //! The number of AND nodes that a LUT computes.
 ghost use Rattle.std.specs.Prelude.{◌≡◌, ℕ, ◌+◌, ◌/◌, ◌<◌, ◌≤◌, ◌^◌, length, OnOk, IfOk};
 ghost use Rattle.aig_core.specs.Aig.{first_and, node_count, AreNormal};
-ghost use Rattle.cover_pick.specs.Cone.{is_stop as ends_way, cone_of};
-ghost use Rattle.cover_pick.specs.Search.{stamp_at, reach as reached_by};
+ghost use Rattle.cover_pick.specs.Cone.{is_stop as ends_way, cone_of, stamp_at, reach as reached_by};
 
 use aig_core::{Graph, Pair};
 use std::alloc::{AllocError, Global};
@@ -16,7 +15,7 @@ pub struct Search {
 }
 
 impl Model for Search {
-    ghost use Rattle.cover_pick.specs.Search.{SearchValue};
+    ghost use Rattle.cover_pick.specs.Cone.{SearchValue};
 
     ghost Value = { SearchValue };
 
@@ -32,7 +31,7 @@ fn is_stop(graph: &Graph, leaves: &[u32], n: u32) -> bool
 
 impl Search {
     ghost use Rattle.std.specs.Prelude.{[], replicate};
-    ghost use Rattle.cover_pick.specs.Search.{SearchValue};
+    ghost use Rattle.cover_pick.specs.Cone.{SearchValue};
 
     // A search of a graph in which no node is stamped.
     pub fn start(alloc: Global, graph: &Graph) -> Result<Search, AllocError>

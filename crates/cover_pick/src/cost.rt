@@ -6,7 +6,7 @@ ghost use Rattle.depth_label.specs.Label.{height, label_of};
 ghost use Rattle.cover_pick.specs.declared.limits.TheConstants.{MOST_FLOW};
 ghost use Rattle.cover_pick.specs.Flow.{flow_at};
 ghost use Rattle.cover_pick.specs.Required.{need as need_of};
-ghost use Rattle.cover_pick.specs.Cheapest.{AreCapped, IsOffer, cost_where as the_cost_where, leaf_cost as the_leaf_cost, cut_cost as the_cut_cost, cheaper as the_cheaper, cheaper_low as the_cheaper_low, cheapest as the_cheapest};
+ghost use Rattle.cover_pick.specs.Ruled.{AreCapped, IsOffer, cost_where as the_cost_where, leaf_cost as the_leaf_cost, cut_cost as the_cut_cost, cheaper as the_cheaper, cheaper_low as the_cheaper_low, cheapest as the_cheapest};
 
 use crate::tables::table_bits;
 use cut_enum::CutTable;

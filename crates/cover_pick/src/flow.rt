@@ -4,9 +4,8 @@ ghost use Rattle.aig_core.specs.Aig.{first_and, node_count};
 ghost use Rattle.cut_enum.specs.Table.{row_at};
 ghost use Rattle.depth_label.specs.Label.{label_of};
 ghost use Rattle.cover_pick.specs.declared.limits.TheConstants.{MOST_FLOW};
-ghost use Rattle.cover_pick.specs.Flow.{cut_flow as the_cut_flow, least_flow as the_least_flow, node_flow as the_node_flow};
-ghost use Rattle.cover_pick.specs.Allowed.{allowed, allowed_row, allowed_flow as the_allowed_flow, flows_by as the_flows_by};
-ghost use Rattle.cover_pick.specs.Cheapest.{AreCapped};
+ghost use Rattle.cover_pick.specs.Flow.{cut_flow as the_cut_flow, least_flow as the_least_flow, node_flow as the_node_flow, allowed, allowed_row, allowed_flow as the_allowed_flow, flows_by as the_flows_by};
+ghost use Rattle.cover_pick.specs.Ruled.{AreCapped};
 ghost use Rattle.cover_pick.specs.Counts.{AreCounted, count_at, count_one as one_counted, count_pair as pair_counted};
 ghost use Rattle.cover_pick.specs.Planned.{AreFlows};
 

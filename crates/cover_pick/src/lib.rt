@@ -39,7 +39,7 @@
 //! The contract of `pick_by` says three things about its LUTs: the rule chooses them (`specs/Template.antt`, `IsTemplate`),
 //! they map the graph (`specs/Mapping.antt`, `IsMapping`), and no cover of the graph is less deep (`IsLeast`, same file). The
 //! rule is defined by relations alone, independently of the pass that finds the answer: required depths and chosen cuts by
-//! `IsPlan` (`specs/Plan.antt`), the LUTs by `AreTables`, and the work by the cones as sets of nodes (`specs/Work.antt`).
+//! `IsPlan` (`specs/Rounds.antt`), the LUTs by `AreTables`, and the work by the cones as sets of nodes (`specs/Work.antt`).
 //! `IsPlan` is `IsPlanBy` some flows (`specs/Schedule.antt`), and `specs/Rounds.antt` says which flows these are for the least
 //! cost. The least depth holds of every plan by flows. A graph with its cuts, labels and roots has exactly one plan, one
 //! template and one work. So too much work is always reported.

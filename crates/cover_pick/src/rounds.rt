@@ -4,12 +4,10 @@ ghost use Rattle.aig_core.specs.Aig.{first_and, node_count, AreNormal};
 ghost use Rattle.aig_core.specs.Roots.{lits_of, AreRoots};
 ghost use Rattle.depth_label.specs.Label.{label_of, IsCutTable, AreLabelled};
 ghost use Rattle.cover_pick.specs.declared.rule.Rule.TheVariants.{LeastCost};
-ghost use Rattle.cover_pick.specs.Flow.{fan_out};
-ghost use Rattle.cover_pick.specs.Allowed.{flows_by as the_flows_by};
+ghost use Rattle.cover_pick.specs.Flow.{fan_out, flows_by as the_flows_by};
 ghost use Rattle.cover_pick.specs.Counts.{AreCounted, count_at};
 ghost use Rattle.cover_pick.specs.Uses.{cost_of as the_cost_of};
-ghost use Rattle.cover_pick.specs.Planned.{cut_at, IsPlanned};
-ghost use Rattle.cover_pick.specs.Rounded.{three_rounds as the_three_rounds, least_flows, flows_for};
+ghost use Rattle.cover_pick.specs.Planned.{cut_at, IsPlanned, three_rounds as the_three_rounds, least_flows, flows_for};
 
 use crate::cuts::{ChosenCuts, cuts_by};
 use crate::flow::{fan_outs, flows_by};

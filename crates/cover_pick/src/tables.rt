@@ -6,7 +6,7 @@ ghost use Rattle.list_laws.specs.Members.{In};
 ghost use Rattle.cut_enum.specs.declared.limits.TheConstants.{MOST_LEAVES};
 ghost use Rattle.tl_fault.specs.OrMemory.{OrMemory};
 ghost use Rattle.cover_pick.specs.Refusals.{refusal_of};
-ghost use Rattle.cover_pick.specs.Search.{stamp_at};
+ghost use Rattle.cover_pick.specs.Cone.{stamp_at};
 ghost use Rattle.cover_pick.specs.Marks.{leaves_of as the_leaves, add_table as with_table, add_marked as with_marked, tables_from, tables_of, IsMarked, AreMade};
 
 use crate::cone::Search;

@@ -1,5 +1,5 @@
 -- What the proofs of this crate cite of other crates, and its own definitions, passed on from one place.
-pub use Rattle.std.proofs.Common.{◌≡◌, ℕ, suc, ◌/◌, ◌<◌, ◌≤◌, true, false, List, [], ◌∷◌, length, refl, sym, ◌∙◌, subst, inl, inr, ◌⊎◌, arith, zero, ◌+◌, ◌-◌, Some, ap, ◌*◌, ◌^◌, min, Bool, ◌||◌, get_or, map, take, drop, slice_range, length-drop, ◌++◌, append_assoc, length-append, cond, eqb, ltb, sum_by, Result, Ok, Err, IfOk, IfErr, Option, None, max, bit_or, ◌%◌, count_ones, MatchOption, IfSome, IfNone, vec_len}
+pub use Rattle.std.proofs.Common.{◌≡◌, ℕ, suc, ◌/◌, ◌<◌, ◌≤◌, true, false, List, [], ◌∷◌, length, refl, sym, ◌∙◌, subst, inl, inr, ◌⊎◌, arith, zero, ◌+◌, ◌-◌, Some, ap, ◌*◌, ◌^◌, min, Bool, ◌||◌, get_or, map, take, drop, slice_range, length-drop, ◌++◌, append_assoc, length-append, cond, eqb, ltb, sum_by, Result, Ok, Err, IfOk, IfErr, Option, None, max, bit_or, ◌%◌, count_ones, MatchOption, IfSome, IfNone, vec_len, rules}
 pub use Rattle.std.proofs.lemmas.Bool.{false≢true, cases_Bool, cases_lt, or_cases, or_parts, both_ways, eqb-true, eqb-false, ltb-false, cases_order, ltb-true, eq-eqb, and_parts, or_left, or_right, and_from}
 pub use Rattle.std.proofs.lemmas.List.{length-take, take_all, take_more_set, append-nil, length-take-le, get_or_append_left, get_or_push, get_or-map, take-map, drop-map, map-append, take-append-drop, drop_more, drop_all, get_or_past, get_or-append-add, get_or-take, get_or-drop, length-map, take-append-le, drop-append-le, get_or_default, ext_get_or, get_or_read}
 pub use Rattle.std.proofs.lemmas.List.Sums.{sum_by-cons, sum_by_push}

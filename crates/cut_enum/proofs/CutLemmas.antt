@@ -1,5 +1,5 @@
 -- The least unions of the sets of two fan-ins are the minimal cuts of the node.
-use Rattle.cut_enum.proofs.Common.{◌≡◌, ℕ, suc, ◌/◌, ◌<◌, ◌≤◌, true, false, List, [], ◌∷◌, length, refl, sym, ◌∙◌, subst, inl, inr, ◌⊎◌, arith, Aig, first_and, IsAnd, IsNormal, AreNormal, Regular, Parameter, Pair, In, Within, IsAscending, AreApart, union, merged, starts_empty, with_own, IsSource, IsNode, Blocks, member, constant, parameter, fan_ins, CanBeLeaf, IsCut, IsMinimal, AreMinimal, Covers, Blocks-within, regular_blocked, contains_one, length_within, same_within, false≢true, choose}
+use Rattle.cut_enum.proofs.Common.{◌≡◌, ℕ, suc, ◌/◌, ◌<◌, ◌≤◌, true, false, List, [], ◌∷◌, length, refl, sym, ◌∙◌, subst, inl, inr, ◌⊎◌, arith, Aig, first_and, IsAnd, IsNormal, AreNormal, Regular, Parameter, Pair, In, Within, IsAscending, AreApart, union, merged, starts_empty, with_own, IsSource, IsNode, Blocks, member, constant, parameter, fan_ins, CanBeLeaf, IsCut, IsMinimal, AreMinimal, Covers, Blocks-within, regular_blocked, contains_one, length_within, same_within, false≢true, choose, rules}
 use Rattle.aig_core.proofs.NodeLemmas.{source_below, same_pair}
 use Rattle.cut_enum.proofs.SetLemmas.{union_left, union_right, In-union, IsAscending-union, union_within}
 use Rattle.cut_enum.proofs.LevelLemmas.{IsRising, IsRising-ordered, first_least}
@@ -56,8 +56,7 @@ module _ (g : Aig) (k n : ℕ) (p : Pair) (xs ys : List (List ℕ)) (node : IsNo
   least_cut : (c : List ℕ) → In (merged k xs ys) c → (d : List ℕ) → IsCut g k n d → Within d c → d ≡ c
   least_cut c i d cut w =
       let r : Covers (merged k xs ys) d = covered d cut in
-      let e : r.by ≡ c = least_of.apart r.by c r.in' i (λ l j. w l (r.part l j)) in
-      same_within d c cut.ascending (least_of.ascending c i) w (λ l j. r.part l (subst (λ s. In s l) (sym e) j))
+      same_within d c cut.ascending (least_of.ascending c i) w (λ l j. r.part l (subst (λ s. In s l) (sym (least_of.apart r.by c r.in' i (λ l j. w l (r.part l j)))) j))
 
   minimal_in : (c : List ℕ) → IsMinimal g k n c → In (merged k xs ys) c
   minimal_in c m =
@@ -87,8 +86,7 @@ front_apart g k n cs m some c d (inl p) (inr j) w =
     let i : In d n = w n (subst (λ s. In s n) (sym p) (inl refl)) in let b : n < n = ((m.only d j).cut.below n i).0 in absurd (omega arith)
 front_apart g k n cs m some [] d (inr i) (inl q) w = absurd (let l : 1 ≤ 0 = some [] i in omega arith)
 front_apart g k n cs m some (l ∷ ls) d (inr i) (inl q) w =
-    let b : l < n = ((m.only (l ∷ ls) i).cut.below l (inl refl)).0 in
-    let j : In (n ∷ []) l = subst (λ s. In s l) q (w l (inl refl)) in elim j [ inl e ↦ absurd (omega arith) | inr h ↦ absurd h ]
+    let j : In (n ∷ []) l = subst (λ s. In s l) q (w l (inl refl)) in elim j [ inl e ↦ absurd (omega (arith, ((m.only (l ∷ ls) i).cut.below l (inl refl)).0)) | inr h ↦ absurd h ]
 front_apart g k n cs m some c d (inr i) (inr j) w = (m.only d j).least c (m.only c i).cut w
 
 -- the front of an AND node without the empty cut: itself, and its cuts
@@ -122,9 +120,8 @@ some_leaves ([] ∷ cs) r e c i = absurd (false≢true (sym e))
 some_leaves ((l ∷ ls) ∷ cs) r e c i = let h : length (l ∷ ls) ≤ length c = first_least (l ∷ ls) cs c r i in omega arith
 
 first_empty : (cs : List (List ℕ)) → starts_empty cs ≡ true → In cs []
-first_empty [] e = absurd (false≢true e)
 first_empty ([] ∷ cs) e = inl refl
-first_empty ((l ∷ ls) ∷ cs) e = absurd (false≢true e)
+first_empty cs e = absurd (false≢true e)
 
 pub IsFront-node : (g : Aig) (k n : ℕ) (cs : List (List ℕ)) → AreNormal (first_and g) g.pairs → IsAnd g n → AreMinimal g k n cs → IsFront g k n (with_own n cs)
 IsFront-node g k n cs normal and m =
@@ -133,14 +130,7 @@ IsFront-node g k n cs normal and m =
 
 -- the front of the constant and of a parameter: the empty set
 pub IsFront-free : (g : Aig) (k n : ℕ) → Blocks g [] n → IsFront g k n ([] ∷ [])
-IsFront-free g k n b = record {
-  ascending = λ c i. elim i [ inl e ↦ subst IsAscending (sym e) tt | inr j ↦ absurd j ];
-  leaves = λ c l i h. elim i [ inl e ↦ absurd (subst (λ s. In s l) e h) | inr j ↦ absurd j ];
-  blocks = λ c i. elim i [ inl e ↦ subst (λ s. Blocks g s n) (sym e) b | inr j ↦ absurd j ];
-  contains = λ c up few _. record { by = []; in' = inl refl; part = λ l j. absurd j };
-  rising = ((λ c i. absurd i), tt);
-  apart = λ c d i j w. elim i [ inl p ↦ elim j [ inl q ↦ p ∙ sym q | inr h ↦ absurd h ] | inr h ↦ absurd h ];
-}
+IsFront-free g k n b = search rules
 
 regular_leaves : (g : Aig) (n : ℕ) → IsSource g Regular n → (c : List ℕ) (l : ℕ) → In ((n ∷ []) ∷ []) c → In c l → (l ≤ n) × CanBeLeaf g l
 regular_leaves g n s c l (inl e) h = elim (let i : In (n ∷ []) l = subst (λ s. In s l) e h in i) [ inl q ↦ (omega arith, subst (λ m. CanBeLeaf g m) (sym q) (inl s)) | inr j ↦ absurd j ]

@@ -1,5 +1,5 @@
 -- The words of a group, and the cuts that have them.
-use Rattle.cut_enum.proofs.Common.{◌≡◌, ℕ, suc, ◌+◌, ◌*◌, ◌-◌, ◌^◌, ◌<◌, ◌≤◌, min, Bool, false, ◌||◌, List, [], ◌∷◌, length, get_or, map, take, drop, slice_range, refl, sym, ap, ◌∙◌, arith, length-drop, list_any, length-take, GROUP, NoneClear, subset, signature_of}
+use Rattle.cut_enum.proofs.Common.{◌≡◌, ℕ, suc, ◌+◌, ◌*◌, ◌-◌, ◌^◌, ◌<◌, ◌≤◌, Bool, false, ◌||◌, List, [], ◌∷◌, length, get_or, map, drop, slice_range, refl, sym, ap, ◌∙◌, arith, length-drop, list_any, length-take, GROUP, NoneClear, subset, signature_of}
 use Rattle.std.proofs.lemmas.List.Folds.{drop_split, list_any-append}
 use Rattle.cut_enum.proofs.SignatureLemmas.{outside-subset}
 
@@ -13,9 +13,7 @@ none_clear cut outside o (d ∷ ds) l h =
 
 -- a whole group has so many words
 pub group_length : (words : List ℕ) (a : ℕ) → a + GROUP ≤ length words → length (slice_range words a (a + GROUP)) ≡ GROUP
-group_length words a l =
-    let d : length (drop a words) ≡ length words - a = length-drop a words in
-    let t : length (take (a + GROUP - a) (drop a words)) ≡ min (a + GROUP - a) (length (drop a words)) = length-take (a + GROUP - a) (drop a words) in omega arith
+group_length words a l = omega (arith, length-drop a words, length-take (a + GROUP - a) (drop a words))
 
 -- the cuts from a place on: those of a group, and the rest
 pub any_group : (cut : List ℕ) (cs : List (List ℕ)) (a b : ℕ) → a ≤ b → list_any (λ d. subset d cut) (drop a cs) ≡ (list_any (λ d. subset d cut) (slice_range cs a b) || list_any (λ d. subset d cut) (drop b cs))
@@ -25,7 +23,5 @@ any_group cut cs a b l = ap (λ s. list_any (λ d. subset d cut) s) (drop_split 
 pub group_passed : (cut : List ℕ) (cs : List (List ℕ)) (n : ℕ) (all : Bool) → list_any (λ d. subset d cut) (slice_range cs (n * GROUP) (n * GROUP + GROUP)) ≡ false → list_any (λ d. subset d cut) (drop (n * GROUP) cs) ≡ all
     → list_any (λ d. subset d cut) (drop ((n + 1) * GROUP) cs) ≡ all
 group_passed cut cs n all none e =
-    let after : (n + 1) * GROUP ≡ n * GROUP + GROUP = omega arith in
-    let step : list_any (λ d. subset d cut) (drop (n * GROUP) cs) ≡ list_any (λ d. subset d cut) (drop (n * GROUP + GROUP) cs) =
-    any_group cut cs (n * GROUP) (n * GROUP + GROUP) (omega arith) ∙ ap (λ b. b || list_any (λ d. subset d cut) (drop (n * GROUP + GROUP) cs)) none in
-    ap (λ a. list_any (λ d. subset d cut) (drop a cs)) after ∙ sym step ∙ e
+    let step = any_group cut cs (n * GROUP) (n * GROUP + GROUP) (omega arith) ∙ ap (λ b. b || list_any (λ d. subset d cut) (drop (n * GROUP + GROUP) cs)) none in
+    ap (λ a. list_any (λ d. subset d cut) (drop a cs)) (omega arith) ∙ sym step ∙ e

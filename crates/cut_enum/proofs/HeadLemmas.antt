@@ -21,46 +21,36 @@ rest_is x xs = take_all (length (x ∷ xs) - 1) xs (omega arith)
 
 -- The least head is the union's, and the union goes on with what is left.
 pub head_left : (xs ys : List ℕ) → IsAscending xs → 1 ≤ length xs → 1 ≤ length ys → get_or xs 0 0 < get_or ys 0 0 → union xs ys ≡ get_or xs 0 0 ∷ union (take (length xs - 1) (drop 1 xs)) ys
-head_left [] ys up a b l = absurd (omega arith)
-head_left (x ∷ xs) [] up a b l = absurd (omega arith)
 head_left (x ∷ xs) (y ∷ ys) up a b l =
     ap (λ s. union xs s) (put_before x y ys l) ∙ union_keep x xs (y ∷ ys) up.0 ∙ ap (λ s. x ∷ union s (y ∷ ys)) (sym (rest_is x xs))
+head_left xs ys up a b l = absurd (omega arith)
 
 pub head_right : (xs ys : List ℕ) → IsAscending xs → 1 ≤ length xs → 1 ≤ length ys → get_or ys 0 0 < get_or xs 0 0 → union xs ys ≡ get_or ys 0 0 ∷ union xs (take (length ys - 1) (drop 1 ys))
-head_right [] ys up a b l = absurd (omega arith)
-head_right (x ∷ xs) [] up a b l = absurd (omega arith)
 head_right (x ∷ xs) (y ∷ ys) up a b l =
     union_keep y (x ∷ xs) ys (λ n i. elim i [ inl e ↦ omega arith | inr j ↦ (let k : x < n = up.0 n j in omega arith) ])
     ∙ ap (λ s. y ∷ union (x ∷ xs) s) (sym (rest_is y ys))
+head_right xs ys up a b l = absurd (omega arith)
 
 pub head_both : (xs ys : List ℕ) → IsAscending xs → 1 ≤ length xs → 1 ≤ length ys → get_or ys 0 0 ≤ get_or xs 0 0 → get_or xs 0 0 ≤ get_or ys 0 0
     → union xs ys ≡ get_or xs 0 0 ∷ union (take (length xs - 1) (drop 1 xs)) (take (length ys - 1) (drop 1 ys))
-head_both [] ys up a b l m = absurd (omega arith)
-head_both (x ∷ xs) [] up a b l m = absurd (omega arith)
 head_both (x ∷ xs) (y ∷ ys) up a b l m =
     let e : x ≡ y = omega arith in
     ap (λ s. union xs s) (put_same x y ys e) ∙ ap (λ z. union xs (z ∷ ys)) (sym e) ∙ union_keep x xs ys up.0
     ∙ ap (λ s. x ∷ union s ys) (sym (rest_is x xs)) ∙ ap (λ s. x ∷ union (take (length (x ∷ xs) - 1) (drop 1 (x ∷ xs))) s) (sym (rest_is y ys))
+head_both xs ys up a b l m = absurd (omega arith)
 
 pub head_last : (xs ys : List ℕ) → IsAscending xs → 1 ≤ length xs → length ys < 1 → union xs ys ≡ get_or xs 0 0 ∷ union (take (length xs - 1) (drop 1 xs)) ys
-head_last [] ys up a b = absurd (omega arith)
-head_last (x ∷ xs) (y ∷ ys) up a b = absurd (omega arith)
 head_last (x ∷ xs) [] up a b = union_keep x xs [] up.0 ∙ ap (λ s. x ∷ union s []) (sym (rest_is x xs))
+head_last xs ys up a b = absurd (omega arith)
 
 -- one more element at the end of what is made
 pub joined_step : (leaves full rest more : List ℕ) (n x : ℕ) → n < length leaves → take n leaves ++ rest ≡ full → rest ≡ x ∷ more → take (n + 1) (slice_set leaves n x) ++ more ≡ full
-joined_step leaves full rest more n x l e r =
-    ap (λ s. s ++ more) (take_more_set leaves n x l) ∙ append_assoc (take n leaves) (x ∷ []) more ∙ ap (λ s. take n leaves ++ s) (sym r) ∙ e
+joined_step leaves full rest more n x l e r = grind (arith, take_more_set, append_assoc)
 
 -- where nothing is left, that is all
 pub joined_all : (leaves full rest : List ℕ) (n size : ℕ) → n ≡ size → take n leaves ++ rest ≡ full → rest ≡ [] → take size leaves ≡ full
-joined_all leaves full rest n size q e r =
-    ap (λ m. take m leaves) (sym q) ∙ sym (append-nil (take n leaves)) ∙ ap (λ s. take n leaves ++ s) (sym r) ∙ e
+joined_all leaves full rest n size q e r = grind (arith, append-nil)
 
 -- where one is left, there are more
 pub joined_more : (leaves full rest more : List ℕ) (n size x : ℕ) → n ≡ size → n ≤ length leaves → take n leaves ++ rest ≡ full → rest ≡ x ∷ more → length full ≡ size → ⊥
-joined_more leaves full rest more n size x q l e r h =
-    let a : length (take n leaves ++ rest) ≡ length (take n leaves) + length rest = length-append (take n leaves) rest in
-    let b : length (take n leaves) ≡ n = length-take-le n leaves l in
-    let c : length (take n leaves ++ rest) ≡ length full = ap length e in
-    let d : length rest ≡ length (x ∷ more) = ap length r in absurd (omega arith)
+joined_more leaves full rest more n size x q l e r h = grind (arith, length-append, length-take-le)

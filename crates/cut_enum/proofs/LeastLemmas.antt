@@ -18,14 +18,8 @@ IsOrdered-append (c ∷ cs) ds o p h =
 apart_joined : (n : ℕ) (base level : List (List ℕ)) (c d : List ℕ) → IsLeast n base → IsLevel n base level → In base c ⊎ In level c → In base d ⊎ In level d → Within c d → c ≡ d
 apart_joined n base level c d least more (inl i) (inl j) w = least.apart c d i j w
 apart_joined n base level c d least more (inl i) (inr j) w = absurd (more.clear d c j i w)
-apart_joined n base level c d least more (inr i) (inl j) w =
-    let a : length c ≡ n = more.exact c i in
-    let b : length d < n = least.short d j in
-    let l : length c ≤ length d = length_within d c (least.ascending d j) (more.ascending c i) w in absurd (omega arith)
-apart_joined n base level c d least more (inr i) (inr j) w =
-    let a : length c ≡ n = more.exact c i in
-    let b : length d ≡ n = more.exact d j in
-    same_length_within d c (more.ascending d j) (more.ascending c i) w (omega arith)
+apart_joined n base level c d least more (inr i) (inl j) w = grind (arith, length_within)
+apart_joined n base level c d least more (inr i) (inr j) w = grind (arith, same_length_within)
 
 -- those of n elements after those of fewer
 IsLeast-join : (n : ℕ) (base level : List (List ℕ)) → IsLeast n base → IsLevel n base level → IsLeast (suc n) (base ++ level)
@@ -108,19 +102,17 @@ module _ (xs ys : List (List ℕ)) (x_up : (c : List ℕ) → In xs c → IsAsce
   left_clear n apart d i l =
       below_clear n d
       (λ e u few w. let same : u.left ≡ d = apart u.left d u.in_left i (λ m j. w m (subst (λ s. In s m) (sym u.is) (union_right u.right u.left m j))) in
-      let a : length u.left ≡ length d = ap length same in
       let b : length e ≡ length (union u.right u.left) = ap length u.is in
       let c : length u.left ≤ length (union u.right u.left) =
-      length_within (union u.right u.left) u.left (IsAscending-union u.right u.left (x_up u.left u.in_left)) (x_up u.left u.in_left) (union_right u.right u.left) in omega arith)
+      length_within (union u.right u.left) u.left (IsAscending-union u.right u.left (x_up u.left u.in_left)) (x_up u.left u.in_left) (union_right u.right u.left) in omega (arith, ap length same))
 
   pub right_clear : (n : ℕ) → ((c d : List ℕ) → In ys c → In ys d → Within c d → c ≡ d) → AreClear n (unions_below n xs ys) ys
   right_clear n apart d i l =
       below_clear n d
       (λ e u few w. let same : u.right ≡ d = apart u.right d u.in_right i (λ m j. w m (subst (λ s. In s m) (sym u.is) (union_left u.right u.left m j))) in
-      let a : length u.right ≡ length d = ap length same in
       let b : length e ≡ length (union u.right u.left) = ap length u.is in
       let c : length u.right ≤ length (union u.right u.left) =
-      length_within (union u.right u.left) u.right (IsAscending-union u.right u.left (x_up u.left u.in_left)) (y_up u.right u.in_right) (union_left u.right u.left) in omega arith)
+      length_within (union u.right u.left) u.right (IsAscending-union u.right u.left (x_up u.left u.in_left)) (y_up u.right u.in_right) (union_left u.right u.left) in omega (arith, ap length same))
 
   -- each of the least unions is a union
   pub merged_only : (k : ℕ) (e : List ℕ) → In (merged k xs ys) e → IsUnionOf xs ys e
@@ -160,16 +152,12 @@ pub length-below : (xs ys : List (List ℕ)) (n more : ℕ) → length (unions_b
 length-below xs ys n zero = let q : 0 + n ≡ n = omega arith in let e : length (unions_below (0 + n) xs ys) ≡ length (unions_below n xs ys) = ap (λ m. length (unions_below m xs ys)) q in omega arith
 length-below xs ys n (suc more) =
     let q : suc more + n ≡ suc (more + n) = omega arith in
-    let l : length (unions_below (suc more + n) xs ys) ≡ length (unions_below (suc (more + n)) xs ys) = ap (λ m. length (unions_below m xs ys)) q in
-    let a : length (unions_below n xs ys) ≤ length (unions_below (more + n) xs ys) = length-below xs ys n more in
-    let b : length (unions_below (suc (more + n)) xs ys) ≡ length (unions_below (more + n) xs ys) + length (unions_at (more + n) (unions_below (more + n) xs ys) xs ys) =
-    length-append (unions_below (more + n) xs ys) (unions_at (more + n) (unions_below (more + n) xs ys) xs ys) in omega arith
+    omega (arith, ap (λ m. length (unions_below m xs ys)) q, length-below xs ys n more, length-append (unions_below (more + n) xs ys) (unions_at (more + n) (unions_below (more + n) xs ys) xs ys))
 
 pub sizes_step : (k : ℕ) (xs ys : List (List ℕ)) (n : ℕ) → n ≤ k → length (unions_below (suc n) xs ys) ≤ length (merged k xs ys)
 sizes_step k xs ys n l =
     let q : k - n + suc n ≡ suc k = omega arith in
-    let e : length (unions_below (k - n + suc n) xs ys) ≡ length (unions_below (suc k) xs ys) = ap (λ m. length (unions_below m xs ys)) q in
-    let m : length (unions_below (suc n) xs ys) ≤ length (unions_below (k - n + suc n) xs ys) = length-below xs ys (suc n) (k - n) in omega arith
+    omega (arith, ap (λ m. length (unions_below m xs ys)) q, length-below xs ys (suc n) (k - n))
 
 -- the same of the lists as the code has them
 pub left_clear_at : (size : ℕ) (base cs xs ys : List (List ℕ)) → AreApart xs → AreApart ys → base ≡ unions_below size xs ys → cs ≡ xs → AreClear size base cs

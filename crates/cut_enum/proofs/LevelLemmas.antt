@@ -4,9 +4,7 @@ use Rattle.cut_enum.proofs.SetLemmas.{subset_true, subset_from}
 
 -- `place` at a cell
 pub place_at : (P : List (List ℕ) → Type 0) (c d : List ℕ) (ds : List (List ℕ)) → (before c d ≡ true → P (c ∷ d ∷ ds)) → (before d c ≡ true → P (d ∷ place c ds)) → (c ≡ d → P (d ∷ ds)) → P (place c (d ∷ ds))
-place_at P c d ds first later same =
-    choose P (before c d) (c ∷ d ∷ ds) (cond (before d c) (d ∷ place c ds) (d ∷ ds)) first
-    (λ n. choose P (before d c) (d ∷ place c ds) (d ∷ ds) later (λ m. same (before_none c d n m)))
+place_at P c d ds first later same = grind (arith, cond, before_none)
 
 pub In-place : (c : List ℕ) (ds : List (List ℕ)) (e : List ℕ) → In (place c ds) e → (e ≡ c) ⊎ In ds e
 In-place c [] e h = h
@@ -62,8 +60,7 @@ holder_at P size base parts d level f t =
 
 union_at : (P : List (List ℕ) → Type 0) (size : ℕ) (base : List (List ℕ)) (c d : List ℕ) (level : List (List ℕ)) → ((length (union d c) ≡ size → ⊥) → P level)
     → (length (union d c) ≡ size → P (add base (union d c) level)) → P (add_union size base c d level)
-union_at P size base c d level f t =
-    choose P (eqb (length (union d c)) size) (add base (union d c) level) level (λ h. t (eqb-true (length (union d c)) size h)) (λ h. f (eqb-false (length (union d c)) size h))
+union_at P size base c d level f t = grind arith
 
 -- a union of another size isn't added
 pub union-other : (size : ℕ) (base : List (List ℕ)) (c d : List ℕ) (level : List (List ℕ)) → (length (union d c) ≡ size → ⊥) → add_union size base c d level ≡ level
@@ -183,9 +180,7 @@ module _ (size : ℕ) (base : List (List ℕ)) where
 
   holders_cover : (parts ds level : List (List ℕ)) (d : List ℕ) → In ds d → length d ≡ size → Covers parts d → Covers (base ++ add_holders size base parts ds level) d
   holders_cover parts [] level d i l r = absurd i
-  holders_cover parts (e ∷ ds) level d (inl q) l r =
-      subst (λ x. Covers (base ++ add_holders size base parts ds (add_holder size base parts x level)) d) q
-      (holders_old parts ds (add_holder size base parts d level) d (holder_covers parts d level l r))
+  holders_cover parts (e ∷ ds) level d (inl q) l r = grind (arith, holders_old, holder_covers)
   holders_cover parts (e ∷ ds) level d (inr i) l r = holders_cover parts ds (add_holder size base parts e level) d i l r
 
   union_covers : (c d : List ℕ) (level : List (List ℕ)) → length (union d c) ≡ size → Covers (base ++ add_union size base c d level) (union d c)
@@ -193,16 +188,12 @@ module _ (size : ℕ) (base : List (List ℕ)) where
 
   unions_cover : (c : List ℕ) (ds level : List (List ℕ)) (d : List ℕ) → In ds d → length (union d c) ≡ size → Covers (base ++ add_unions size base c ds level) (union d c)
   unions_cover c [] level d i l = absurd i
-  unions_cover c (e ∷ ds) level d (inl q) l =
-      subst (λ x. Covers (base ++ add_unions size base c ds (add_union size base c x level)) (union d c)) q
-      (unions_old c ds (add_union size base c d level) (union d c) (union_covers c d level l))
+  unions_cover c (e ∷ ds) level d (inl q) l = grind (arith, unions_old, union_covers)
   unions_cover c (e ∷ ds) level d (inr i) l = unions_cover c ds (add_union size base c e level) d i l
 
   pairs_cover : (cs ds level : List (List ℕ)) (c d : List ℕ) → In cs c → In ds d → length (union d c) ≡ size → Covers (base ++ add_pairs size base cs ds level) (union d c)
   pairs_cover [] ds level c d i j l = absurd i
-  pairs_cover (e ∷ cs) ds level c d (inl q) j l =
-      subst (λ x. Covers (base ++ add_pairs size base cs ds (add_unions size base x ds level)) (union d c)) q
-      (pairs_old cs ds (add_unions size base c ds level) (union d c) (unions_cover c ds level d j l))
+  pairs_cover (e ∷ cs) ds level c d (inl q) j l = grind (arith, pairs_old, unions_cover)
   pairs_cover (e ∷ cs) ds level c d (inr i) j l = pairs_cover cs ds (add_unions size base e ds level) c d i j l
 
   module _ (xs ys : List (List ℕ)) where
@@ -237,13 +228,3 @@ module _ (size : ℕ) (base : List (List ℕ)) (least : List (List ℕ)) where
 
   pub length-pairs : (cs ds level : List (List ℕ)) → length least ≤ length level → length least ≤ length (add_pairs size base cs ds level)
   length-pairs cs ds level h = pairs_keep size base (λ s. length least ≤ length s) (λ _. Unit {0}) more_there cs ds level (λ c d i j. tt) h
-
--- a set that has one of the others within it, and none of the smaller ones, is put at its place
-pub holder_put : (size : ℕ) (base parts : List (List ℕ)) (d : List ℕ) (level : List (List ℕ)) → length d ≡ size → list_any (λ c. subset c d) parts ≡ true → list_any (λ c. subset c d) base ≡ false
-    → add_holder size base parts d level ≡ place d level
-holder_put size base parts d level l t f =
-    choose (λ s. s ≡ place d level) (eqb (length d) size) (cond (list_any (λ c. subset c d) parts) (add base d level) level) level
-    (λ _. choose (λ s. s ≡ place d level) (list_any (λ c. subset c d) parts) (add base d level) level
-    (λ _. choose (λ s. s ≡ place d level) (list_any (λ c. subset c d) base) level (place d level) (λ u. absurd (both_ways (list_any (λ c. subset c d) base) f u)) (λ _. refl))
-    (λ u. absurd (both_ways (list_any (λ c. subset c d) parts) u t)))
-    (λ u. absurd (eqb-false (length d) size u l))

@@ -15,17 +15,12 @@ same_row g k m n i rows more within le a b l = elim (cases_lt i (first_and g)) [
 -- the rows up to a row, and it, are no more than all
 sum_within : (rows more : List (List (List ℕ))) (cuts : List (List ℕ)) → ((i : ℕ) → i < length rows → row_at rows i ≡ row_at more i) → length rows < length more → row_at more (length rows) ≡ cuts
     → sum_by length rows + length cuts ≤ sum_by length more
-sum_within [] [] cuts same l e = absurd (omega arith)
 sum_within [] (r ∷ more) cuts same l e =
-    let s : sum_by length (r ∷ more) ≡ length r + sum_by length more = sum_by-cons length r more in
     let q : length r ≡ length cuts = ap length e in
-    let z : sum_by (λ (q : List (List ℕ)). length q) [] ≡ 0 = refl in omega arith
-sum_within (q ∷ rows) [] cuts same l e = absurd (omega arith)
+    let z : sum_by (λ (q : List (List ℕ)). length q) [] ≡ 0 = refl in omega (arith, sum_by-cons length r more)
 sum_within (q ∷ rows) (r ∷ more) cuts same l e =
-    let a : sum_by length (q ∷ rows) ≡ length q + sum_by length rows = sum_by-cons length q rows in
-    let b : sum_by length (r ∷ more) ≡ length r + sum_by length more = sum_by-cons length r more in
-    let h : length q ≡ length r = ap length (same 0 (omega arith)) in
-    let t : sum_by length rows + length cuts ≤ sum_by length more = sum_within rows more cuts (λ i k. same (suc i) (omega arith)) (omega arith) e in omega arith
+    omega (arith, sum_by-cons length q rows, sum_by-cons length r more, ap length (same 0 (omega arith)), sum_within rows more cuts (λ i k. same (suc i) (omega arith)) (omega arith) e)
+sum_within rows [] cuts same l e = absurd (omega arith)
 
 -- what a table with a row of a node says of the node's cuts and of those up to it
 pub record IsWithin (rows : List (List (List ℕ))) (cuts : List (List ℕ)) : Type 0 where
@@ -34,14 +29,10 @@ pub record IsWithin (rows : List (List (List ℕ))) (cuts : List (List ℕ)) : T
 
 reached_within : (g : Aig) (k n m : ℕ) (rows more : List (List (List ℕ))) (cuts : List (List ℕ)) → m ≤ node_count g → n < m → Reaches g k n rows cuts → AreRows g k m more → IsWithin rows cuts
 reached_within g k n m rows more cuts within l r are =
-    let c : length rows ≡ n = r.below.count in
-    let d : length more ≡ m = are.count in
     let e : row_at more n ≡ cuts = minimal_once g k n (row_at more n) cuts (are.each n l r.node) r.are in
     let q : length (row_at more n) ≡ length cuts = ap length e in
-    let f : length (row_at more n) ≤ MOST_OF_A_NODE = are.few n in
-    let t : sum_by length more ≤ MOST_OF_A_TABLE = are.total in
     let s : sum_by length rows + length cuts ≤ sum_by length more =
-    sum_within rows more cuts (λ i h. same_row g k n m i rows more within (omega arith) r.below are (omega arith)) (omega arith) (ap (λ i. row_at more i) c ∙ e) in
+    sum_within rows more cuts (λ i h. same_row g k n m i rows more within (omega arith) r.below are (omega arith)) (omega arith) (ap (λ i. row_at more i) r.below.count ∙ e) in
     record { node = omega arith; total = omega arith }
 
 -- the node at which a limit is met, and what is too much there
@@ -74,12 +65,11 @@ not_both g k n m rows more cuts other a b l f =
 -- Two limits of one graph and k are equal.
 pub limit_once : (g : Aig) (k : ℕ) (e f : CutErr) → IsLimit g k e → IsLimit g k f → e ≡ f
 limit_once g k Memory f a b = absurd a
-limit_once g k (NodeCuts n) Memory a b = absurd b
-limit_once g k (TotalCuts n) Memory a b = absurd b
 limit_once g k (NodeCuts n) (NodeCuts m) a b = ap (λ i. NodeCuts i) (one_node g k n m a.0 b.0 a.1 b.1 (over_node g k n a.0 a.1 a.2 a.3) (over_node g k m b.0 b.1 b.2 b.3))
 limit_once g k (NodeCuts n) (TotalCuts m) a b = absurd (not_both g k n m a.0 b.0 a.1 b.1 (over_node g k n a.0 a.1 a.2 a.3) (over_total g k m b.0 b.1 b.2 b.4) a.3 b.3)
 limit_once g k (TotalCuts n) (NodeCuts m) a b = absurd (not_both g k m n b.0 a.0 b.1 a.1 (over_node g k m b.0 b.1 b.2 b.3) (over_total g k n a.0 a.1 a.2 a.4) b.3 a.3)
 limit_once g k (TotalCuts n) (TotalCuts m) a b = ap (λ i. TotalCuts i) (one_node g k n m a.0 b.0 a.1 b.1 (over_total g k n a.0 a.1 a.2 a.4) (over_total g k m b.0 b.1 b.2 b.4))
+limit_once g k e Memory a b = absurd b
 
 -- Where a limit is met there is no table.
 pub limit_excludes : (g : Aig) (k : ℕ) (e : CutErr) (rows : List (List (List ℕ))) → IsLimit g k e → AreRows g k (node_count g) rows → ⊥

@@ -1,6 +1,5 @@
 -- Where a leaf goes in an ascending list.
-use Rattle.cut_enum.proofs.Common.{◌≡◌, ℕ, zero, suc, ◌+◌, ◌<◌, ◌≤◌, List, [], ◌∷◌, length, get_or, refl, sym, ap, ◌∙◌, arith, drop, drop_more, drop_all, insert, put, union}
-use Rattle.std.proofs.lemmas.List.Edits.{length-insert}
+use Rattle.cut_enum.proofs.Common.{◌≡◌, ℕ, zero, suc, ◌<◌, ◌≤◌, List, [], ◌∷◌, length, get_or, refl, sym, ap, ◌∙◌, arith, drop, drop_more, drop_all, insert, put, union}
 use Rattle.cut_enum.proofs.SetLemmas.{put_at}
 
 -- the place of x in a list: those before it are less, and what stands there is not
@@ -28,20 +27,14 @@ put_there x (y ∷ ys) (suc i) p w e =
 pub put_insert : (x : ℕ) (ys : List ℕ) (i : ℕ) → IsPlace x ys i → (i < length ys → get_or ys i 0 ≡ x → ⊥) → put x ys ≡ insert ys i x
 put_insert x [] zero p n = refl
 put_insert x [] (suc i) p n = absurd (let w : suc i ≤ 0 = p.within in omega arith)
-put_insert x (y ∷ ys) zero p n =
-    let l : x ≤ y = p.above (omega arith) in
-    put_at (λ s. s ≡ x ∷ y ∷ ys) x y ys (λ a. refl) (λ a. absurd (n (omega arith) (sym a))) (λ a. absurd (omega arith))
+put_insert x (y ∷ ys) zero p n = grind arith
 put_insert x (y ∷ ys) (suc i) p n =
     let b : y < x = p.below 0 (omega arith) in
     put_at (λ s. s ≡ y ∷ insert ys i x) x y ys (λ a. absurd (omega arith)) (λ a. absurd (omega arith)) (λ a. ap (λ s. y ∷ s) (put_insert x ys i (IsPlace-tail x y ys i p) (λ w. n (omega arith))))
 
-pub length_put_insert : (x : ℕ) (ys : List ℕ) (i : ℕ) → IsPlace x ys i → (i < length ys → get_or ys i 0 ≡ x → ⊥) → length (put x ys) ≡ length ys + 1
-length_put_insert x ys i p n = ap length (put_insert x ys i p n) ∙ length-insert ys i x p.within
-
 length-put : (x : ℕ) (ys : List ℕ) → length ys ≤ length (put x ys)
 length-put x [] = omega arith
-length-put x (y ∷ ys) =
-    put_at (λ s. length (y ∷ ys) ≤ length s) x y ys (λ a. omega arith) (λ a. omega arith) (λ a. let r : length ys ≤ length (put x ys) = length-put x ys in omega arith)
+length-put x (y ∷ ys) = grind (arith, put_at, length-put x ys)
 
 -- a union is no shorter than its right part
 pub length-union : (a b : List ℕ) → length b ≤ length (union a b)
@@ -50,10 +43,7 @@ length-union (x ∷ xs) b = let p : length b ≤ length (put x b) = length-put x
 
 -- where one more element has no room, the union hasn't either
 pub union_over : (k : ℕ) (xs b l : List ℕ) (i : ℕ) → i < length xs → union (drop i xs) l ≡ union xs b → k < length (put (get_or xs i 0) l) → k < length (union xs b)
-union_over k xs b l i w e h =
-    let step : union (get_or xs i 0 ∷ drop (i + 1) xs) l ≡ union xs b = ap (λ s. union s l) (sym (drop_more xs i 0 w)) ∙ e in
-    let r : length (put (get_or xs i 0) l) ≤ length (union (drop (i + 1) xs) (put (get_or xs i 0) l)) = length-union (drop (i + 1) xs) (put (get_or xs i 0) l) in
-    let s : length (union (drop (i + 1) xs) (put (get_or xs i 0) l)) ≡ length (union xs b) = ap length step in omega arith
+union_over k xs b l i w e h = grind (arith, drop_more, length-union)
 
 pub union_end : (xs b l : List ℕ) (i : ℕ) → length xs ≤ i → union (drop i xs) l ≡ union xs b → l ≡ union xs b
 union_end xs b l i h e = ap (λ s. union s l) (sym (drop_all i xs h)) ∙ e

@@ -1,5 +1,5 @@
 -- The rows of a table, one node after another.
-use Rattle.cut_enum.proofs.Common.{◌≡◌, ℕ, ◌+◌, ◌-◌, ◌/◌, ◌<◌, ◌≤◌, cond, eqb, ltb, List, [], ◌∷◌, ◌++◌, length, sum_by, get_or, Option, Some, None, refl, sym, ap, ◌∙◌, subst, inl, inr, ◌⊎◌, arith, length-append, slice_get, slice_get-get_or, none-some, get_or_push, get_or_past, sum_by_push, eqb-true, eqb-false, ltb-true, ltb-false, cases_lt, cases_order, Aig, first_and, node_count, IsAnd, pair_of, IsNormal, AreNormal, Regular, Parameter, Pair, MOST_OF_A_NODE, MOST_OF_A_TABLE, merged, IsNode, AreMinimal, constant, parameter, row_at, AreRows, AreApart, IsRow, IsTooMany, front_of, source_front, with_own, Reaches, IsLimit, NodeCuts, TotalCuts, Memory, CutErr, OrMemory, refusal_of, choose}
+use Rattle.cut_enum.proofs.Common.{◌≡◌, ℕ, ◌+◌, ◌-◌, ◌/◌, ◌<◌, ◌≤◌, cond, eqb, ltb, List, [], ◌∷◌, ◌++◌, length, sum_by, get_or, Option, Some, None, refl, sym, ap, ◌∙◌, subst, inl, inr, ◌⊎◌, arith, length-append, slice_get, slice_get-get_or, none-some, get_or_push, get_or_past, sum_by_push, eqb-true, eqb-false, ltb-true, ltb-false, cases_lt, cases_order, Aig, first_and, node_count, IsAnd, pair_of, IsNormal, AreNormal, Regular, Parameter, Pair, MOST_OF_A_NODE, MOST_OF_A_TABLE, merged, IsNode, AreMinimal, constant, parameter, row_at, AreRows, AreApart, IsRow, IsTooMany, front_of, source_front, with_own, Reaches, IsLimit, NodeCuts, TotalCuts, Memory, CutErr, OrMemory, refusal_of, choose, rules}
 use Rattle.std.proofs.Math.ListN.{get_or-append}
 use Rattle.aig_core.specs.declared.lit.Kind.{Kind}
 use Rattle.cut_enum.proofs.CutLemmas.{AreApart-front, IsFront, IsFront-node, IsFront-free, IsFront-regular, AreMinimal-merged}
@@ -28,8 +28,6 @@ front_apart_at g k n m rows row cs normal below ok l r e =
 pub row_minimal : (g : Aig) (k n : ℕ) (p : Pair) (rows : List (List (List ℕ))) → AreNormal (first_and g) g.pairs → n < node_count g → IsNode g p n → IsNormal n p → AreRows g k n rows
     → AreMinimal g k n (merged k (front_of g (p.x.0 / 2) (row_at rows (p.x.0 / 2))) (front_of g (p.y.0 / 2) (row_at rows (p.y.0 / 2))))
 row_minimal g k n p rows all below node normal ok =
-    let y : p.y.0 / 2 < n = normal.below in
-    let x : p.x.0 / 2 < p.y.0 / 2 = normal.ordered in
     AreMinimal-merged g k n p (front_of g (p.x.0 / 2) (row_at rows (p.x.0 / 2))) (front_of g (p.y.0 / 2) (row_at rows (p.y.0 / 2))) node normal
     (IsFront-front_of g k (p.x.0 / 2) (row_at rows (p.x.0 / 2)) all (omega arith) (ok.each (p.x.0 / 2) (omega arith)))
     (IsFront-front_of g k (p.y.0 / 2) (row_at rows (p.y.0 / 2)) all (omega arith) (ok.each (p.y.0 / 2) (omega arith)))
@@ -47,25 +45,19 @@ row_push_old rows row m l = get_or-append rows (row ∷ []) [] m l
 each_push : (g : Aig) (k n : ℕ) (rows : List (List (List ℕ))) (row : List (List ℕ)) → AreRows g k n rows → (IsAnd g n → AreMinimal g k n row)
     → (m : ℕ) → m < n + 1 → IsAnd g m → (m < n) ⊎ (n ≤ m) → AreMinimal g k m (row_at (rows ++ row ∷ []) m)
 each_push g k n rows row ok min m l and (inl h) = let c : length rows ≡ n = ok.count in rw (row_push_old rows row m (omega arith)) (ok.each m h and)
-each_push g k n rows row ok min m l and (inr h) =
-    let c : length rows ≡ n = ok.count in
-    let e : n ≡ m = omega arith in
-    rw (row_push_same rows row m (omega arith)) (subst (λ i. AreMinimal g k i row) e (min (subst (λ i. IsAnd g i) (sym e) and)))
+each_push g k n rows row ok min m l and (inr h) = grind (arith, row_push_same)
 
 few_push : (g : Aig) (k n : ℕ) (rows : List (List (List ℕ))) (row : List (List ℕ)) → AreRows g k n rows → length row ≤ MOST_OF_A_NODE
     → (m : ℕ) → (m ≡ n) ⊎ ((m < n) ⊎ (n < m)) → length (row_at (rows ++ row ∷ []) m) ≤ MOST_OF_A_NODE
 few_push g k n rows row ok few m (inl h) = let c : length rows ≡ n = ok.count in rw (row_push_same rows row m (omega arith)) few
 few_push g k n rows row ok few m (inr (inl h)) = let c : length rows ≡ n = ok.count in rw (row_push_old rows row m (omega arith)) (ok.few m)
-few_push g k n rows row ok few m (inr (inr h)) =
-    let c : length rows ≡ n = ok.count in let a : length (rows ++ row ∷ []) ≡ length rows + 1 = length-append rows (row ∷ []) in
-    rw (get_or_past (rows ++ row ∷ []) m [] (omega arith)) (omega arith)
+few_push g k n rows row ok few m (inr (inr h)) = grind (arith, length-append, get_or_past)
 
 sources_push : (g : Aig) (k n : ℕ) (rows : List (List (List ℕ))) (row : List (List ℕ)) → AreRows g k n rows → (n < first_and g → row ≡ [])
     → (m : ℕ) → m < first_and g → (m ≡ n) ⊎ ((m < n) ⊎ (n < m)) → row_at (rows ++ row ∷ []) m ≡ []
 sources_push g k n rows row ok none m l (inl h) = let c : length rows ≡ n = ok.count in row_push_same rows row m (omega arith) ∙ none (omega arith)
 sources_push g k n rows row ok none m l (inr (inl h)) = let c : length rows ≡ n = ok.count in row_push_old rows row m (omega arith) ∙ ok.sources m l
-sources_push g k n rows row ok none m l (inr (inr h)) =
-    let c : length rows ≡ n = ok.count in let a : length (rows ++ row ∷ []) ≡ length rows + 1 = length-append rows (row ∷ []) in get_or_past (rows ++ row ∷ []) m [] (omega arith)
+sources_push g k n rows row ok none m l (inr (inr h)) = grind (arith, length-append, get_or_past)
 
 -- one more row
 pub AreRows-push : (g : Aig) (k n : ℕ) (rows : List (List (List ℕ))) (row : List (List ℕ)) → AreRows g k n rows → IsRow g k n row
@@ -81,10 +73,7 @@ AreRows-push g k n rows row ok is few total = record {
 -- the row of an AND node, as the code makes it
 pub IsRow-node : (g : Aig) (k n : ℕ) (p : Pair) (rows : List (List (List ℕ))) (row : List (List ℕ)) → AreNormal (first_and g) g.pairs → first_and g ≤ n → n < node_count g → pair_of g n ≡ Some p → IsNormal n p → AreRows g k n rows
     → row ≡ merged k (front_of g (p.x.0 / 2) (row_at rows (p.x.0 / 2))) (front_of g (p.y.0 / 2) (row_at rows (p.y.0 / 2))) → IsRow g k n row
-IsRow-node g k n p rows row all above below is normal ok e = record {
-  node = λ and. rw e (row_minimal g k n p rows all below (record { above = above; is = is }) normal ok);
-  source = λ l. absurd (omega arith);
-}
+IsRow-node g k n p rows row all above below is normal ok e = search (rules, row_minimal)
 
 -- a row with a cut is an AND node's
 row_node : (g : Aig) (k n : ℕ) (row : List (List ℕ)) → n < node_count g → IsRow g k n row → 0 < length row → IsAnd g n
@@ -98,24 +87,15 @@ reaches g k n rows row below ok is some = let and : IsAnd g n = row_node g k n r
 pub limit_node : (g : Aig) (k n : ℕ) (p : Pair) (rows : List (List (List ℕ))) → AreNormal (first_and g) g.pairs → first_and g ≤ n → n < node_count g → pair_of g n ≡ Some p → IsNormal n p → AreRows g k n rows
     → MOST_OF_A_NODE < length (merged k (front_of g (p.x.0 / 2) (row_at rows (p.x.0 / 2))) (front_of g (p.y.0 / 2) (row_at rows (p.y.0 / 2)))) → IsLimit g k (NodeCuts n)
 limit_node g k n p rows all above below is normal ok over =
-    let row = merged k (front_of g (p.x.0 / 2) (row_at rows (p.x.0 / 2))) (front_of g (p.y.0 / 2) (row_at rows (p.y.0 / 2))) in
-    (rows, row, reaches g k n rows row below ok (IsRow-node g k n p rows row all above below is normal ok refl) (omega arith), over)
-
--- a node with whose cuts there are too many
-pub limit_total : (g : Aig) (k n : ℕ) (rows : List (List (List ℕ))) (row : List (List ℕ)) → n < node_count g → AreRows g k n rows → IsRow g k n row → length row ≤ MOST_OF_A_NODE → MOST_OF_A_TABLE < sum_by length rows + length row → IsLimit g k (TotalCuts n)
-limit_total g k n rows row below ok is few over = let t : sum_by length rows ≤ MOST_OF_A_TABLE = ok.total in (rows, row, reaches g k n rows row below ok is (omega arith), few, over)
+    (rows, _, reaches g k n rows _ below ok (IsRow-node g k n p rows _ all above below is normal ok refl) (omega arith), over)
 
 -- a node that has too many of some cuts has too many of more
 pub too_many_more : (n : ℕ) (xs ys : List (List ℕ)) (e : CutErr) → length xs ≤ length ys → OrMemory refusal_of (λ f. IsTooMany n xs f) e → OrMemory refusal_of (λ f. IsTooMany n ys f) e
-too_many_more n xs ys (NodeCuts m) l h = let o : MOST_OF_A_NODE < length xs = h.over in record { is = h.is; over = omega arith }
-too_many_more n xs ys (TotalCuts m) l h = let o : MOST_OF_A_NODE < length xs = h.over in record { is = h.is; over = omega arith }
 too_many_more n xs ys Memory l h = tt
+too_many_more n xs ys e l h = let o : MOST_OF_A_NODE < length xs = h.over in record { is = h.is; over = omega arith }
 
 -- the refusal of a node, by its own words
 pub too_many_limit : (g : Aig) (k n : ℕ) (cuts : List (List ℕ)) (e : CutErr) → (MOST_OF_A_NODE < length cuts → IsLimit g k (NodeCuts n)) → OrMemory refusal_of (λ f. IsTooMany n cuts f) e → OrMemory refusal_of (λ f. IsLimit g k f) e
 too_many_limit g k n cuts (NodeCuts m) limit h = subst (λ f. IsLimit g k f) (sym h.is) (limit h.over)
-too_many_limit g k n cuts (TotalCuts m) limit h = absurd (other h.is)
-  where
-    other : TotalCuts m ≡ NodeCuts n → ⊥
-    other e = cc
+too_many_limit g k n cuts (TotalCuts m) limit h = grind arith
 too_many_limit g k n cuts Memory limit h = tt

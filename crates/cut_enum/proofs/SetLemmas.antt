@@ -1,12 +1,9 @@
 -- Unions and parts of ascending lists.
-use Rattle.cut_enum.proofs.Common.{◌≡◌, ℕ, ◌<◌, ◌≤◌, true, cond, ltb, eqb, List, [], ◌∷◌, refl, sym, subst, inl, inr, ◌⊎◌, arith, list_any, ltb-true, ltb-false, eqb-true, eqb-false, eq-eqb, and_parts, or_cases, or_left, or_right, and_from, false≢true, In, Within, IsAscending, put, union, subset, choose}
+use Rattle.cut_enum.proofs.Common.{◌≡◌, ℕ, ◌<◌, true, eqb, List, [], ◌∷◌, refl, sym, subst, inl, inr, ◌⊎◌, arith, list_any, eqb-true, eq-eqb, and_parts, or_cases, or_left, or_right, and_from, false≢true, In, Within, IsAscending, put, union, subset}
 
 -- what holds of `put` at a cell, by the order of the two heads
 pub put_at : (P : List ℕ → Type 0) (x y : ℕ) (ys : List ℕ) → (x < y → P (x ∷ y ∷ ys)) → (x ≡ y → P (y ∷ ys)) → (y < x → P (y ∷ put x ys)) → P (put x (y ∷ ys))
-put_at P x y ys less same more =
-    choose P (ltb x y) (x ∷ y ∷ ys) (cond (eqb x y) (y ∷ ys) (y ∷ put x ys)) (λ a. less (ltb-true x y a))
-    (λ a. choose P (eqb x y) (y ∷ ys) (y ∷ put x ys) (λ e. same (eqb-true x y e))
-    (λ e. let past : y ≤ x = ltb-false x y a in let apart : x ≡ y → ⊥ = eqb-false x y e in more (omega arith)))
+put_at P x y ys less same more = grind arith
 
 -- membership in `put`, both ways
 pub In-put : (x : ℕ) (c : List ℕ) (n : ℕ) → In (put x c) n → (n ≡ x) ⊎ In c n

@@ -8,20 +8,13 @@ use Rattle.cut_enum.proofs.SetLemmas.{In-union, union_left, union_right, subset_
 -- the bits of a member are among those of the list
 member_bit : (b : List ℕ) (x i : ℕ) → In b x → bit_at (leaf_bit x) i ≤ bit_at (signature_of b) i
 member_bit [] x i h = elim h [ ]
-member_bit (y ∷ ys) x i (inl e) =
-    let o : bit_at (signature_of (y ∷ ys)) i ≡ max (bit_at (leaf_bit y) i) (bit_at (signature_of ys) i) = bit_at_or (leaf_bit y) (signature_of ys) i in
-    let s : bit_at (leaf_bit x) i ≡ bit_at (leaf_bit y) i = ap (λ m. bit_at (leaf_bit m) i) e in omega arith
-member_bit (y ∷ ys) x i (inr h) =
-    let o : bit_at (signature_of (y ∷ ys)) i ≡ max (bit_at (leaf_bit y) i) (bit_at (signature_of ys) i) = bit_at_or (leaf_bit y) (signature_of ys) i in
-    let r : bit_at (leaf_bit x) i ≤ bit_at (signature_of ys) i = member_bit ys x i h in omega arith
+member_bit (y ∷ ys) x i (inl e) = omega (arith, bit_at_or (leaf_bit y) (signature_of ys) i, ap (λ m. bit_at (leaf_bit m) i) e)
+member_bit (y ∷ ys) x i (inr h) = omega (arith, bit_at_or (leaf_bit y) (signature_of ys) i, member_bit ys x i h)
 
 -- what bounds the bits of all members bounds those of the list
 bits_below : (a : List ℕ) (i most : ℕ) → ((x : ℕ) → In a x → bit_at (leaf_bit x) i ≤ most) → bit_at (signature_of a) i ≤ most
 bits_below [] i most h = let z : bit_at 0 i ≡ 0 = bit_at-zero i in omega arith
-bits_below (x ∷ xs) i most h =
-    let o : bit_at (signature_of (x ∷ xs)) i ≡ max (bit_at (leaf_bit x) i) (bit_at (signature_of xs) i) = bit_at_or (leaf_bit x) (signature_of xs) i in
-    let a : bit_at (leaf_bit x) i ≤ most = h x (inl refl) in
-    let b : bit_at (signature_of xs) i ≤ most = bits_below xs i most (λ n j. h n (inr j)) in omega arith
+bits_below (x ∷ xs) i most h = omega (arith, bit_at_or (leaf_bit x) (signature_of xs) i, h x (inl refl), bits_below xs i most (λ n j. h n (inr j)))
 
 -- a part's bits are among the whole's
 bits_within : (a b : List ℕ) (i : ℕ) → Within a b → bit_at (signature_of a) i ≤ bit_at (signature_of b) i
@@ -85,20 +78,17 @@ ones_le_length (x ∷ xs) = let m : count_ones (signature_of (x ∷ xs)) ≤ 1 +
 
 -- where the bits of both are too many, so are the elements of the union
 pub union_over_bits : (a b : List ℕ) (k : ℕ) → k < count_ones (bit_or (signature_of a) (signature_of b)) → k < length (union a b)
-union_over_bits a b k h =
-    let e : count_ones (signature_of (union a b)) ≡ count_ones (bit_or (signature_of a) (signature_of b)) = ap count_ones (signature-union a b) in
-    let l : count_ones (signature_of (union a b)) ≤ length (union a b) = ones_le_length (union a b) in omega arith
+union_over_bits a b k h = omega (arith, ap count_ones (signature-union a b), ones_le_length (union a b))
 
 -- what a word has of another's bits is not outside it
 pub outside-none : (s w outside : ℕ) → outside + w ≡ 2 ^ 64 - 1 → s < 2 ^ 64 → bit_or s w ≡ w → bit_and outside s ≡ 0
 outside-none s w outside o l h =
-    let e : outside ≡ 2 ^ 64 - 1 - w = omega arith in
     let c : bit_and (2 ^ 64 - 1 - w) s + bit_and w s ≡ s = and-not 64 w s (omega arith) l in
     let i : bit_and w s ≡ s = same_from_bits (bit_and w s) s
     (λ j. let p : bit_at (bit_and w s) j ≡ min (bit_at w j) (bit_at s j) = bit_at_and w s j in
     let q : bit_at (bit_or s w) j ≡ max (bit_at s j) (bit_at w j) = bit_at_or s w j in
     let r : bit_at (bit_or s w) j ≡ bit_at w j = ap (λ m. bit_at m j) h in omega arith) in
-    let z : bit_and (2 ^ 64 - 1 - w) s ≡ 0 = omega arith in ap (λ m. bit_and m s) e ∙ z
+    let z : bit_and (2 ^ 64 - 1 - w) s ≡ 0 = omega arith in ap (λ m. bit_and m s) (omega arith) ∙ z
 
 -- a part has no bit outside the whole's signature
 pub outside-subset : (a b : List ℕ) (outside : ℕ) → outside + signature_of b ≡ 2 ^ 64 - 1 → signature_of a < 2 ^ 64 → (bit_and outside (signature_of a) ≡ 0 → ⊥) → false ≡ subset a b

@@ -5,16 +5,12 @@ or_assoc : (a b c : ℕ) → bit_or (bit_or a b) c ≡ bit_or a (bit_or b c)
 or_assoc a b c =
     same_from_bits (bit_or (bit_or a b) c) (bit_or a (bit_or b c))
     (λ i. let p : bit_at (bit_or (bit_or a b) c) i ≡ max (bit_at (bit_or a b) i) (bit_at c i) = bit_at_or (bit_or a b) c i in
-    let q : bit_at (bit_or a b) i ≡ max (bit_at a i) (bit_at b i) = bit_at_or a b i in
-    let r : bit_at (bit_or a (bit_or b c)) i ≡ max (bit_at a i) (bit_at (bit_or b c) i) = bit_at_or a (bit_or b c) i in
-    let s : bit_at (bit_or b c) i ≡ max (bit_at b i) (bit_at c i) = bit_at_or b c i in omega arith)
+    let s : bit_at (bit_or b c) i ≡ max (bit_at b i) (bit_at c i) = bit_at_or b c i in omega (arith, bit_at_or a (bit_or b c) i, bit_at_or a b i))
 
 -- one more leaf's bit
 pub signature_next : (leaves : List ℕ) (word i bit full : ℕ) → i < length leaves → bit ≡ leaf_bit (get_or leaves i 0) → bit_or word (signature_of (drop i leaves)) ≡ full
     → bit_or (bit_or word bit) (signature_of (drop (i + 1) leaves)) ≡ full
-signature_next leaves word i bit full l b e =
-    or_assoc word bit (signature_of (drop (i + 1) leaves)) ∙ ap (λ w. bit_or word (bit_or w (signature_of (drop (i + 1) leaves)))) b
-    ∙ ap (λ s. bit_or word (signature_of s)) (sym (drop_more leaves i 0 l)) ∙ e
+signature_next leaves word i bit full l b e = grind (arith, or_assoc, bit_or, drop_more)
 
 pub signature_end : (leaves : List ℕ) (word i full : ℕ) → length leaves ≤ i → bit_or word (signature_of (drop i leaves)) ≡ full → word ≡ full
 signature_end leaves word i full l e = sym (or_zero_r word) ∙ ap (λ s. bit_or word (signature_of s)) (sym (drop_all i leaves l)) ∙ e

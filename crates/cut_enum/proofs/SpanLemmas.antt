@@ -1,5 +1,5 @@
 -- Reading a part, and putting one more at the end.
-use Rattle.cut_enum.proofs.Common.{◌≡◌, ℕ, zero, suc, ◌+◌, ◌-◌, ◌<◌, ◌≤◌, List, [], ◌∷◌, ◌++◌, length, get_or, take, drop, slice_range, sum_by, refl, sym, ap, ◌∙◌, subst, arith, length-append, length-drop, take-append-le, drop-append-le, drop_all, take_all, sum_by_push, MOST_OF_A_TABLE}
+use Rattle.cut_enum.proofs.Common.{◌≡◌, ℕ, zero, suc, ◌+◌, ◌-◌, ◌<◌, ◌≤◌, List, [], ◌∷◌, ◌++◌, length, get_or, slice_range, sum_by, refl, sym, ap, ◌∙◌, arith, length-append, length-drop, take-append-le, drop-append-le, drop_all, take_all, sum_by_push, MOST_OF_A_TABLE, get_or_read}
 use Rattle.cut_enum.specs.Spans.{parts_from, parts_of, RisesTo, StartsTo, IsFlat}
 
 rises_le : (last start : ℕ) (ends : List ℕ) → RisesTo last start ends → start ≤ last
@@ -28,23 +28,15 @@ module _ {A : Type 0} where
   parts_of-past (s ∷ ends) items n l = parts_past s ends items n (omega arith)
 
   slice-append : (items more : List A) (a b : ℕ) → a ≤ b → b ≤ length items → slice_range (items ++ more) a b ≡ slice_range items a b
-  slice-append items more a b h k =
-      let d : drop a (items ++ more) ≡ drop a items ++ more = drop-append-le a items more (omega arith) in
-      ap (λ s. take (b - a) s) d ∙ take-append-le (b - a) (drop a items) more (omega (arith, length-drop a items))
+  slice-append items more a b h k = grind (arith, drop-append-le, take-append-le, length-drop)
 
   slice-new : (items more : List A) (b : ℕ) → b ≡ length items + length more → slice_range (items ++ more) (length items) b ≡ more
-  slice-new items more b e =
-      let d : drop (length items) (items ++ more) ≡ drop (length items) items ++ more = drop-append-le (length items) items more (omega arith) in
-      let n : drop (length items) items ≡ [] = drop_all (length items) items (omega arith) in
-      ap (λ s. take (b - length items) s) (d ∙ ap (λ s. s ++ more) n) ∙ take_all (b - length items) more (omega arith)
+  slice-new items more b e = grind (arith, drop-append-le, drop_all, take_all)
 
   parts_push : (start : ℕ) (ends : List ℕ) (items more : List A) (b : ℕ) → RisesTo (length items) start ends → b ≡ length items + length more
       → parts_from start (ends ++ b ∷ []) (items ++ more) ≡ parts_from start ends items ++ more ∷ []
   parts_push start [] items more b r e = ap (λ s. s ∷ []) (ap (λ m. slice_range (items ++ more) m b) r ∙ slice-new items more b e)
-  parts_push start (n ∷ ends) items more b r e =
-      let h : n ≤ length items = rises_le (length items) n ends r.1 in
-      ap (λ s. s ∷ parts_from n (ends ++ b ∷ []) (items ++ more)) (slice-append items more start n r.0 h)
-      ∙ ap (λ s. slice_range items start n ∷ s) (parts_push n ends items more b r.1 e)
+  parts_push start (n ∷ ends) items more b r e = grind (arith, rises_le, slice-append, slice_range, parts_push n ends items more b r.1 e)
 
   -- one more part at the end
   pub parts_of-push : (starts : List ℕ) (items more : List A) (b : ℕ) → StartsTo (length items) starts → b ≡ length items + length more
@@ -65,25 +57,11 @@ pub starts-bounds : (last : ℕ) (starts : List ℕ) (n : ℕ) → StartsTo last
 starts-bounds last [] n r l = absurd r
 starts-bounds last (s ∷ []) n r l = absurd (omega arith)
 starts-bounds last (s ∷ (e ∷ ends)) zero r l = (r.0, rises_le last e ends r.1)
-starts-bounds last (s ∷ (e ∷ ends)) (suc n) r l =
-    let h = starts-bounds last (e ∷ ends) n r.1 (omega arith) in
-    let q : suc (n + 1) ≡ suc n + 1 = omega arith in
-    (subst (λ m. get_or (e ∷ ends) n 0 ≤ get_or (s ∷ (e ∷ ends)) m 0) q h.0, subst (λ m. get_or (s ∷ (e ∷ ends)) m 0 ≤ last) q h.1)
-
--- no row yet
-pub IsFlat-none : IsFlat (0 ∷ []) []
-IsFlat-none = record { starts_to = refl; sum = refl; most = omega arith }
+starts-bounds last (s ∷ (e ∷ ends)) (suc n) r l = grind (arith, starts-bounds last (e ∷ ends) n r.1 (omega arith))
 
 -- one more row
 pub IsFlat-push : (starts : List ℕ) (cuts row : List (List ℕ)) (b : ℕ) → IsFlat starts cuts → b ≡ length cuts + length row → b ≤ MOST_OF_A_TABLE → IsFlat (starts ++ b ∷ []) (cuts ++ row)
-IsFlat-push starts cuts row b flat e most =
-    let n : length (cuts ++ row) ≡ length cuts + length row = length-append cuts row in
-    let q : b ≡ length (cuts ++ row) = omega arith in
-    record {
-      starts_to = subst (λ m. StartsTo m (starts ++ b ∷ [])) q (starts_push (length cuts) starts b flat.starts_to (omega arith));
-      sum = rw (parts_of-push starts cuts row b flat.starts_to e, sum_by_push length (parts_of starts cuts) row) (let s : sum_by length (parts_of starts cuts) ≡ length cuts = flat.sum in omega arith);
-      most = omega arith;
-    }
+IsFlat-push starts cuts row b flat e most = grind (arith, length-append, starts_push, parts_of-push, sum_by_push, sum_by)
 
 -- where a row lies, and that it is the node's
 pub record IsRowAt (starts : List ℕ) (cuts : List (List ℕ)) (n a b : ℕ) : Type 0 where
@@ -91,15 +69,9 @@ pub record IsRowAt (starts : List ℕ) (cuts : List (List ℕ)) (n a b : ℕ) : 
   pub inside : b ≤ length cuts
   pub is : slice_range cuts a b ≡ get_or (parts_of starts cuts) n []
 
-pub row_between : (starts : List ℕ) (cuts : List (List ℕ)) (n a b : ℕ) → IsFlat starts cuts → n + 1 < length starts → get_or starts n 0 ≡ a → get_or starts (n + 1) 0 ≡ b → IsRowAt starts cuts n a b
-row_between starts cuts n a b flat l p q =
+pub row_between : (starts : List ℕ) (cuts : List (List ℕ)) (n a b : ℕ) → IsFlat starts cuts → n + 1 < length starts → a ≡ get_or starts n a → b ≡ get_or starts (n + 1) b → IsRowAt starts cuts n a b
+row_between starts cuts n a b flat l e f =
+    let p : a ≡ get_or starts n 0 = get_or_read starts n a (omega arith) e 0 in
+    let q : b ≡ get_or starts (n + 1) 0 = get_or_read starts (n + 1) b l f 0 in
     let h = starts-bounds (length cuts) starts n flat.starts_to l in
-    let x : get_or starts n 0 ≤ get_or starts (n + 1) 0 = h.0 in
-    let y : get_or starts (n + 1) 0 ≤ length cuts = h.1 in
-    record { ordered = omega arith; inside = omega arith; is = ap (λ m. slice_range cuts m b) (sym p) ∙ ap (λ m. slice_range cuts (get_or starts n 0) m) (sym q) ∙ sym (parts_of-at starts cuts n l) }
-
--- an element that is read is there whatever stands in for a missing one
-pub read_at : (xs : List ℕ) (i v : ℕ) → i < length xs → v ≡ get_or xs i v → get_or xs i 0 ≡ v
-read_at [] i v l e = absurd (omega arith)
-read_at (x ∷ xs) zero v l e = sym e
-read_at (x ∷ xs) (suc i) v l e = read_at xs i v (omega arith) e
+    record { ordered = omega arith; inside = omega arith; is = ap (λ m. slice_range cuts m b) p ∙ ap (λ m. slice_range cuts (get_or starts n 0) m) q ∙ sym (parts_of-at starts cuts n l) }

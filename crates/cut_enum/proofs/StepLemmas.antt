@@ -6,9 +6,7 @@ use Rattle.cut_enum.proofs.SignatureLemmas.{union_over_bits}
 use Rattle.cut_enum.proofs.SignedLemmas.{signed_at, signed_length}
 
 longer_front : (base xs ys : List (List ℕ)) → length xs ≤ length ys → length (base ++ xs) ≤ length (base ++ ys)
-longer_front base xs ys l =
-    let a : length (base ++ xs) ≡ length base + length xs = length-append base xs in
-    let b : length (base ++ ys) ≡ length base + length ys = length-append base ys in omega arith
+longer_front base xs ys l = omega (arith, length-append base xs, length-append base ys)
 
 module _ (size : ℕ) (base : List (List ℕ)) where
   -- one more holder
@@ -20,9 +18,7 @@ module _ (size : ℕ) (base : List (List ℕ)) where
       → length (base ++ add_holder size base parts d level) ≤ length (base ++ full)
   holders_step parts d ds level full i l at e =
       let made = add_holder size base parts d level in
-      let e' : length (add_holders size base parts (drop (i + 1) ds) made) ≡ length full = ap length (holders_next parts d ds level full i l at e) in
-      let m : length made ≤ length (add_holders size base parts (drop (i + 1) ds) made) = length-holders size base made parts (drop (i + 1) ds) made (omega arith) in
-      longer_front base made full (omega arith)
+      longer_front base made full (subst (λ s. length made ≤ length s) (holders_next parts d ds level full i l at e) (length-holders size base made parts (drop (i + 1) ds) made (omega arith)))
 
   -- one more union with c
   pub unions_next : (c d : List ℕ) (ds level full : List (List ℕ)) (i : ℕ) → i < length ds → d ≡ get_or ds i d → add_unions size base c (drop i ds) level ≡ full
@@ -33,9 +29,7 @@ module _ (size : ℕ) (base : List (List ℕ)) where
       → length (base ++ add_union size base c d level) ≤ length (base ++ full)
   unions_step c d ds level full i l at e =
       let made = add_union size base c d level in
-      let e' : length (add_unions size base c (drop (i + 1) ds) made) ≡ length full = ap length (unions_next c d ds level full i l at e) in
-      let m : length made ≤ length (add_unions size base c (drop (i + 1) ds) made) = length-unions size base made c (drop (i + 1) ds) made (omega arith) in
-      longer_front base made full (omega arith)
+      longer_front base made full (subst (λ s. length made ≤ length s) (unions_next c d ds level full i l at e) (length-unions size base made c (drop (i + 1) ds) made (omega arith)))
 
   -- a union whose signature has more bits is passed over
   pub unions_pass : (c : List ℕ) (ds level full : List (List ℕ)) (words : List ℕ) (i : ℕ) → words ≡ map signature_of ds → i < length words → size < count_ones (bit_or (get_or words i 0) (signature_of c))
@@ -58,25 +52,17 @@ module _ (size : ℕ) (base : List (List ℕ)) where
       → length (base ++ add_unions size base c ds level) ≤ length (base ++ full)
   pairs_step c cs ds level full i l at e =
       let made = add_unions size base c ds level in
-      let e' : length (add_pairs size base (drop (i + 1) cs) ds made) ≡ length full = ap length (pairs_next c cs ds level full i l at e) in
-      let m : length made ≤ length (add_pairs size base (drop (i + 1) cs) ds made) = length-pairs size base made (drop (i + 1) cs) ds made (omega arith) in
-      longer_front base made full (omega arith)
+      longer_front base made full (subst (λ s. length made ≤ length s) (pairs_next c cs ds level full i l at e) (length-pairs size base made (drop (i + 1) cs) ds made (omega arith)))
 
   -- the holders of the one list, and of both, before the pairs
   pub holders_at : (below ys' level xs ys : List (List ℕ)) → below ≡ leading size xs → ys' ≡ ys → level ≡ add_holders size base (leading (size + 1) ys) xs []
       → length (base ++ add_holders size base below ys' level) ≤ length (base ++ unions_at size base xs ys)
-  holders_at below ys' level xs ys p q r =
-      let e : add_holders size base below ys' level ≡ holders size base xs ys =
-      ap (λ s. add_holders size base s ys' level) p ∙ ap (λ s. add_holders size base (leading size xs) s level) q ∙ ap (λ s. add_holders size base (leading size xs) ys s) r in
-      let l : length (add_holders size base below ys' level) ≡ length (holders size base xs ys) = ap length e in
-      let m : length (holders size base xs ys) ≤ length (unions_at size base xs ys) = length-pairs size base (holders size base xs ys) (leading size xs) (leading size ys) (holders size base xs ys) (omega arith) in
-      longer_front base (add_holders size base below ys' level) (unions_at size base xs ys) (omega arith)
+  holders_at below ys' level xs ys p q r = rw (p, q, r) (longer_front base (holders size base xs ys) (unions_at size base xs ys)
+      (length-pairs size base (holders size base xs ys) (leading size xs) (leading size ys) (holders size base xs ys) (omega arith)))
 
   pub left_holders_at : (parts xs' level xs ys : List (List ℕ)) → parts ≡ leading (size + 1) ys → xs' ≡ xs → level ≡ [] → length (base ++ add_holders size base parts xs' level) ≤ length (base ++ unions_at size base xs ys)
   left_holders_at parts xs' level xs ys p q r =
       let made = add_holders size base (leading (size + 1) ys) xs [] in
-      let e : add_holders size base parts xs' level ≡ made = ap (λ s. add_holders size base s xs' level) p ∙ ap (λ s. add_holders size base (leading (size + 1) ys) s level) q ∙ ap (λ s. add_holders size base (leading (size + 1) ys) xs s) r in
-      let l : length (add_holders size base parts xs' level) ≡ length made = ap length e in
       let m : length made ≤ length (holders size base xs ys) = length-holders size base made (leading size xs) ys made (omega arith) in
       let n : length (holders size base xs ys) ≤ length (unions_at size base xs ys) = length-pairs size base (holders size base xs ys) (leading size xs) (leading size ys) (holders size base xs ys) (omega arith) in
-      longer_front base (add_holders size base parts xs' level) (unions_at size base xs ys) (omega arith)
+      rw (p, q, r) (longer_front base made (unions_at size base xs ys) (omega arith))

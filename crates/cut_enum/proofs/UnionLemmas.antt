@@ -1,5 +1,5 @@
 -- The union that the code makes is the union of the two lists, of which there is one.
-use Rattle.cut_enum.proofs.Common.{◌≡◌, ℕ, ◌<◌, ◌≤◌, List, length, Option, Some, None, MatchOption, IfSome, IfNone, sym, subst, inl, inr, Within, IsAscending, union, same_within}
+use Rattle.cut_enum.proofs.Common.{◌≡◌, ℕ, ◌<◌, ◌≤◌, List, length, Option, Some, None, MatchOption, IfSome, IfNone, sym, subst, inl, inr, Within, IsAscending, union}
 use Rattle.cut_enum.specs.Unions.{IsUnion}
 use Rattle.cut_enum.proofs.SetLemmas.{In-union, union_left, union_right, IsAscending-union}
 
@@ -8,10 +8,6 @@ IsUnion-union a b up = record { ascending = IsAscending-union a b up; only = In-
 
 part_of : (a b c d : List ℕ) → IsUnion a b c → IsUnion a b d → Within c d
 part_of a b c d is is' n h = elim (is.only n h) [ inl i ↦ is'.left n i | inr i ↦ is'.right n i ]
-
--- two unions of the same lists are equal
-pub union_once : (a b c d : List ℕ) → IsUnion a b c → IsUnion a b d → c ≡ d
-union_once a b c d is is' = same_within c d is.ascending is'.ascending (part_of a b c d is is') (part_of a b d c is' is)
 
 -- what the union that the code makes is, where it has room and where it has none
 pub merge_some : (a b : List ℕ) (k : ℕ) (o : Option (List ℕ)) → IsAscending b → MatchOption o (k < length (union a b)) (λ c. (c ≡ union a b) × (length c ≤ k)) → IfSome o (λ c. IsUnion a b c × (length c ≤ k))

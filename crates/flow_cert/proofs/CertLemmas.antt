@@ -1,5 +1,5 @@
 -- The steps of the needed nodes and the depth of the roots are a valid certificate.
-use Rattle.flow_cert.proofs.Common.{◌≡◌, ℕ, zero, suc, ◌+◌, ◌/◌, ◌^◌, ◌<◌, ◌≤◌, eqb, List, [], ◌∷◌, refl, sym, ap, ◌∙◌, subst, inl, inr, arith, eqb-true, eqb-false, Aig, first_and, node_count, IsAnd, AreNormal, In, choose, In-get, LabelsValue, label_of, StepValue, CertificateValue, claim_of, IsJustified, Needs, node, complemented, SomeNeeds, IsReached, IsValid, IsWritable, IsStepOf, AreLabelClaims, IsShared, IsNeeded, HasStep, AreNeeded, CanBegin, AreSteps, HasBegin, IsTarget, rules}
+use Rattle.flow_cert.proofs.Common.{◌≡◌, ℕ, zero, suc, ◌+◌, ◌^◌, ◌<◌, ◌≤◌, eqb, List, [], ◌∷◌, refl, sym, ap, ◌∙◌, subst, inl, inr, arith, eqb-true, eqb-false, Aig, first_and, node_count, IsAnd, AreNormal, In, choose, In-get, LabelsValue, label_of, StepValue, CertificateValue, claim_of, IsJustified, Needs, node, SomeNeeds, IsReached, IsValid, IsWritable, IsStepOf, AreLabelClaims, IsShared, IsNeeded, HasStep, AreNeeded, AreSteps, IsTarget, rules}
 use Rattle.flow_cert.specs.Needed as needed
 use Rattle.flow_cert.specs.Steps as steps
 use Rattle.flow_cert.specs.Target as target
@@ -17,7 +17,6 @@ claim_there g k label (s ∷ ss) m each h =
       | inr i ↦ claim_there g k label ss m (λ t j. each t (inr j)) (record { step = h.step; there = i; is = h.is })
     ])
 
--- some root needs it
 some_needs : (g : Aig) (claim : ℕ → ℕ) (d : ℕ) (roots : List ℕ) (l : ℕ) → In roots l → Needs g claim d l → SomeNeeds g roots claim d
 some_needs g claim d [] l i n = absurd i
 some_needs g claim d (x ∷ xs) l (inl e) n = inl (subst (λ y. Needs g claim d y) e n)

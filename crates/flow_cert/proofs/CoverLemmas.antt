@@ -1,7 +1,7 @@
 -- The best cut of every AND node is a cover, in which each node has its label as its depth.
-use Rattle.flow_cert.proofs.Common.{◌≡◌, ℕ, zero, suc, ◌+◌, ◌-◌, ◌/◌, ◌^◌, ◌<◌, ◌≤◌, Bool, true, ◌&&◌, cond, leb, ltb, List, [], ◌∷◌, Option, Some, None, IsSome, refl, sym, ap, ◌∙◌, subst, inl, inr, arith, cases_lt, cases_Bool, leb-true, le-leb, ltb-true, lt-ltb, and_parts, and_from, none-some, same_Some, Aig, first_and, node_count, IsAnd, AreNormal, In, IsCut, height, LabelsValue, label_of, best_of, AreLabelled, AreRight}
+use Rattle.flow_cert.proofs.Common.{◌≡◌, ℕ, zero, suc, ◌+◌, ◌-◌, ◌/◌, ◌^◌, ◌<◌, ◌≤◌, Bool, true, ◌&&◌, cond, leb, ltb, List, [], ◌∷◌, Option, Some, None, IsSome, refl, sym, ap, ◌∙◌, subst, inl, inr, arith, cases_lt, cases_Bool, leb-true, le-leb, ltb-true, lt-ltb, and_parts, and_from, none-some, same_Some, Aig, first_and, node_count, IsAnd, AreNormal, In, IsCut, height, LabelsValue, label_of, best_of, AreLabelled}
 use Rattle.cut_sets.specs.Covers.{IsCover, HasDepth, source, free, table, IsLeastDepth}
-use Rattle.cut_enum.specs.Table.{AreRows, row_at}
+use Rattle.cut_enum.specs.Table.{AreRows}
 use Rattle.depth_label.proofs.LabelLemmas.{labels_least}
 use Rattle.flow_cert.specs.Target.{IsTarget, nothing, node, complemented}
 use Rattle.flow_cert.proofs.LabelLemmas.{height_le, height_member}
@@ -72,7 +72,6 @@ module _ (g : Aig) (k : ℕ) (rows : List (List (List ℕ))) (v : LabelsValue) (
     ];
   }
 
-  -- a label is at most its node's index
   label_below : (f n : ℕ) → n < f → label_of v n ≤ n
   label_below zero n l = absurd (omega arith)
   label_below (suc f) n l = elim (cases_lt n (first_and g)) [

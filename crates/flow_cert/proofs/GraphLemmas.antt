@@ -1,21 +1,15 @@
 -- Fan-ins of a graph.
-use Rattle.flow_cert.proofs.Common.{◌≡◌, ℕ, ◌-◌, ◌/◌, ◌<◌, ◌≤◌, List, [], ◌∷◌, ◌++◌, length, get_or, Some, refl, sym, subst, inl, inr, ◌⊎◌, arith, slice_get_within, slice_get-get_or, cases_eq, cases_lt, slice_get, Aig, first_and, node_count, IsAnd, IsNode, IsSource, AreNormal, Regular, Parameter, Pair, source_below, In, Blocks, member, constant, parameter, fan_ins, CanBeLeaf, IsFanIn, first, second, Climbs, IsPath}
+use Rattle.flow_cert.proofs.Common.{◌≡◌, ℕ, ◌-◌, ◌/◌, ◌<◌, ◌≤◌, List, [], ◌∷◌, ◌++◌, length, get_or, Some, refl, sym, subst, inl, inr, ◌⊎◌, arith, slice_get_within, slice_get-get_or, cases_eq, cases_lt, slice_get, Aig, first_and, node_count, IsAnd, IsNode, IsSource, AreNormal, Regular, Parameter, Pair, node_at, source_below, In, Blocks, constant, parameter, fan_ins, CanBeLeaf, IsFanIn, first, second, Climbs, IsPath}
 use Rattle.aig_core.specs.declared.lit.Kind.{Kind}
-pub use Rattle.cert_check.proofs.PathLemmas.{fan_in_below, path_below, fan_in_cases}
+pub use Rattle.cert_check.proofs.PathLemmas.{fan_in_below, path_below, blocked_below}
+pub use Rattle.cert_check.proofs.PathLemmas.{fan_in_cases}
 
--- a node with a pair is an AND node
 node_and : (g : Aig) (p : Pair) (n : ℕ) → IsNode g p n → IsAnd g n
 node_and g p n is = let l : n - first_and g < length g.pairs = slice_get_within g.pairs (n - first_and g) p is.is in let a : first_and g ≤ n = is.above in (a, omega arith)
 
 pub reader_and : (g : Aig) (m n : ℕ) → IsFanIn g m n → IsAnd g n
 reader_and g m n (first p is e) = node_and g p n is
 reader_and g m n (second p is e) = node_and g p n is
-
--- an AND node has a pair
-and_pair : (g : Aig) (n : ℕ) → IsAnd g n → (p : Pair) × IsNode g p n
-and_pair g n and =
-    let d : Pair = record { x = record { 0 = 0 }; y = record { 0 = 0 } } in
-    (get_or g.pairs (n - first_and g) d, record { above = and.0; is = slice_get-get_or g.pairs (n - first_and g) d (omega arith) })
 
 source_kind : (g : Aig) (c : List ℕ) (m : ℕ) (kind : Kind) → 1 ≤ m → slice_get g.kinds (m - 1) ≡ Some kind → Blocks g c m ⊎ CanBeLeaf g m
 source_kind g c m Regular a e = inr (inl (record { above = a; is = e }))
@@ -34,7 +28,7 @@ free_or_leaf g c m l = elim (cases_eq m 0) [
 -- a set that blocks all leaves that an AND node reads blocks the node
 pub blocks_by_leaves : (g : Aig) (c : List ℕ) (n : ℕ) → AreNormal (first_and g) g.pairs → IsAnd g n → ((m : ℕ) → IsFanIn g m n → CanBeLeaf g m → Blocks g c m) → Blocks g c n
 blocks_by_leaves g c n normal and leaves =
-    let p = and_pair g n and in
+    let p = node_at g n and.0 and.1 in
     let x : IsFanIn g (p.0.x.0 / 2) n = first p.0 p.1 refl in
     let y : IsFanIn g (p.0.y.0 / 2) n = second p.0 p.1 refl in
     let x_below : p.0.x.0 / 2 < n = fan_in_below g (p.0.x.0 / 2) n normal x in
@@ -42,7 +36,6 @@ blocks_by_leaves g c n normal and leaves =
     fan_ins p.0 p.1 (elim (free_or_leaf g c (p.0.x.0 / 2) (omega arith)) [ inl f ↦ f | inr f ↦ leaves (p.0.x.0 / 2) x f ])
     (elim (free_or_leaf g c (p.0.y.0 / 2) (omega arith)) [ inl f ↦ f | inr f ↦ leaves (p.0.y.0 / 2) y f ])
 
--- leaves are not the constant
 pub leaf_pos : (g : Aig) (m : ℕ) → CanBeLeaf g m → 0 < m
 leaf_pos g m (inl s) = let l : 1 ≤ m = s.above in omega arith
 leaf_pos g m (inr a) = let l : first_and g ≤ m = a.0 in omega arith
@@ -51,11 +44,9 @@ pub leaf_inside : (g : Aig) (m : ℕ) → CanBeLeaf g m → m < node_count g
 leaf_inside g m (inl s) = let l : m < first_and g = source_below g Regular m s in omega arith
 leaf_inside g m (inr a) = a.1
 
--- no regular source is an AND node
 pub source_not_and : (g : Aig) (s : ℕ) → IsSource g Regular s → IsAnd g s → ⊥
 source_not_and g s source a = let l : s < first_and g = source_below g Regular s source in let b : first_and g ≤ s = a.0 in absurd (omega arith)
 
--- a path with one more node
 climbs_push : (g : Aig) (m : ℕ) (ms : List ℕ) (n x : ℕ) → Climbs g m ms n → IsFanIn g n x → Climbs g m (ms ++ x ∷ []) x
 climbs_push g m [] n x c f = (subst (λ y. IsFanIn g y x) (sym c) f, refl)
 climbs_push g m (y ∷ ys) n x c f = (c.0, climbs_push g y ys n x c.1 f)
@@ -64,7 +55,6 @@ pub path_push : (g : Aig) (n x : ℕ) (path : List ℕ) → IsPath g n path → 
 path_push g n x [] p f = absurd p
 path_push g n x (m ∷ ms) p f = (p.0, climbs_push g m ms n x p.1 f)
 
--- a path has its last node
 climbs_last : (g : Aig) (m : ℕ) (ms : List ℕ) (n : ℕ) → Climbs g m ms n → In (m ∷ ms) n
 climbs_last g m [] n c = inl (sym c)
 climbs_last g m (x ∷ xs) n c = inr (climbs_last g x xs n c.1)
@@ -78,10 +68,3 @@ pub path_two : (g : Aig) (n : ℕ) (path : List ℕ) → IsAnd g n → IsPath g 
 path_two g n [] and p = absurd p
 path_two g n (m ∷ []) and p = absurd (source_not_and g m p.0 (subst (λ x. IsAnd g x) (sym p.1) and))
 path_two g n (m ∷ x ∷ xs) and p = omega arith
-
--- what blocks an AND node has the node, or blocks its fan-ins
-pub blocked_below : (g : Aig) (c : List ℕ) (m n : ℕ) → IsFanIn g m n → Blocks g c n → In c n ⊎ Blocks g c m
-blocked_below g c m n f (member i) = inl i
-blocked_below g c m n f (constant e) = absurd (let a : first_and g ≤ n = (reader_and g m n f).0 in omega arith)
-blocked_below g c m n f (parameter s) = absurd (let a : first_and g ≤ n = (reader_and g m n f).0 in let b : n < first_and g = source_below g Parameter n s in omega arith)
-blocked_below g c m n f (fan_ins p is x y) = elim (fan_in_cases g m n p is f) [ inl e ↦ inr (subst (λ l. Blocks g c l) (sym e) x) | inr e ↦ inr (subst (λ l. Blocks g c l) (sym e) y) ]

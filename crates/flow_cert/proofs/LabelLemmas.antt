@@ -1,7 +1,8 @@
 -- Labels do not fall on the way up, and a node has no cut that is lower than its label.
-use Rattle.flow_cert.proofs.Common.{◌≡◌, ℕ, suc, ◌+◌, ◌-◌, ◌<◌, ◌≤◌, List, [], ◌∷◌, length, refl, subst, inl, inr, ◌⊎◌, arith, cases_lt, Aig, first_and, node_count, IsAnd, AreNormal, Regular, source_below, In, Within, IsAscending, Blocks, CanBeLeaf, greatest, height, IsFanIn, AreRight, rules}
+use Rattle.flow_cert.proofs.Common.{◌≡◌, ℕ, suc, ◌+◌, ◌-◌, ◌<◌, ◌≤◌, List, [], ◌∷◌, length, refl, subst, inl, inr, ◌⊎◌, arith, cases_lt, Aig, first_and, node_count, IsAnd, AreNormal, Regular, source_below, In, Within, IsAscending, Blocks, CanBeLeaf, greatest, height, IsFanIn, AreRight, rules, ◌/◌, ◌++◌, reverse, ap, ◌∙◌, reverse-append, IsNode, IsNormal, Pair, fan_ins, IsWayDown, IsDownTo}
 use Rattle.cut_sets.proofs.BlockLemmas.{contains_one}
 use Rattle.depth_label.proofs.DepthLemmas.{greatest_le, greatest_in}
+use Rattle.flow_cert.proofs.GraphLemmas.{free_or_leaf, source_not_and}
 pub use Rattle.depth_label.proofs.DepthLemmas.{height_le}
 use Rattle.flow_cert.proofs.GraphLemmas.{reader_and, blocked_below}
 
@@ -9,7 +10,6 @@ pub height_member : (label : ℕ → ℕ) (c : List ℕ) (m : ℕ) → In c m �
 height_member label [] m i = absurd i
 height_member label (x ∷ xs) m i = let a : label m ≤ greatest label (x ∷ xs) = greatest_in label (x ∷ xs) m i in omega arith
 
--- a smaller set is no higher
 height_within : (label : ℕ → ℕ) (a b : List ℕ) → Within a b → height label a ≤ height label b
 height_within label [] b w = omega arith
 height_within label (x ∷ xs) [] w = absurd (w x (inl refl))
@@ -35,7 +35,7 @@ module _ (g : Aig) (k : ℕ) (label : ℕ → ℕ) (normal : AreNormal (first_an
   label_rises m v f (inr and) =
       let best = right.labels.met v (reader_and g m v f) in
       let cut = ((right.minimal v (reader_and g m v f)).only best.0 best.1).cut in
-      elim (blocked_below g best.0 m v f cut.blocks) [
+      elim (blocked_below g best.0 f cut.blocks) [
         | inl i ↦ absurd (let l : v < v = (cut.below v i).0 in omega arith)
         | inr b ↦ elim (label_le_height m best.0 and cut.ascending cut.few b) [
           | inl i ↦ (let l : label m + 1 ≤ height label best.0 = height_member label best.0 m i in omega arith)
@@ -61,6 +61,32 @@ module _ (g : Aig) (k : ℕ) (label : ℕ → ℕ) (normal : AreNormal (first_an
       let best = right.labels.met m and in
       subst (λ c. Blocks g c m) (height_none label best.0 (omega arith)) ((right.minimal m and).only best.0 best.1).cut.blocks
 
--- only an AND node has a label of 1 at least
 pub high_and : (g : Aig) (k : ℕ) (label : ℕ → ℕ) → AreRight g k label → (n : ℕ) → 1 ≤ label n → IsAnd g n
 high_and g k label right n l = search (rules, cases_lt)
+
+module _ (g : Aig) (k : ℕ) (label : ℕ → ℕ) (normal : AreNormal (first_and g) g.pairs) (right : AreRight g k label) where
+  way_or_free : (m : ℕ) → m < node_count g → IsWayDown g label m ⊎ Blocks g [] m
+  way_or_free m l = elim (free_or_leaf g [] m l) [
+    | inl b ↦ inr b
+    | inr leaf ↦ elim leaf [
+      | inl s ↦ inl (record { leaf = inl s; high = λ a. absurd (source_not_and g m s a) })
+      | inr a ↦ elim (cases_lt (label m) 1) [ inl z ↦ inr (zero_free g k label normal right m a (omega arith)) | inr h ↦ inl (record { leaf = inr a; high = λ _. h }) ]
+    ]
+  ]
+
+  -- where no path comes to the first fan-in, one comes to the second
+  pub second_way : (v : ℕ) (p : Pair) → IsNode g p v → IsNormal v p → IsAnd g v → 1 ≤ label v → (IsWayDown g label (p.x.0 / 2) → ⊥) → IsWayDown g label (p.y.0 / 2)
+  second_way v p node fit and high never =
+      elim (way_or_free (p.y.0 / 2) (omega arith)) [
+        | inl w ↦ w
+        | inr y ↦ elim (way_or_free (p.x.0 / 2) (omega arith)) [
+          | inl w ↦ absurd (never w)
+          | inr x ↦ absurd (elim (label_le_height g k label normal right v [] and tt (omega arith) (fan_ins p node x y)) [ inl i ↦ i | inr l ↦ (let h : height label [] ≡ 0 = refl in omega arith) ])
+        ]
+      ]
+
+pub down_push : (g : Aig) (n v w : ℕ) (nodes : List ℕ) → IsFanIn g w v → IsDownTo g n v nodes → IsDownTo g n w (nodes ++ w ∷ [])
+down_push g n v w nodes f d = record { rest = v ∷ d.rest; is = reverse_push nodes w ∙ ap (λ xs. w ∷ xs) d.is; climbs = (f, d.climbs) }
+  where
+    reverse_push : (xs : List ℕ) (x : ℕ) → reverse (xs ++ x ∷ []) ≡ x ∷ reverse xs
+    reverse_push xs x = reverse-append xs (x ∷ [])

@@ -4,15 +4,10 @@ mod GraphLemmas
 mod LabelLemmas
 mod BarrierLemmas
 mod LinkLemmas
-mod TurnLemmas
 mod HandLemmas
 mod StampLemmas
 mod WayLemmas
-mod SearchLemmas
-mod FirstLemmas
-mod DownLemmas
 mod WalkLemmas
-mod ShowLemmas
 mod MarkLemmas
 mod TargetLemmas
 mod StepLemmas

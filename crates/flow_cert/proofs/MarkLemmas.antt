@@ -1,7 +1,6 @@
 -- The marks of the nodes that two paths of a step share, node by node.
-use Rattle.flow_cert.proofs.Common.{◌≡◌, ℕ, ◌+◌, ◌-◌, ◌<◌, ◌≤◌, Bool, true, false, List, [], ◌∷◌, ◌++◌, length, get_or, set, Some, refl, sym, ap, ◌∙◌, subst, inl, inr, ◌⊎◌, arith, length-set, get_or-set_other, get_or-set_same, slice_get, cases_eq, cases_lt, slice_get_within, same_Some, In, In-left, In-right, In-push, PathValue, StepValue, IsShared, zeros, rules}
+use Rattle.flow_cert.proofs.Common.{◌≡◌, ℕ, ◌+◌, ◌-◌, ◌<◌, ◌≤◌, Bool, true, false, List, [], ◌∷◌, ◌++◌, length, get_or, set, Some, sym, ap, ◌∙◌, subst, inl, inr, ◌⊎◌, arith, length-set, get_or-set_other, get_or-set_same, slice_get, cases_eq, cases_lt, slice_get_within, same_Some, In, In-left, In-right, In-push, PathValue, StepValue, IsShared, rules}
 use Rattle.flow_cert.specs.Marks.{StandsIn, HasTaken, first, again, shared, AreTaken, AreMarkedTo, AreMarked}
-use Rattle.flow_cert.proofs.StampLemmas.{zero_at}
 
 pub taken_sizes : (node place m : ℕ) (marks : List Bool) (met : List ℕ) (marks' : List Bool) (met' : List ℕ) → HasTaken node place m marks met marks' met' → (length marks' ≡ length marks) × (length met' ≡ length met)
 taken_sizes node place m marks met marks' met' (first z e f) = (ap length f, ap length e ∙ length-set met m (place + 1))

@@ -1,7 +1,7 @@
 -- Worked examples: which nodes a certificate claims.
 --
 -- The sources are the inputs 1 and 2. Nodes 3 and 4 are two products of them, for the roots 6 and 8, and each has the depth 1.
-use Rattle.flow_cert.proofs.Common.{◌≡◌, ℕ, ◌/◌, ◌<◌, ◌≤◌, List, [], ◌∷◌, length, refl, sym, ap, ◌∙◌, inl, inr, arith, slice_get_within, Aig, Regular, Pair, label_at, StepValue, CertificateValue, node, complemented, IsFirstToNeed, IsShared, IsNeeded, root, shared, HasStep, AreNeeded}
+use Rattle.flow_cert.proofs.Common.{◌≡◌, ℕ, ◌/◌, ◌<◌, List, [], ◌∷◌, length, refl, sym, ap, ◌∙◌, inl, inr, arith, slice_get_within, Aig, Regular, Pair, label_at, StepValue, CertificateValue, node, complemented, IsFirstToNeed, IsShared, IsNeeded, root, shared, HasStep, AreNeeded}
 use Rattle.flow_cert.proofs.TargetLemmas.{first_once}
 
 abbrev pair : ℕ → ℕ → Pair
@@ -64,9 +64,8 @@ complement_first = inl (complemented refl (record { above = omega arith; is = re
 none_there : (m : ℕ) → IsNeeded circuit (3 ∷ 6 ∷ []) label (certificate []) m → ⊥
 none_there m (root l p f and e) =
     let at : l ≡ 3 = first_once circuit label 1 (3 ∷ 6 ∷ []) l 3 f complement_first in
-    let low : 3 ≤ l / 2 = and.0 in
     let half : l / 2 ≡ 1 = ap (λ x. x / 2) at in
-    absurd (omega arith)
+    absurd (omega (arith, and.0))
 none_there m (shared t i n h) = absurd i
 
 pub no_claim : AreNeeded circuit (3 ∷ 6 ∷ []) label (certificate [])

@@ -1,5 +1,5 @@
 -- The nodes whose claims are needed: they are the same where the paths are, and the numbers of lines have no part in them.
-use Rattle.flow_cert.proofs.Common.{◌≡◌, ℕ, ◌≤◌, ◌<◌, List, map, Some, slice_get, refl, sym, ap, ◌∙◌, subst, arith, Aig, In, LabelsValue, label_of, PathValue, StepValue, CertificateValue, bare_path, bare_step, bare, AreLabelClaims, IsFirstToNeed, IsShared, IsNeeded, root, shared, AreNeeded, ShowAlike, HasOneClaiming, rules}
+use Rattle.flow_cert.proofs.Common.{◌≡◌, ℕ, ◌≤◌, List, sym, ap, ◌∙◌, subst, arith, Aig, LabelsValue, StepValue, CertificateValue, bare_step, bare, AreLabelClaims, IsFirstToNeed, IsShared, IsNeeded, root, shared, AreNeeded, ShowAlike, HasOneClaiming, rules}
 use Rattle.cert_check.proofs.BareLemmas.{same_step, same_path}
 
 -- a step of the same node with the same paths shares the same nodes

@@ -1,5 +1,5 @@
 -- Lists of numbers in which none occurs twice.
-use Rattle.flow_cert.proofs.Common.{◌≡◌, ℕ, zero, suc, ◌<◌, ◌≤◌, List, [], ◌∷◌, length, get_or, Some, refl, ap, ◌∙◌, inl, inr, arith, cases_eq, slice_get-get_or, In, IsAscending, AreApart, apart_once, apart_short}
+use Rattle.flow_cert.proofs.Common.{◌≡◌, ℕ, zero, suc, ◌<◌, ◌≤◌, List, [], ◌∷◌, length, get_or, refl, inl, inr, arith, cases_eq, slice_get-get_or, In, IsAscending, AreApart, apart_once, apart_short}
 
 -- places have different elements
 pub once_places : (xs : List ℕ) (i j : ℕ) → AreApart xs → i < j → j < length xs → get_or xs i 0 ≡ get_or xs j 0 → ⊥

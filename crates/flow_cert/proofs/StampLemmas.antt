@@ -1,5 +1,5 @@
 -- Values with stamps, as the list that they count as.
-use Rattle.flow_cert.proofs.Common.{◌≡◌, ℕ, zero, suc, ◌<◌, ◌≤◌, eqb, List, [], ◌∷◌, length, get_or, set, refl, ap, ◌∙◌, arith, eqb-true, eqb-false, choose, get_or_read, zeros, counted, values_at}
+use Rattle.flow_cert.proofs.Common.{◌≡◌, ℕ, zero, suc, ◌<◌, ◌≤◌, eqb, List, [], ◌∷◌, length, get_or, set, refl, ap, ◌∙◌, arith, eqb-true, eqb-false, choose, zeros, counted, values_at}
 
 pub length_values : (p : ℕ) (ss vs : List ℕ) → length ss ≡ length vs → length (values_at p ss vs) ≡ length vs
 length_values p [] [] e = refl
@@ -42,10 +42,6 @@ values_none p (s ∷ ss) [] n ne = absurd (omega arith)
 values_none p (s ∷ ss) (v ∷ vs) n ne =
     ap (λ y. y ∷ values_at p ss vs) (counted_none p s v (λ e. ne 0 (omega arith) e)) ∙ ap (λ ys. 0 ∷ ys) (values_none p ss vs (omega arith) (λ i l e. ne (suc i) (omega arith) e))
 
-pub length_zeros : (n : ℕ) → length (zeros n) ≡ n
-length_zeros zero = refl
-length_zeros (suc n) = ap suc (length_zeros n)
-
 pub zero_at : (n m : ℕ) → get_or (zeros n) m 0 ≡ 0
 zero_at zero m = refl
 zero_at (suc n) zero = refl
@@ -54,7 +50,3 @@ zero_at (suc n) (suc m) = zero_at n m
 -- stamps of 0 are none
 pub zeros_none : (p n : ℕ) → 1 ≤ p → (i : ℕ) → get_or (zeros n) i 0 ≡ p → ⊥
 zeros_none p n some i e = let z : get_or (zeros n) i 0 ≡ 0 = zero_at n i in omega arith
-
--- an element that was read, whatever stands for one past the end
-pub read_is : (xs : List ℕ) (i x : ℕ) → i < length xs → x ≡ get_or xs i x → x ≡ get_or xs i 0
-read_is xs i x l e = get_or_read xs i x l e 0

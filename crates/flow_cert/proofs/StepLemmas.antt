@@ -1,10 +1,10 @@
 -- The steps of the needed nodes, from above.
-use Rattle.flow_cert.proofs.Common.{◌≡◌, ℕ, ◌+◌, ◌<◌, ◌≤◌, Bool, true, false, List, [], ◌∷◌, ◌++◌, length, map, reverse, refl, sym, ap, ◌∙◌, subst, inl, inr, arith, cases_eq, reverse-append, map-append, slice_get_within, Aig, first_and, node_count, IsAnd, AreNormal, In, IsAscending, IsDescending, In-left, In-right, In-push, In-map, from_map, StepValue, AreRight, IsStepOf, IsShared, HasStep, mark, AreMarked, FitStep, CanBegin, IsWanted, AreDoneTo, AreSteps}
+use Rattle.flow_cert.proofs.Common.{◌≡◌, ℕ, ◌+◌, ◌<◌, ◌≤◌, Bool, true, false, List, [], ◌∷◌, ◌++◌, length, map, reverse, refl, sym, ap, ◌∙◌, subst, inl, inr, arith, cases_eq, reverse-append, map-append, slice_get_within, Aig, first_and, node_count, AreNormal, In, IsAscending, IsDescending, In-left, In-right, In-push, In-map, from_map, StepValue, AreRight, IsStepOf, IsShared, HasStep, mark, AreMarked, FitStep, IsWanted, AreDoneTo, AreSteps}
 use Rattle.list_laws.proofs.Reversed.{reversed_in, in_reversed}
-use Rattle.flow_cert.specs.Steps as steps
 use Rattle.flow_cert.proofs.GraphLemmas.{path_below}
 use Rattle.flow_cert.proofs.LabelLemmas.{high_and}
-use Rattle.flow_cert.proofs.ShowLemmas.{count_one}
+use Rattle.flow_cert.proofs.WayLemmas.{count_one}
+use Rattle.flow_cert.specs.Steps as steps
 
 -- the numbers of a step's nodes are in range
 pub step_fits : (g : Aig) (k : ℕ) (label : ℕ → ℕ) (s : StepValue) (n : ℕ) → AreNormal (first_and g) g.pairs → n ≡ node_count g → IsStepOf g k label s → FitStep s n

@@ -1,5 +1,5 @@
 -- The depth that roots need, root by root.
-use Rattle.flow_cert.proofs.Common.{◌≡◌, ℕ, ◌+◌, ◌/◌, ◌%◌, ◌<◌, ◌≤◌, List, [], ◌∷◌, ◌++◌, take, length, get_or, refl, sym, ap, ◌∙◌, subst, inl, inr, arith, Aig, IsAnd, IsSource, Regular, lits_of, In, Needs, In-append, In-map, In-get_or, map-append, take_all, take_more, IsFirstToNeed}
+use Rattle.flow_cert.proofs.Common.{◌≡◌, ℕ, ◌+◌, ◌/◌, ◌%◌, ◌<◌, ◌≤◌, List, [], ◌∷◌, ◌++◌, take, length, get_or, refl, sym, ap, ◌∙◌, subst, inl, inr, arith, Aig, IsAnd, IsSource, Regular, lits_of, In, Needs, In-append, In-map, In-get_or, map-append, take_more, IsFirstToNeed}
 use Rattle.aig_core.specs.declared.lit.Lit.{Lit}
 use Rattle.cert_check.specs.Valid as valid
 use Rattle.flow_cert.specs.Target.{IsLevel, HasBegin, nothing, node, complemented, IsTarget, IsDeeper, no_more, at_node, at_source}

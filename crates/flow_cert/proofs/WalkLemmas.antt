@@ -1,10 +1,9 @@
 -- The walk down through deep nodes, reading by reading.
-use Rattle.flow_cert.proofs.Common.{◌≡◌, ℕ, ◌+◌, ◌/◌, ◌<◌, ◌≤◌, List, [], ◌∷◌, ◌++◌, length, get_or, set, get_or-set_other, get_or-set_same, length-set, length-append, refl, sym, ap, ◌∙◌, subst, inl, inr, ◌⊎◌, arith, cases_eq, cases_lt, get_or-append, Aig, first_and, node_count, IsAnd, IsNode, AreNormal, Pair, In, In-get_or, In-left, In-right, In-push, CanBeLeaf, IsFanIn, first, second, LabelsValue, label_of, pushed_apart, In-place, Net, net_at, IsUpper, IsEnd, IsMet, AreReaders, AreRight, zeros}
+use Rattle.flow_cert.proofs.Common.{◌≡◌, ℕ, ◌+◌, ◌/◌, ◌<◌, ◌≤◌, List, [], ◌∷◌, ◌++◌, length, get_or, set, get_or-set_other, get_or-set_same, length-set, length-append, refl, sym, ap, ◌∙◌, subst, inl, inr, ◌⊎◌, arith, cases_eq, cases_lt, get_or-append, Aig, first_and, node_count, IsAnd, IsNode, AreNormal, Pair, In, In-get_or, In-left, In-right, In-push, CanBeLeaf, IsFanIn, first, second, LabelsValue, label_of, pushed_apart, In-place, Net, net_at, IsUpper, IsEnd, IsMet, AreReaders, AreRight}
 use Rattle.flow_cert.specs.Walks.{HasRead, free, again, low, deep, IsWalked}
 use Rattle.flow_cert.proofs.OnceLemmas.{once_few}
 use Rattle.flow_cert.proofs.GraphLemmas.{fan_in_below, fan_in_cases, leaf_inside}
 use Rattle.flow_cert.proofs.LabelLemmas.{high_and}
-use Rattle.flow_cert.proofs.StampLemmas.{zero_at}
 
 module _ (g : Aig) (ls : LabelsValue) (n : ℕ) (normal : AreNormal (first_and g) g.pairs) (node : IsAnd g n) (high : 2 ≤ label_of ls n) (k : ℕ) (right : AreRight g k (label_of ls)) where
   -- One reading: m, a fan-in of v, is met.
@@ -19,12 +18,9 @@ module _ (g : Aig) (ls : LabelsValue) (n : ℕ) (normal : AreNormal (first_and g
     there : get_or (set readers m v) m 0 ≡ v
     there = get_or-set_same readers m v 0 (let l : m < node_count g = leaf_inside g m leaf in omega arith)
 
-    other : (x : ℕ) → (x ≡ m → ⊥) → get_or (set readers m v) x 0 ≡ get_or readers x 0
-    other x ne = get_or-set_other readers m x v 0 ne
-
     -- what was met is met still, with its reader
     kept : (x : ℕ) → 0 < get_or readers x 0 → get_or (set readers m v) x 0 ≡ get_or readers x 0
-    kept x l = other x (λ e. let f : get_or readers x 0 ≡ get_or readers m 0 = ap (λ y. get_or readers y 0) e in absurd (omega arith))
+    kept x l = get_or-set_other readers m x v 0 (λ e. let f : get_or readers x 0 ≡ get_or readers m 0 = ap (λ y. get_or readers y 0) e in absurd (omega arith))
 
     kept_pos : (x : ℕ) → 0 < get_or readers x 0 → 0 < get_or (set readers m v) x 0
     kept_pos x l = let e : get_or (set readers m v) x 0 ≡ get_or readers x 0 = kept x l in omega arith
@@ -38,13 +34,13 @@ module _ (g : Aig) (ls : LabelsValue) (n : ℕ) (normal : AreNormal (first_and g
 
     upper_cases : (x : ℕ) → IsUpper (net_at g ls n (set readers m v)) x → IsUpper (net_at g ls n readers) x ⊎ (x ≡ m)
     upper_cases x (inl e) = inl (inl e)
-    upper_cases x (inr u) = elim (cases_eq x m) [ inl e ↦ inr e | inr ne ↦ inl (inr ((let e : get_or (set readers m v) x 0 ≡ get_or readers x 0 = other x ne in let p : 0 < get_or (set readers m v) x 0 = u.0 in omega arith), u.1)) ]
+    upper_cases x (inr u) = elim (cases_eq x m) [ inl e ↦ inr e | inr ne ↦ inl (inr ((let e : get_or (set readers m v) x 0 ≡ get_or readers x 0 = get_or-set_other readers m x v 0 ne in let p : 0 < get_or (set readers m v) x 0 = u.0 in omega arith), u.1)) ]
 
     end_still : (x : ℕ) → IsEnd (net_at g ls n readers) x → IsEnd (net_at g ls n (set readers m v)) x
     end_still x e = record { met = kept_pos x e.met; low = e.low }
 
     end_cases : (x : ℕ) → IsEnd (net_at g ls n (set readers m v)) x → IsEnd (net_at g ls n readers) x ⊎ (x ≡ m)
-    end_cases x e = elim (cases_eq x m) [ inl q ↦ inr q | inr ne ↦ inl (record { met = (let f : get_or (set readers m v) x 0 ≡ get_or readers x 0 = other x ne in let p : 0 < get_or (set readers m v) x 0 = e.met in omega arith); low = e.low }) ]
+    end_cases x e = elim (cases_eq x m) [ inl q ↦ inr q | inr ne ↦ inl (record { met = (let f : get_or (set readers m v) x 0 ≡ get_or readers x 0 = get_or-set_other readers m x v 0 ne in let p : 0 < get_or (set readers m v) x 0 = e.met in omega arith); low = e.low }) ]
 
     met_old : (x : ℕ) → 0 < get_or readers x 0 → IsMet (net_at g ls n (set readers m v)) x
     met_old x l =
@@ -65,7 +61,7 @@ module _ (g : Aig) (ls : LabelsValue) (n : ℕ) (normal : AreNormal (first_and g
         upper = subst (λ i. IsUpper (net_at g ls n (set readers m v)) i) (sym there) (upper_still v (w.uppers_are.only v upper).0);
         below = m_below;
       })
-      | inr ne ↦ met_old x (let e : get_or (set readers m v) x 0 ≡ get_or readers x 0 = other x ne in omega arith)
+      | inr ne ↦ met_old x (let e : get_or (set readers m v) x 0 ≡ get_or readers x 0 = get_or-set_other readers m x v 0 ne in omega arith)
     ]
 
     -- m was in neither list

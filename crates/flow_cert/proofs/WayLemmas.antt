@@ -1,7 +1,8 @@
 -- The ways up from the starts are paths, and share no low node.
-use Rattle.flow_cert.proofs.Common.{◌≡◌, ℕ, ◌+◌, ◌<◌, ◌≤◌, cond, ltb, List, [], ◌∷◌, ◌++◌, length, get_or, Some, refl, sym, ap, ◌∙◌, subst, inl, inr, eqb, arith, length-append, eqb-true, eqb-false, ltb-true, ltb-false, cases_lt, IsAnd, IsSource, Regular, In, choose, In-get_or, In-push, place_in, get_pushed, slice_get, slice_get_within, CanBeLeaf, IsFanIn, IsPath, PathValue, Net, IsLow, IsInner, IsUpper, IsNet, IsChoice, HasChosen, IsLinked, AreStarts, next_of, IsOnWay, low, upper, Passes, start, onward, IsWayTo, AreWays, AreWaysTo}
+use Rattle.flow_cert.proofs.Common.{◌≡◌, ℕ, ◌+◌, ◌<◌, ◌≤◌, cond, ltb, List, [], ◌∷◌, ◌++◌, length, get_or, Some, refl, sym, ap, ◌∙◌, subst, inl, inr, eqb, arith, length-append, eqb-true, eqb-false, ltb-true, ltb-false, cases_lt, IsAnd, IsSource, Regular, In, choose, In-get_or, In-push, place_in, get_pushed, slice_get, slice_get_within, CanBeLeaf, IsFanIn, IsPath, PathValue, Net, IsLow, IsInner, IsUpper, IsNet, IsChoice, HasChosen, IsLinked, AreStarts, next_of, IsOnWay, low, upper, Passes, start, onward, IsWayTo, AreWays, AreWaysTo, Aig, first_and, AreNormal, LabelsValue, label_of, path_count, SiteValue, net_at, net_of, AreReaders, AreRight, owner_in, AreLinks, AreShowing}
 use Rattle.flow_cert.proofs.OnceLemmas.{once_places}
 use Rattle.flow_cert.proofs.GraphLemmas.{fan_in_below, leaf_pos, source_not_and, path_push, path_last}
+use Rattle.flow_cert.proofs.LabelLemmas.{label_rises, source_or_and}
 
 -- one step up
 record IsStep (net : Net) (owner : ℕ → ℕ) (m x : ℕ) : Type 0 where
@@ -155,3 +156,28 @@ ways_push net owner starts limit paths path k w =
         | inr h ↦ subst (λ (x : PathValue). IsWayTo net owner (get_or starts i 0) net.node x.nodes) h.1 (subst (λ x. IsWayTo net owner (get_or starts x 0) net.node path.nodes) (let f : i ≡ length paths = h.0 in let g : limit ≡ i = omega arith in g) w)
       ];
     }
+
+-- the net of a node with a label of at least 2
+pub net_is : (g : Aig) (k n : ℕ) (ls : LabelsValue) (readers : List ℕ) → AreRight g k (label_of ls) → AreNormal (first_and g) g.pairs → IsAnd g n → 2 ≤ label_of ls n → AreReaders (net_at g ls n readers) → IsNet (net_at g ls n readers)
+net_is g k n ls readers right normal and high r = record {
+  and = and;
+  high = high;
+  is = refl;
+  normal = normal;
+  rising = label_rises g k (label_of ls) normal right;
+  sources = source_or_and g k (label_of ls) normal right;
+  readers = r;
+}
+
+-- the paths of the links show the label
+pub shown : (site : SiteValue) (k : ℕ) (owners starts : List ℕ) (paths : List PathValue) → IsNet (net_of site) → AreLinks site owners starts → AreWays (net_of site) (owner_in site owners) starts paths → length starts ≡ k + 1
+    → AreShowing site.graph k (label_of site.labels) site.node paths
+shown site k owners starts paths is links ways e = record {
+  count = ways.count ∙ e;
+  each = ways_paths (net_of site) (owner_in site owners) starts paths ways;
+  apart = λ i j m p q l a b c d ne. ways_share (net_of site) is (owner_in site owners) links.chosen (length starts) links.routed.linked starts paths links.routed.begin ways i j m p q l a b c d;
+}
+
+-- how many paths show a claim
+pub count_one : (k claim : ℕ) → claim ≡ 1 → path_count k claim ≡ 1
+count_one k claim e = choose (λ v. v ≡ 1) (eqb claim 1) 1 (k + 1) (λ _. refl) (λ f. absurd (eqb-false claim 1 f e))

@@ -5,8 +5,6 @@ pub mod Stamps
 pub mod Net
 pub mod Links
 pub mod Search
-pub mod Ways
-pub mod Justify
 pub mod Walks
 pub mod Marks
 pub mod Target

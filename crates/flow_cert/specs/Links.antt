@@ -3,14 +3,15 @@
 -- Each inner node has chosen one of its fan-ins, from which a path comes to it, or itself where no path passes it. The node
 -- itself has chosen an end for each path. A low node is chosen at most once: `owner` is who has chosen it. So the paths are a
 -- matching of choosers and low nodes, and one more path is one more pair of the matching.
-use Rattle.std.specs.Prelude.{◌≡◌, ℕ, ◌<◌, ◌≢◌, if◌then◌else◌, ◌==◌, List, slice_index, length, ◌⊎◌}
+use Rattle.std.specs.Prelude.{◌≡◌, ℕ, ◌<◌, ◌≢◌, if◌then◌else◌, ◌==◌, List, slice_index, length, ◌⊎◌, ◌+◌, nat_lt, Some, slice_get}
 use Rattle.aig_core.specs.Aig.{node_count, IsSource}
 use Rattle.aig_core.specs.declared.lit.Kind.TheVariants.{Regular}
 use Rattle.list_laws.specs.Apart.{AreApart}
 use Rattle.list_laws.specs.Members.{In}
 use Rattle.cut_sets.specs.Cuts.{CanBeLeaf}
-use Rattle.cert_check.specs.Paths.{IsFanIn}
-use Rattle.flow_cert.specs.Net.{Net, SiteValue, net_of, is_inner, IsInner, IsEnd}
+use Rattle.cert_check.specs.Paths.{IsFanIn, IsPath}
+use Rattle.flow_cert.specs.Net.{Net, SiteValue, net_of, is_inner, IsInner, IsEnd, IsLow, IsUpper}
+use Rattle.cert_check.specs.CertificateValue.{PathValue}
 
 -- what an inner node may choose: itself or a leaf that it reads
 abbrev pub IsChoice : Net → ℕ → ℕ → Type 0
@@ -63,3 +64,32 @@ pub record AreLinks (site : SiteValue) (owners starts : List ℕ) : Type 0 where
   pub chosen : ℕ → ℕ
   pub routed : AreRouted (net_of site) (owner_in site owners) chosen starts
   pub size : length owners ≡ node_count site.graph
+
+-- the next node up: the owner of a low node, but for an end, and otherwise the reader
+abbrev pub next_of : Net → (ℕ → ℕ) → ℕ → ℕ
+next_of net owner m = if nat_lt (net.label m + 1) net.height then (if owner m == net.node then net.reader m else owner m) else net.reader m
+
+-- a path comes to m: a low node that another one owns, or an upper one
+pub data IsOnWay (net : Net) (owner : ℕ → ℕ) (m : ℕ) : Type 0 where
+  low : CanBeLeaf net.graph m → IsLow net m → 0 < owner m → owner m ≢ m → IsOnWay net owner m
+  upper : IsUpper net m → IsOnWay net owner m
+
+-- the path that starts at s passes x, from owner to owner
+pub data Passes (net : Net) (owner : ℕ → ℕ) (s : ℕ) : ℕ → Type 0 where
+  start : {x : ℕ} → x ≡ s → Passes net owner s x
+  onward : {x : ℕ} (v : ℕ) → Passes net owner s v → owner v ≡ x → IsInner net x → Passes net owner s x
+
+-- a path from s up to m, on low nodes from owner to owner
+pub record IsWayTo (net : Net) (owner : ℕ → ℕ) (s m : ℕ) (path : List ℕ) : Type 0 where
+  pub is : IsPath net.graph m path
+  pub on : IsOnWay net owner m
+  pub low : (x : ℕ) → In path x → IsLow net x → Passes net owner s x
+
+-- the paths that start at the first of these nodes
+pub record AreWaysTo (net : Net) (owner : ℕ → ℕ) (starts : List ℕ) (limit : ℕ) (paths : List PathValue) : Type 0 where
+  pub count : length paths ≡ limit
+  pub each : (i : ℕ) (p : PathValue) → slice_get paths i ≡ Some p → IsWayTo net owner (slice_index starts i) net.node p.nodes
+
+-- the paths that start at all of them
+abbrev pub AreWays : Net → (ℕ → ℕ) → List ℕ → List PathValue → Type 0
+AreWays net owner starts paths = AreWaysTo net owner starts (length starts) paths

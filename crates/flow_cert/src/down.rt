@@ -4,7 +4,7 @@ ghost use Rattle.aig_core.specs.Aig.{IsAnd, node_count};
 ghost use Rattle.cert_check.specs.Paths.{IsPath, IsFanIn};
 ghost use Rattle.depth_label.specs.Label.{label_of};
 ghost use Rattle.flow_cert.specs.Net.{AreRight};
-ghost use Rattle.flow_cert.specs.Justify.{IsWayDown};
+ghost use Rattle.flow_cert.specs.Steps.{IsWayDown};
 
 use crate::leaf::can_be_leaf;
 use aig_core::Graph;

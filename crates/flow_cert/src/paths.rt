@@ -4,7 +4,7 @@ ghost use Rattle.aig_core.specs.Aig.{node_count, IsAnd};
 ghost use Rattle.depth_label.specs.Label.{label_of};
 ghost use Rattle.flow_cert.specs.Net.{AreRight};
 ghost use Rattle.flow_cert.specs.Links.{AreLinks};
-ghost use Rattle.flow_cert.specs.Justify.{IsScratch, AreShowing};
+ghost use Rattle.flow_cert.specs.Steps.{IsScratch, AreShowing};
 
 use crate::augment::add_path;
 use crate::links::clear_links;

@@ -3,7 +3,7 @@ ghost use Rattle.std.specs.Prelude.{◌≡◌, ◌≤◌, IfOk, OnOk};
 ghost use Rattle.aig_core.specs.Aig.{node_count, IsAnd};
 ghost use Rattle.depth_label.specs.Label.{label_of};
 ghost use Rattle.flow_cert.specs.Net.{AreRight};
-ghost use Rattle.flow_cert.specs.Justify.{IsScratch, IsStepOf};
+ghost use Rattle.flow_cert.specs.Steps.{IsScratch, IsStepOf};
 
 use crate::down::path_to;
 use crate::paths::paths_to;

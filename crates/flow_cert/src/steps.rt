@@ -3,9 +3,8 @@ ghost use Rattle.std.specs.Prelude.{◌≡◌, ℕ, ◌<◌, ◌≤◌, ◌+◌,
 ghost use Rattle.aig_core.specs.Aig.{node_count, first_and, IsAnd};
 ghost use Rattle.depth_label.specs.Label.{label_of};
 ghost use Rattle.flow_cert.specs.Net.{AreRight};
-ghost use Rattle.flow_cert.specs.Justify.{IsScratch};
+ghost use Rattle.flow_cert.specs.Steps.{IsScratch, CanBegin, AreDoneTo, AreSteps};
 ghost use Rattle.flow_cert.specs.Marks.{mark};
-ghost use Rattle.flow_cert.specs.Steps.{CanBegin, AreDoneTo, AreSteps};
 
 use crate::marks::mark_shared;
 use crate::scratch::{Scratch, new_scratch};

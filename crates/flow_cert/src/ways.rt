@@ -3,8 +3,7 @@ ghost use Rattle.std.specs.Prelude.{◌≡◌, ℕ, ◌<◌, IfOk};
 ghost use Rattle.aig_core.specs.Aig.{IsSource};
 ghost use Rattle.aig_core.specs.declared.lit.Kind.TheVariants.{Regular};
 ghost use Rattle.flow_cert.specs.Net.{net_of};
-ghost use Rattle.flow_cert.specs.Links.{AreLinks, owner_in};
-ghost use Rattle.flow_cert.specs.Ways.{next_of, IsWayTo, AreWays};
+ghost use Rattle.flow_cert.specs.Links.{AreLinks, owner_in, next_of, IsWayTo, AreWays};
 
 use crate::links::owner;
 use crate::scratch::Links;

@@ -13,8 +13,7 @@ pub use Rattle.list_laws.proofs.Members.{map_agree, In-get_or, In-map}
 pub use Rattle.list_laws.specs.Digits.{number}
 pub use Rattle.list_laws.specs.Members.{In}
 pub use Rattle.lut_sim.specs.Cycle.{address, FitsTables, IsOnlyTableCycle, leaf_values}
-pub use Rattle.lut_sim.specs.Keeps.{HasRoom}
+pub use Rattle.lut_sim.specs.Steps.{HasRoom, value_in, with_table, with_tables, IsTableInRoom, filled, with_sources, HaveSources}
 pub use Rattle.lut_sim.specs.Playable.{IsPlayable, HasValue}
 pub use Rattle.lut_sim.specs.Sources.{is_regular, is_plain, last_source, source_value}
-pub use Rattle.lut_sim.specs.Steps.{value_in, with_table, with_tables, IsTableInRoom, filled, with_sources, HaveSources}
 pub use Rattle.lut_sim.specs.declared.shape.Shape.{Shape}

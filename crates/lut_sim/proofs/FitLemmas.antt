@@ -17,8 +17,7 @@ plain_of_regular s m h = and_from (eqb ((2 * m) % 2) 0) (is_regular s ((2 * m) /
 pub plain_parts : (s : Shape) (l : ℕ) → is_plain s l ≡ true → (l ≡ 2 * (l / 2)) × (is_regular s (l / 2) ≡ true)
 plain_parts s l h =
     let p = and_parts (eqb (l % 2) 0) (is_regular s (l / 2)) h in
-    let e : l % 2 ≡ 0 = eqb-true (l % 2) 0 p.0 in
-    (omega arith, p.1)
+    (omega (arith, eqb-true (l % 2) 0 p.0), p.1)
 
 -- two values that agree at the leaves give the same address
 pub address_agree : (v w : ℕ → Bool) (t : Lut) → ((m : ℕ) → In t.leaves m → v (2 * m) ≡ w (2 * m)) → address v t ≡ address w t

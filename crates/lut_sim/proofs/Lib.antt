@@ -4,5 +4,4 @@ pub mod FitLemmas
 pub mod RoomLemmas
 mod MappingLemmas
 pub mod SourceLemmas
-pub mod ToggleLemmas
 pub mod TableCountLemmas

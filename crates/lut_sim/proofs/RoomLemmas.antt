@@ -1,7 +1,6 @@
 -- There is room for each LUT of a playable circuit.
-use Rattle.lut_sim.proofs.Common.{◌≡◌, ℕ, suc, ◌+◌, ◌-◌, ◌*◌, ◌/◌, ◌^◌, ◌<◌, ◌≤◌, Bool, true, List, [], ◌∷◌, length, get_or, slice_set, take, refl, sym, ap, ◌∙◌, subst, inl, inr, arith, ◌&&◌, ◌||◌, leb, ltb, ◌++◌, append-nil, append_assoc, length-set, or_cases, and_parts, leb-true, take_more_set, take_all, In, Lut, TemplateValue, AscendByLit, bits_of, Shape, last_source, is_regular, IsPlayable, HasValue, HasRoom, IsTableInRoom, filled}
+use Rattle.lut_sim.proofs.Common.{◌≡◌, ℕ, suc, ◌+◌, ◌-◌, ◌*◌, ◌/◌, ◌^◌, ◌<◌, ◌≤◌, Bool, true, List, [], ◌∷◌, length, get_or, slice_set, take, refl, sym, ap, ◌∙◌, subst, inl, inr, arith, ◌&&◌, ◌||◌, leb, ltb, ◌++◌, append-nil, append_assoc, length-set, or_cases, and_parts, leb-true, take_more_set, take_all, In, Lut, TemplateValue, AscendByLit, bits_of, Shape, last_source, is_regular, IsPlayable, HasRoom, IsTableInRoom, filled}
 use Rattle.cover_pick.proofs.BitsLemmas.{base_within}
-use Rattle.lut_sim.proofs.FitLemmas.{plain_parts}
 
 -- a test on two sides that are both within a bound
 either_within : (a b c d : Bool) (m n : ℕ) → (b ≡ true → m ≤ n) → (d ≡ true → m ≤ n) → ((a && b) || (c && d)) ≡ true → m ≤ n
@@ -52,12 +51,3 @@ filled-all bits (b ∷ bs) i e =
 -- a list that is written over from its start
 pub filled-from_start : (bits bs : List Bool) → length bits ≡ length bs → filled bits 0 bs ≡ bs
 filled-from_start bits bs e = filled-all bits bs 0 (omega arith)
-
--- each root of a playable circuit has room
-pub root_in_room : (c : TemplateValue) (s : Shape) (size l : ℕ) → HasRoom c s size → HasValue c s l → l < size
-root_in_room c s size l r (inl p) =
-    let q = plain_parts s l p in
-    let w : l / 2 ≤ last_source s = regular_within s (l / 2) q.1 in
-    let e : l ≡ 2 * (l / 2) = q.0 in
-    let b : 2 * last_source s + 1 < size = r.sources in omega arith
-root_in_room c s size l r (inr lut) = let w : lut.table.lit.0 < size = r.tables lut.table lut.in' in let e : lut.table.lit.0 ≡ l = lut.is in omega arith

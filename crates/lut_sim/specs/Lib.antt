@@ -5,5 +5,4 @@ pub mod Playable
 pub mod Cycle
 pub mod Sim
 -- What only bodies are compared with.
-pub mod Keeps
 pub mod Steps

@@ -1,12 +1,15 @@
 -- The lists that the steps of a cycle write: private helpers of the code.
 use Rattle.std.specs.Prelude.{◌≡◌, IsTrue, ℕ, ◌+◌, ◌*◌, ◌^◌, ◌<◌, ◌≤◌, Bool, false, if◌then◌else◌, List, [], ◌∷◌, length, slice_set, slice_index_or}
 use Rattle.list_laws.specs.Members.{In}
--- the value of a literal
 pub use Rattle.list_laws.specs.Digits.{bit_in as value_in}
 use Rattle.cover_pick.specs.declared.lut.Lut.{Lut}
 use Rattle.lut_sim.specs.declared.shape.Shape.{Shape}
-use Rattle.lut_sim.specs.Sources.{is_regular, is_plain, source_value}
+use Rattle.lut_sim.specs.Sources.{is_regular, is_plain, source_value, last_source}
 use Rattle.lut_sim.specs.Cycle.{address}
+use Rattle.cover_pick.specs.Template.{TemplateValue}
+use Rattle.lut_sim.specs.Playable.{IsPlayable}
+
+-- the value of a literal
 
 -- bits as the values of the sources from n on
 abbrev pub with_sources : List Bool → ℕ → List Bool → List Bool
@@ -36,3 +39,15 @@ pub record IsTableInRoom (t : Lut) (bits size : ℕ) : Type 0 where
 -- each regular source has its value
 pub record HaveSources (shape : Shape) (inputs states values : List Bool) : Type 0 where
   pub each : (n : ℕ) → IsTrue (is_regular shape n) → value_in values (2 * n) ≡ source_value shape inputs states n
+
+-- there is room for the values of all literals
+pub record HasRoom (t : TemplateValue) (shape : Shape) (size : ℕ) : Type 0 where
+  pub sources : 2 * last_source shape + 1 < size
+  pub tables : (u : Lut) → In t.luts u → u.lit.0 < size
+
+-- what a simulator keeps: the circuit can be played, and its lists have their lengths
+pub record KeepsSim (t : TemplateValue) (shape : Shape) (values outputs states : List Bool) : Type 0 where
+  pub playable : IsPlayable t shape
+  pub room : HasRoom t shape (length values)
+  pub outputs_len : length outputs ≡ length t.outputs
+  pub states_len : length states ≡ length t.next

@@ -5,8 +5,7 @@ ghost use Rattle.aig_core.specs.Roots.{lits_of};
 ghost use Rattle.cover_pick.specs.Mapping.{AscendByLit};
 ghost use Rattle.lut_sim.specs.Playable.{IsPlayable};
 ghost use Rattle.lut_sim.specs.Cycle.{FitsTables};
-ghost use Rattle.lut_sim.specs.Keeps.{HasRoom};
-ghost use Rattle.lut_sim.specs.Steps.{value_in};
+ghost use Rattle.lut_sim.specs.Steps.{HasRoom, value_in};
 
 use crate::play::{play, read_roots};
 use crate::shape::Shape;

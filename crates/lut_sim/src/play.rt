@@ -6,8 +6,7 @@ ghost use Rattle.aig_core.specs.Roots.{lits_of};
 ghost use Rattle.lut_sim.specs.Sources.{last_source};
 ghost use Rattle.lut_sim.specs.Playable.{IsPlayable};
 ghost use Rattle.lut_sim.specs.Cycle.{FitsTables, leaf_values};
-ghost use Rattle.lut_sim.specs.Keeps.{HasRoom};
-ghost use Rattle.lut_sim.specs.Steps.{value_in, with_sources, with_table, with_tables, filled, IsTableInRoom, HaveSources};
+ghost use Rattle.lut_sim.specs.Steps.{HasRoom, value_in, with_sources, with_table, with_tables, filled, IsTableInRoom, HaveSources};
 
 use crate::shape::{Shape, is_plain};
 use aig_core::Lit;

@@ -16,7 +16,7 @@ pub struct Sim {
 
 impl Model for Sim {
     ghost use Rattle.lut_sim.specs.Sim.{SimValue};
-    ghost use Rattle.lut_sim.specs.Keeps.{KeepsSim};
+    ghost use Rattle.lut_sim.specs.Steps.{KeepsSim};
 
     ghost Value = { SimValue };
 

@@ -1,18 +1,14 @@
-use Rattle.bit_fun.proofs.Common.{◌≡◌, ◌∙◌, ◌<◌, ◌≤◌, ℕ, List, length, subst, sym, ap, arith, In, node_count, with_leaves, AreLits}
+use Rattle.bit_fun.proofs.Common.{◌≡◌, ◌∙◌, ◌≤◌, ℕ, List, length, subst, sym, ap, In, with_leaves, AreLits}
 use Rattle.cut_enum.specs.declared.limits.TheConstants.{MOST_LEAVES}
 use Rattle.list_laws.proofs.Reversed.{in_reversed}
-use Rattle.bit_fun.proofs.ConeFunctionLemmas.{lits_stay}
-use Rattle.bit_fun.proofs.BitMadeLemmas.{leaf_inside, bit_made}
+use Rattle.bit_fun.proofs.ConeFunctionLemmas.{lits_stay, leaf_inside, bit_made}
 use Rattle.bit_fun.proofs.cone_functions.make_bit.Goals as goal
 
 pub set_leaves-requires-clause-few : goal.set_leaves-requires-clause-few
 set_leaves-requires-clause-few c = subst (λ (ls : List ℕ). length ls ≤ MOST_LEAVES) (sym c.leaves.ensures) c.requires.few
 
 pub set_leaves-requires-clause-inside : goal.set_leaves-requires-clause-inside
-set_leaves-requires-clause-inside c = λ m i.
-    let w : m < node_count c.args.graph.now = leaf_inside c.args.graph.now c.args.table.now m c.requires.table (subst (λ (ls : List ℕ). In ls m) c.leaves.ensures i) in
-    let n : length c.args.lits.now ≡ node_count c.args.graph.now = (c.requires.between).literals.long in
-    omega arith
+set_leaves-requires-clause-inside c = λ m i. leaf_inside c.args.graph.now c.args.pack.now c.args.table.now c.args.lits.now c.requires.table c.requires.between m (subst (λ (ls : List ℕ). In ls m) c.leaves.ensures i)
 
 pub make_nodes-requires-clause-nodes : goal.make_nodes-requires-clause-nodes
 make_nodes-requires-clause-nodes c = λ n i. (c.requires.order.inner n (in_reversed c.args.order.now n i)).and
@@ -22,18 +18,10 @@ make_nodes-requires-clause-lits c =
     let set : c.set_leaves.new.lits ≡ with_leaves c.args.lits.now c.args.v 0 c.args.table.now.leaves = c.set_leaves.ensures ∙ ap (with_leaves c.args.lits.now c.args.v 0) c.leaves.ensures in
     subst (AreLits c.args.graph.now c.args.pack.now) (sym set)
     (lits_stay c.args.graph.now c.args.pack.now c.args.lits.now c.args.v 0 c.args.table.now.leaves
-    (λ m i.
-    let w : m < node_count c.args.graph.now = leaf_inside c.args.graph.now c.args.table.now m c.requires.table i in
-    let n : length c.args.lits.now ≡ node_count c.args.graph.now = (c.requires.between).literals.long in
-    omega arith)
+    (leaf_inside c.args.graph.now c.args.pack.now c.args.table.now c.args.lits.now c.requires.table c.requires.between)
     (c.requires.between).literals)
 
 pub returns : goal.returns
 returns c =
     bit_made c.args.graph.now c.args.table.now c.args.v _ c.args.pack.now c.args.lits.now c.set_leaves.new.lits c.make_nodes.new.pack c.make_nodes.new.lits c.fan_in_lit.result c.requires.normal c.requires.table c.requires.order
-    c.requires.between
-    (λ m i.
-    let w : m < node_count c.args.graph.now = leaf_inside c.args.graph.now c.args.table.now m c.requires.table i in
-    let n : length c.args.lits.now ≡ node_count c.args.graph.now = (c.requires.between).literals.long in
-    omega arith)
-    (c.set_leaves.ensures ∙ ap (with_leaves c.args.lits.now c.args.v 0) c.leaves.ensures) c.in_ok-make_nodes.ensures c.fan_in_lit.ensures
+    c.requires.between (c.set_leaves.ensures ∙ ap (with_leaves c.args.lits.now c.args.v 0) c.leaves.ensures) c.in_ok-make_nodes.ensures c.fan_in_lit.ensures

@@ -1,6 +1,5 @@
 use Rattle.bit_fun.proofs.Common.{◌≡◌, ◌∙◌, ap, subst, sym, node_count, IsInner, stop_inner, successors, AreNodes, WalkValue, cone_edges}
-use Rattle.bit_fun.proofs.ConeOrderLemmas.{cone_order}
-use Rattle.bit_fun.proofs.ConeWalkLemmas.{cone_nodes}
+use Rattle.bit_fun.proofs.ConeWalkLemmas.{cone_order, cone_nodes}
 use Rattle.bit_fun.proofs.cone_graph.walk_cone.Goals as goal
 
 pub visit-requires-clause-nodes : goal.visit-requires-clause-nodes

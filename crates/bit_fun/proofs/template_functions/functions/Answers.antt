@@ -1,5 +1,5 @@
 use Rattle.std.proofs.lemmas.Result.{IfOk-weaker}
-use Rattle.bit_fun.proofs.ConfigurationLemmas.{has_one_bit, has_one_configuration}
+use Rattle.bit_fun.proofs.LawLemmas.{has_one_bit, has_one_configuration}
 use Rattle.bit_fun.proofs.PackLemmas.{has_configurations, has_one_pack}
 use Rattle.bit_fun.proofs.template_functions.functions.Goals as goal
 

@@ -1,6 +1,6 @@
 use Rattle.bit_fun.proofs.Common.{◌≡◌, ◌∙◌, [], List, ap, subst, sym, In, Aig, first_and, AreNormal, Lut, PackParam, PackValue, IsPack, AreTablesMadeTo, IsPackOf}
 use Rattle.cover_pick.specs.Template.{TemplateValue}
-use Rattle.bit_fun.proofs.PackKeptLemmas.{table_in, pack_of, pack_kept}
+use Rattle.bit_fun.proofs.PackLemmas.{table_in, pack_of, pack_kept}
 use Rattle.bit_fun.proofs.template_functions.make_pack.Goals as goal
 
 pub push_tables-requires-clause-tables : goal.push_tables-requires-clause-tables

@@ -1,4 +1,4 @@
-use Rattle.bit_fun.proofs.BitMadeLemmas.{one_bit_more}
+use Rattle.bit_fun.proofs.ConeFunctionLemmas.{one_bit_more}
 use Rattle.bit_fun.proofs.template_functions.push_table.Goals as goal
 
 pub loop-v-preserved : goal.loop-v-preserved

@@ -1,6 +1,6 @@
 use Rattle.bit_fun.proofs.Common.{◌≡◌, ◌∙◌, ◌+◌, ◌/◌, ℕ, List, ◌∷◌, drop, reverse, subst, sym, arith, Lut, IsConeOrder, AreTablesMadeTo}
 use Rattle.list_laws.proofs.Items.{member_at, drop_at}
-use Rattle.bit_fun.proofs.BitMadeLemmas.{one_table_more}
+use Rattle.bit_fun.proofs.ConeFunctionLemmas.{one_table_more}
 use Rattle.bit_fun.proofs.template_functions.push_tables.Goals as goal
 
 pub walk_cone-requires-clause-top : goal.walk_cone-requires-clause-top

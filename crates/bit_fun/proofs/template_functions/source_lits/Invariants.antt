@@ -1,4 +1,4 @@
-use Rattle.bit_fun.specs.ConeFunctions.{HaveSourceLitsTo}
+use Rattle.bit_fun.proofs.Common.{HaveSourceLitsTo}
 use Rattle.bit_fun.proofs.template_functions.source_lits.Given as goal
 
 abbrev pub invariant-loop-i : goal.invariant-loop-i

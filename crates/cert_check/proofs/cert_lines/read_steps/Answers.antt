@@ -36,5 +36,4 @@ loop-line-preserved c =
 pub returns-clause-steps : goal.returns-clause-steps
 returns-clause-steps c =
     let lines : List WordsLine = map (words_line c.args.text.now) c.args.lines.now in
-    let same : length lines ≡ length c.args.lines.now = length-map c.args.lines.now (words_line c.args.text.now) in
-    all_read lines c.loop-line.line-index c.loop-line.steps.items c.loop-line.invariant (omega arith)
+    all_read lines c.loop-line.line-index c.loop-line.steps.items c.loop-line.invariant (omega (arith, length-map c.args.lines.now (words_line c.args.text.now)))

@@ -1,21 +1,18 @@
 use Rattle.cert_check.proofs.Common.{◌≡◌, ℕ, [], List, get_or, ap, ◌∙◌, subst, roots_of, OrMemory, OrMemory-map, StepValue, CertificateValue, StepsFault, IsFault, AreInTurn, refusal_of, claim_of, IsReached, IsValid, passed_err}
 use Rattle.cert_check.proofs.InTurnLemmas.{turn_valid}
 use Rattle.cert_check.proofs.LeastLemmas.{valid_bound, valid_claims}
-use Rattle.cert_check.proofs.CheckLemmas.{one_verdict, fault_of_steps, fault_of_depth, reached_all, reached_back, passed_on_ok}
+use Rattle.cert_check.proofs.CheckLemmas.{one_verdict, fault_of_steps, fault_of_depth, reached_all, reached_back}
 use Rattle.cert_check.proofs.checking.check.Goals as goal
 
-pub returns-in_err-claims : goal.returns-in_err-claims
-returns-in_err-claims c =
+pub returns-in_err-claims-clause-fault : goal.returns-in_err-claims-clause-fault
+returns-in_err-claims-clause-fault c =
     let same : c.deref.result.now ≡ c.args.cert.now.steps = c.deref.ensures.value ∙ ap (λ (x : CertificateValue). x.steps) c.cert.view_is in
-    record {
-      ok = passed_on_ok c.from_residual.result _ _ c.from_residual.ensures.1;
-      fault = passed_err c.from_residual.result c.in_err-claims.field-0.0 (OrMemory refusal_of (IsFault c.args.graph.now (roots_of c.args.roots.now) c.args.k c.args.cert.now)) c.from_residual.ensures.1
-          (OrMemory-map refusal_of (StepsFault c.args.graph.now c.args.k [] c.deref.result.now ⊥) (IsFault c.args.graph.now (roots_of c.args.roots.now) c.args.k c.args.cert.now) c.in_err-claims.field-0.0
-          (λ e f. fault_of_steps c.args.graph.now (roots_of c.args.roots.now) c.args.k c.args.cert.now e (subst (λ (ss : List StepValue). StepsFault c.args.graph.now c.args.k [] ss ⊥ e) same f)) c.in_err-claims.ensures.fault);
-      one_verdict = one_verdict c.args.graph.now (roots_of c.args.roots.now) c.args.k c.args.cert.now c.take_steps.ensures.normal;
-      least = passed_on_ok c.from_residual.result _ _ c.from_residual.ensures.1;
-      claims = passed_on_ok c.from_residual.result _ _ c.from_residual.ensures.1;
-    }
+    passed_err c.from_residual.result c.in_err-claims.field-0.0 (OrMemory refusal_of (IsFault c.args.graph.now (roots_of c.args.roots.now) c.args.k c.args.cert.now)) c.from_residual.ensures.1
+    (OrMemory-map refusal_of (StepsFault c.args.graph.now c.args.k [] c.deref.result.now ⊥) (IsFault c.args.graph.now (roots_of c.args.roots.now) c.args.k c.args.cert.now) c.in_err-claims.field-0.0
+    (λ e f. fault_of_steps c.args.graph.now (roots_of c.args.roots.now) c.args.k c.args.cert.now e (subst (λ (ss : List StepValue). StepsFault c.args.graph.now c.args.k [] ss ⊥ e) same f)) c.in_err-claims.ensures.fault)
+
+pub returns-in_err-claims-clause-one_verdict : goal.returns-in_err-claims-clause-one_verdict
+returns-in_err-claims-clause-one_verdict c = one_verdict c.args.graph.now (roots_of c.args.roots.now) c.args.k c.args.cert.now c.take_steps.ensures.normal
 
 pub returns-then-not-is_reached : goal.returns-then-not-is_reached
 returns-then-not-is_reached c =

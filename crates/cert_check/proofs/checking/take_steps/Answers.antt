@@ -1,16 +1,13 @@
 use Rattle.cert_check.proofs.Common.{◌≡◌, [], ap, ◌∙◌, OrMemory, StepValue, StepsFault, refusal_of, passed_err, Unless-of}
-use Rattle.cert_check.proofs.CheckLemmas.{no_steps, next_stops, next_taken, all_turn, all_claims, passed_ok, passed_on_ok}
+use Rattle.cert_check.proofs.CheckLemmas.{no_steps, next_stops, next_taken, all_turn, all_claims}
 use Rattle.cert_check.proofs.checking.take_steps.Goals as goal
 
-pub returns-in_err-take_step : goal.returns-in_err-take_step
-returns-in_err-take_step c = record {
-  size = passed_ok c.from_residual-in_err-take_step.result _ _ c.from_residual-in_err-take_step.ensures.1;
-  claims = passed_ok c.from_residual-in_err-take_step.result _ _ c.from_residual-in_err-take_step.ensures.1;
-  in_turn = passed_on_ok c.from_residual-in_err-take_step.result _ _ c.from_residual-in_err-take_step.ensures.1;
-  fault = passed_err c.from_residual-in_err-take_step.result c.in_err-take_step.field-0.0 (OrMemory refusal_of (StepsFault c.args.graph.now c.args.k [] c.args.steps.now ⊥)) c.from_residual-in_err-take_step.ensures.1
-      (Unless-of (refusal_of c.in_err-take_step.field-0.0) (next_stops c.args.graph.now c.args.k c.args.steps.now c.loop-step.step-index c.loop-step.last c.loop-step.claims.items c.loop-step.stamps.items c.loop-step.invariant c.step-item.result c.loop-step-test.true c.step-item.is c.in_err-take_step.field-0.0 c.in_err-take_step.ensures.fault));
-  normal = c.len-count.ensures.normal;
-}
+pub returns-in_err-take_step-clause-fault : goal.returns-in_err-take_step-clause-fault
+returns-in_err-take_step-clause-fault c =
+    passed_err c.from_residual-in_err-take_step.result c.in_err-take_step.field-0.0 (OrMemory refusal_of (StepsFault c.args.graph.now c.args.k [] c.args.steps.now ⊥)) c.from_residual-in_err-take_step.ensures.1
+    (Unless-of (refusal_of c.in_err-take_step.field-0.0)
+    (next_stops c.args.graph.now c.args.k c.args.steps.now c.loop-step.step-index c.loop-step.last c.loop-step.claims.items c.loop-step.stamps.items c.loop-step.invariant c.step-item.result c.loop-step-test.true c.step-item.is
+    c.in_err-take_step.field-0.0 c.in_err-take_step.ensures.fault))
 
 pub loop-step-init : goal.loop-step-init
 loop-step-init c =

@@ -7,8 +7,7 @@ first_clash-requires-clause-stamps c = λ m i.
     let nodes : c.deref-3.result.now ≡ c.deref.result.now = c.deref-3.ensures.value ∙ sym c.deref.ensures.value in
     let le : m ≤ c.step.inside.node = c.is_path.ensures.below c.if-not-is_path.false m (subst (λ (l : List ℕ). In l m) nodes i) in
     let same : c.step.inside.node ≡ c.args.step.now.node = ap (λ (s : StepValue). s.node) c.step.view_is in
-    let size : length c.deref-2.result.now ≡ length c.args.stamps.now.items = ap length c.deref-2.ensures.value in
-    omega arith
+    omega (arith, ap length c.deref-2.ensures.value)
 
 pub first_clash-requires-clause-claims : goal.first_clash-requires-clause-claims
 first_clash-requires-clause-claims c = λ m i.

@@ -1,5 +1,5 @@
-use Rattle.cover_pick.proofs.Common.{◌≡◌, ℕ, List, [], length, None, get_or, refl, sym, subst, arith, get_or_from_slice_get, row_at, label_of, IsAt, IsShorter, better, fewest}
-use Rattle.cover_pick.proofs.CandidateLemmas.{fewest_next, fewest_end, fewest_stops}
+use Rattle.cover_pick.proofs.Common.{◌≡◌, ℕ, List, [], length, None, get_or, refl, sym, subst, arith, get_or_from_slice_get, row_at, label_of, IsAt, IsShorter, better, fewest, ◌∙◌, ap, drop_more, drop_all}
+use Rattle.cover_pick.proofs.ChoiceLemmas.{fewest_stops}
 use Rattle.cover_pick.proofs.choice.fewest.Goals as goal
 
 pub loop-i-init : goal.loop-i-init
@@ -10,7 +10,7 @@ loop-i-preserved c =
     let label : ℕ → ℕ = label_of c.args.labels.now in
     let row : List (List ℕ) = row_at c.args.table.now c.args.n in
     let v = c.loop-i.invariant in
-    (better label c.args.r v.0 (get_or row c.loop-i.i []), c.better-best.ensures v.0 v.1, fewest_next label c.args.r row v.0 (fewest label c.args.r None row) c.loop-i.i (omega arith) v.2)
+    (better label c.args.r v.0 (get_or row c.loop-i.i []), c.better-best.ensures v.0 v.1, ap (λ s. fewest label c.args.r v.0 s) (sym (drop_more row c.loop-i.i [] (omega arith))) ∙ v.2)
 
 pub returns-then-has_fewer : goal.returns-then-has_fewer
 returns-then-has_fewer c =
@@ -26,4 +26,4 @@ returns c =
     let label : ℕ → ℕ = label_of c.args.labels.now in
     let row : List (List ℕ) = row_at c.args.table.now c.args.n in
     let v = c.loop-i.invariant in
-    subst (λ o. IsAt label row c.loop-i.best o) (fewest_end label c.args.r row v.0 (fewest label c.args.r None row) c.loop-i.i (omega arith) v.2) v.1
+    subst (λ o. IsAt label row c.loop-i.best o) (ap (λ s. fewest label c.args.r v.0 s) (sym (drop_all c.loop-i.i row (omega arith))) ∙ v.2) v.1

@@ -1,6 +1,5 @@
 use Rattle.cover_pick.proofs.Common.{◌∙◌, lits_of, label_of, cuts_of, cut_at}
-use Rattle.cover_pick.proofs.PlaceLemmas.{cuts_length}
-use Rattle.cover_pick.proofs.PlanLemmas.{plan_all, cuts_all, places_plan, roots_inside}
+use Rattle.cover_pick.proofs.RuleLemmas.{cuts_length, plan_all, cuts_all, places_plan, roots_inside}
 use Rattle.cover_pick.proofs.cuts.cuts_by.Goals as goal
 
 pub returns-clause-len : goal.returns-clause-len

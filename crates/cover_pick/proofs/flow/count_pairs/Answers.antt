@@ -1,11 +1,9 @@
-use Rattle.cover_pick.proofs.Common.{arith, ◌*◌, ◌/◌, ◌<◌, ◌≤◌, length, count_at}
-use Rattle.cover_pick.proofs.CountLemmas.{counts_small, counted_next}
+use Rattle.cover_pick.proofs.Common.{arith, ◌/◌, ◌<◌}
+use Rattle.cover_pick.proofs.UsesLemmas.{counts_small, counted_next}
 use Rattle.cover_pick.proofs.flow.count_pairs.Goals as goal
 
 pub count_pair-requires-clause-room : goal.count_pair-requires-clause-room
-count_pair-requires-clause-room c m =
-    let a : count_at c.loop-n.counts m ≤ 2 * length c.args.graph.now.pairs = counts_small c.args.graph.now c.loop-n.n c.loop-n.counts c.loop-n.invariant.counted m in
-    omega arith
+count_pair-requires-clause-room c m = omega (arith, counts_small c.args.graph.now c.loop-n.n c.loop-n.counts c.loop-n.invariant.counted m)
 
 pub loop-n-preserved : goal.loop-n-preserved
 loop-n-preserved c =

@@ -11,7 +11,6 @@ mark_one : (marks : List Bool) (o : Option (List ℕ)) → mark_leaves marks (or
 mark_one marks None = refl
 mark_one marks (Some c) = refl
 
--- the leaves of the next cut
 mark_next : (marks : List Bool) (cuts : List (Option (List ℕ))) (n : ℕ) → n < length cuts → mark_cuts (mark_leaves marks (or_empty (cut_at cuts n))) (drop (n + 1) cuts) ≡ mark_cuts marks (drop n cuts)
 mark_next marks cuts n l = ap (λ ms. mark_cuts ms (drop (n + 1) cuts)) (mark_one marks (cut_at cuts n)) ∙ ap (λ cs. mark_cuts marks cs) (sym (drop_more cuts n None l))
 

@@ -11,9 +11,7 @@ below g rows n place leaves table node inside at m i =
 pub require_each-requires : goal.require_each-requires
 require_each-requires c i l =
     let leaves : List ℕ = c.leaves.result.now in
-    let b : get_or leaves i 0 < c.args.n =
-    below c.args.graph.now c.args.table.now c.args.n c.in_ok-place.place leaves c.requires.table c.requires.node (c.choose.ensures.inside c.in_ok-place.place c.in_ok-place.was) c.leaves.ensures (get_or leaves i 0) (In-get_or leaves i 0 l) in
-    omega arith
+    omega (arith, below c.args.graph.now c.args.table.now c.args.n c.in_ok-place.place leaves c.requires.table c.requires.node (c.choose.ensures.inside c.in_ok-place.place c.in_ok-place.was) c.leaves.ensures (get_or leaves i 0) (In-get_or leaves i 0 l))
 
 pub returns-clause-above : goal.returns-clause-above
 returns-clause-above c m le =

@@ -1,5 +1,5 @@
 use Rattle.cover_pick.proofs.Common.{ℕ, List, subst, sym, node_count, lits_of, label_of, AnyHeight, LeastHeight, fan_out, flows_by, AreCounted, three_rounds}
-use Rattle.cover_pick.proofs.ThreeLemmas.{best_plan}
+use Rattle.cover_pick.proofs.RoundLemmas.{cheaper_planned}
 use Rattle.cover_pick.proofs.rounds.least_cuts.Goals as goal
 
 pub three_rounds-requires-clause-fan_outs : goal.three_rounds-requires-clause-fan_outs
@@ -14,5 +14,5 @@ returns-clause-plan c =
     let rows = c.args.table.now in
     let label : ℕ → ℕ = label_of c.args.labels.now in
     let roots : List ℕ = lits_of c.args.roots.now in
-    best_plan g rows label roots AnyHeight (three_rounds g rows label roots AnyHeight (flows_by g rows label AnyHeight (fan_out g))) (three_rounds g rows label roots LeastHeight (flows_by g rows label LeastHeight (fan_out g)))
+    cheaper_planned g rows label roots (three_rounds g rows label roots AnyHeight (flows_by g rows label AnyHeight (fan_out g))) (three_rounds g rows label roots LeastHeight (flows_by g rows label LeastHeight (fan_out g)))
     c.in_ok-any.any c.in_ok-low.low c.cheaper.result c.in_ok-any.ensures.plan c.in_ok-low.ensures.plan c.cheaper.ensures.value

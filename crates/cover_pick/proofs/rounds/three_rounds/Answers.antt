@@ -1,6 +1,5 @@
 use Rattle.cover_pick.proofs.Common.{◌∙◌, ℕ, List, sym, lits_of, label_of, LeastCost, fan_out, flows_by, count_at, next_flows, cheaper_flows, cut_at}
-use Rattle.cover_pick.proofs.RoundLemmas.{leaves_there}
-use Rattle.cover_pick.proofs.ThreeLemmas.{first_plan, later_plan, stop_first, stop_second, best_plan}
+use Rattle.cover_pick.proofs.RoundLemmas.{leaves_there, first_plan, later_plan, stop_first, stop_second, cheaper_planned}
 use Rattle.cover_pick.proofs.rounds.three_rounds.Goals as goal
 
 pub uses-requires : goal.uses-requires
@@ -31,7 +30,7 @@ returns-then-are_same-2-clause-plan c =
     let start : List ℕ = flows_by g rows label c.args.scope (fan_out g) in
     let first = first_plan g rows label roots c.args.scope c.args.fan_outs.now c.in_ok-first.first c.requires.fan_outs c.in_ok-first.ensures.plan in
     let second = later_plan g rows label roots c.args.scope start c.in_ok-used.used.items c.deref-2.result.now c.in_ok-first.first c.in_ok-second.second first c.in_ok-used.ensures c.deref-2.ensures.value c.in_ok-second.ensures.plan in
-    let best = best_plan g rows label roots c.args.scope start (next_flows g rows label roots c.args.scope start) c.in_ok-first.first c.in_ok-second.second c.cheaper-best.result first second c.cheaper-best.ensures.value in
+    let best = cheaper_planned g rows label roots start (next_flows g rows label roots c.args.scope start) c.in_ok-first.first c.in_ok-second.second c.cheaper-best.result first second c.cheaper-best.ensures.value in
     stop_second g rows label roots c.args.scope c.in_ok-used.used.items c.in_ok-used_next.used_next.items c.in_ok-first.first c.in_ok-second.second c.cheaper-best.result first c.in_ok-used.ensures second c.in_ok-used_next.ensures
     (sym c.deref-3.ensures.value ∙ (c.are_same-2.ensures c.if-are_same-2.true ∙ c.deref-4.ensures.value)) best
 
@@ -46,5 +45,5 @@ returns-clause-plan c =
     let first = first_plan g rows label roots c.args.scope c.args.fan_outs.now c.in_ok-first.first c.requires.fan_outs c.in_ok-first.ensures.plan in
     let second = later_plan g rows label roots c.args.scope start c.in_ok-used.used.items c.deref-2.result.now c.in_ok-first.first c.in_ok-second.second first c.in_ok-used.ensures c.deref-2.ensures.value c.in_ok-second.ensures.plan in
     let third = later_plan g rows label roots c.args.scope after c.in_ok-used_next.used_next.items c.deref-5.result.now c.in_ok-second.second c.in_ok-third.third second c.in_ok-used_next.ensures c.deref-5.ensures.value c.in_ok-third.ensures.plan in
-    let best = best_plan g rows label roots c.args.scope start after c.in_ok-first.first c.in_ok-second.second c.cheaper-best.result first second c.cheaper-best.ensures.value in
-    best_plan g rows label roots c.args.scope (cheaper_flows g rows label roots start after) (next_flows g rows label roots c.args.scope after) c.cheaper-best.result c.in_ok-third.third c.cheaper.result best third c.cheaper.ensures.value
+    let best = cheaper_planned g rows label roots start after c.in_ok-first.first c.in_ok-second.second c.cheaper-best.result first second c.cheaper-best.ensures.value in
+    cheaper_planned g rows label roots (cheaper_flows g rows label roots start after) (next_flows g rows label roots c.args.scope after) c.cheaper-best.result c.in_ok-third.third c.cheaper.result best third c.cheaper.ensures.value

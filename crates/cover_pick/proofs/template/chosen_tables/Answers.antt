@@ -1,5 +1,5 @@
 use Rattle.cover_pick.proofs.Common.{ℕ, List, err_from_is_err_and, lits_of, label_of, IsMade, cut_at, flows_for}
-use Rattle.cover_pick.proofs.PlanLemmas.{roots_inside}
+use Rattle.cover_pick.proofs.RuleLemmas.{roots_inside}
 use Rattle.cover_pick.proofs.RoundLemmas.{rule_plan}
 use Rattle.cover_pick.proofs.TemplateLemmas.{leaves_inside}
 use Rattle.cover_pick.proofs.ChosenLemmas.{light_is, too_much_told}

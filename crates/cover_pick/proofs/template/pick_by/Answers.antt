@@ -1,6 +1,5 @@
 use Rattle.cover_pick.proofs.Common.{label_of}
-use Rattle.cover_pick.proofs.OnceLemmas.{template_once, light_or_too_much, too_much_answer}
-use Rattle.cover_pick.proofs.ThereLemmas.{each_maps, each_least}
+use Rattle.cover_pick.proofs.ThereLemmas.{template_once, light_or_too_much, too_much_answer, each_maps, each_least}
 use Rattle.cover_pick.proofs.template.pick_by.Goals as goal
 
 pub returns-clause-once : goal.returns-clause-once

@@ -1,15 +1,12 @@
 use Rattle.cover_pick.proofs.Common.{◌≡◌, ◌∙◌, ap, subst, sym, RootsValue, lits_of, roots_of, label_of, target, Made, IsMade, IsLight}
 use Rattle.cover_pick.proofs.ChosenLemmas.{template_is, timely_is}
 use Rattle.cover_pick.proofs.template.template_of.Goals as goal
-use Rattle.cover_pick.proofs.template.template_of.Goals.{After-drop-all-2}
 
--- the tables that were made
 made_is : (c : goal.After-drop-all-2) → IsMade c.args.rule c.args.graph.now c.args.table.now (label_of c.args.labels.now) (roots_of c.args.roots.now) (record { luts = c.made.inside.luts.items; bits = c.made.inside.bits; work = c.made.inside.work })
 made_is c =
     subst (λ m. IsMade c.args.rule c.args.graph.now c.args.table.now (label_of c.args.labels.now) (roots_of c.args.roots.now) m) (sym c.made.view_is)
     (subst (λ ls. IsMade c.args.rule c.args.graph.now c.args.table.now (label_of c.args.labels.now) ls c.in_ok-made.made) (ap lits_of c.deref-4.ensures.value ∙ c.in_ok-all.ensures) c.in_ok-made.ensures.ok)
 
--- the target of the roots
 depth_is : (c : goal.After-drop-all-2) → c.target-depth.result ≡ target c.args.graph.now (label_of c.args.labels.now) (roots_of c.args.roots.now)
 depth_is c =
     c.target-depth.ensures ∙ ap (λ ls. target c.args.graph.now (label_of c.args.labels.now) (lits_of ls)) c.deref.ensures.value ∙ ap (λ ls. target c.args.graph.now (label_of c.args.labels.now) ls) c.in_ok-all.ensures

@@ -1,7 +1,6 @@
-use Rattle.flow_cert.proofs.Common.{◌≡◌, ◌<◌, ◌≤◌, ◌+◌, ◌∙◌, ◌++◌, ◌∷◌, [], arith, ap, length, get_or, refl, length-set, node_count, In-get_or, net_of, owner_in, CanTurn}
+use Rattle.flow_cert.proofs.Common.{◌≡◌, ◌<◌, ◌≤◌, ◌+◌, ◌∙◌, ◌++◌, ◌∷◌, [], arith, ap, length, get_or, refl, length-set, node_count, In-get_or, net_of, owner_in, CanTurn, get_or_read}
 use Rattle.flow_cert.proofs.GraphLemmas.{leaf_inside}
-use Rattle.flow_cert.proofs.StampLemmas.{read_is}
-use Rattle.flow_cert.proofs.TurnLemmas.{owner_set, can_turn, turned, begin, finish}
+use Rattle.flow_cert.proofs.LinkLemmas.{owner_set, can_turn, turned, begin, finish}
 use Rattle.flow_cert.proofs.augment.add_path.Goals as goal
 
 pub loop-links-init : goal.loop-links-init
@@ -11,7 +10,7 @@ loop-links-init c =
       turning = begin (net_of c.args.site.now) (length c.args.links.now.starts.items) (owner_in c.args.site.now c.args.links.now.owners) c.args.search.now.queue.items c.args.search.now.backs.items c.args.place c.requires.found.done c.requires.found.is c.requires.found.inside
           c.requires.linked.chosen c.requires.linked.routed.linked and c.requires.found.free;
       size = c.requires.linked.size;
-      starts = c.in_ok-push.ensures.items ∙ ap (λ x. c.args.links.now.starts.items ++ x ∷ []) (read_is c.args.search.now.queue.items c.args.place c.index.result.now c.requires.found.inside c.index.ensures);
+      starts = c.in_ok-push.ensures.items ∙ ap (λ x. c.args.links.now.starts.items ++ x ∷ []) (get_or_read c.args.search.now.queue.items c.args.place c.index.result.now c.requires.found.inside c.index.ensures 0);
     }
 
 pub turn-j-requires-clause-range : goal.turn-j-requires-clause-range
@@ -19,7 +18,7 @@ turn-j-requires-clause-range c =
     let t = c.loop-links.invariant.turning in
     let count : length c.args.search.now.backs.items ≡ length c.args.search.now.queue.items = c.requires.found.is.count in
     let place : c.loop-links.j < length c.args.search.now.queue.items = t.place in
-    let back : c.index-in-loop-links.result.now ≡ get_or c.args.search.now.backs.items c.loop-links.j 0 = read_is c.args.search.now.backs.items c.loop-links.j c.index-in-loop-links.result.now (omega arith) c.index-in-loop-links.ensures in
+    let back : c.index-in-loop-links.result.now ≡ get_or c.args.search.now.backs.items c.loop-links.j 0 = get_or_read c.args.search.now.backs.items c.loop-links.j c.index-in-loop-links.result.now (omega arith) c.index-in-loop-links.ensures 0 in
     can_turn c.args.site.now (length c.args.links.now.starts.items) (owner_in c.args.site.now c.args.links.now.owners) c.args.search.now.queue.items c.args.search.now.backs.items c.args.place c.requires.found.done c.requires.found.is c.requires.found.inside
     c.loop-links.links.owners c.loop-links.j t (let m : 0 < c.index-in-loop-links.result.now = c.loop-links-test.true in omega arith)
 
@@ -28,15 +27,14 @@ loop-links-preserved c =
     let t = c.loop-links.invariant.turning in
     let count : length c.args.search.now.backs.items ≡ length c.args.search.now.queue.items = c.requires.found.is.count in
     let place : c.loop-links.j < length c.args.search.now.queue.items = t.place in
-    let back : c.index-in-loop-links.result.now ≡ get_or c.args.search.now.backs.items c.loop-links.j 0 = read_is c.args.search.now.backs.items c.loop-links.j c.index-in-loop-links.result.now (omega arith) c.index-in-loop-links.ensures in
+    let back : c.index-in-loop-links.result.now ≡ get_or c.args.search.now.backs.items c.loop-links.j 0 = get_or_read c.args.search.now.backs.items c.loop-links.j c.index-in-loop-links.result.now (omega arith) c.index-in-loop-links.ensures 0 in
     let more : 0 < get_or c.args.search.now.backs.items c.loop-links.j 0 = (let m : 0 < c.index-in-loop-links.result.now = c.loop-links-test.true in omega arith) in
     let r : CanTurn c.args.site.now c.loop-links.links.owners c.args.search.now.queue.items c.args.search.now.backs.items c.loop-links.j =
     can_turn c.args.site.now (length c.args.links.now.starts.items) (owner_in c.args.site.now c.args.links.now.owners) c.args.search.now.queue.items c.args.search.now.backs.items c.args.place c.requires.found.done c.requires.found.is c.requires.found.inside c.loop-links.links.owners c.loop-links.j t more in
     let size : length c.loop-links.links.owners ≡ node_count c.args.site.now.graph = c.loop-links.invariant.size in
-    let node : get_or c.args.search.now.queue.items c.loop-links.j 0 < node_count c.args.site.now.graph = r.node in
     rw (c.turn-j.ensures.owners, c.turn-j.ensures.back) (record {
       turning = turned (net_of c.args.site.now) (length c.args.links.now.starts.items) (owner_in c.args.site.now c.args.links.now.owners) c.args.search.now.queue.items c.args.search.now.backs.items c.args.place c.requires.found.done c.requires.found.is c.requires.found.inside
-          (owner_in c.args.site.now c.loop-links.links.owners) _ c.loop-links.j t more (owner_set c.args.site.now c.loop-links.links.owners _ _ (omega arith) r.chooser);
+          (owner_in c.args.site.now c.loop-links.links.owners) _ c.loop-links.j t more (owner_set c.args.site.now c.loop-links.links.owners _ _ (omega (arith, r.node)) r.chooser);
       size = length-set c.loop-links.links.owners _ _ ∙ size;
       starts = c.turn-j.ensures.starts ∙ c.loop-links.invariant.starts;
     })
@@ -45,18 +43,17 @@ pub set-requires : goal.set-requires
 set-requires c =
     let t = c.loop-links.invariant.turning in
     let place : c.loop-links.j < length c.args.search.now.queue.items = t.place in
-    let end : c.index-end.result.now ≡ get_or c.args.search.now.queue.items c.loop-links.j 0 = read_is c.args.search.now.queue.items c.loop-links.j c.index-end.result.now place c.index-end.ensures in
+    let end : c.index-end.result.now ≡ get_or c.args.search.now.queue.items c.loop-links.j 0 = get_or_read c.args.search.now.queue.items c.loop-links.j c.index-end.result.now place c.index-end.ensures 0 in
     let inside : get_or c.args.search.now.queue.items c.loop-links.j 0 < node_count c.args.site.now.graph = leaf_inside c.args.site.now.graph _ (c.requires.found.is.nodes _ (In-get_or c.args.search.now.queue.items c.loop-links.j 0 place)).1 in
-    let size : length c.loop-links.links.owners ≡ node_count c.args.site.now.graph = c.loop-links.invariant.size in
-    omega arith
+    omega (arith, c.loop-links.invariant.size)
 
 pub returns-clause-linked : goal.returns-clause-linked
 returns-clause-linked c =
     let t = c.loop-links.invariant.turning in
     let count : length c.args.search.now.backs.items ≡ length c.args.search.now.queue.items = c.requires.found.is.count in
     let place : c.loop-links.j < length c.args.search.now.queue.items = t.place in
-    let back : c.index-in-loop-links.result.now ≡ get_or c.args.search.now.backs.items c.loop-links.j 0 = read_is c.args.search.now.backs.items c.loop-links.j c.index-in-loop-links.result.now (omega arith) c.index-in-loop-links.ensures in
-    let end : c.index-end.result.now ≡ get_or c.args.search.now.queue.items c.loop-links.j 0 = read_is c.args.search.now.queue.items c.loop-links.j c.index-end.result.now place c.index-end.ensures in
+    let back : c.index-in-loop-links.result.now ≡ get_or c.args.search.now.backs.items c.loop-links.j 0 = get_or_read c.args.search.now.backs.items c.loop-links.j c.index-in-loop-links.result.now (omega arith) c.index-in-loop-links.ensures 0 in
+    let end : c.index-end.result.now ≡ get_or c.args.search.now.queue.items c.loop-links.j 0 = get_or_read c.args.search.now.queue.items c.loop-links.j c.index-end.result.now place c.index-end.ensures 0 in
     let none : get_or c.args.search.now.backs.items c.loop-links.j 0 ≡ 0 = (let m : c.index-in-loop-links.result.now ≤ 0 = c.loop-links-test.false in omega arith) in
     let and : 0 < c.args.site.now.node = (let a : 1 + length c.args.site.now.graph.kinds ≤ c.args.site.now.node = c.node-node.ensures.net.and.0 in omega arith) in
     let inside : get_or c.args.search.now.queue.items c.loop-links.j 0 < node_count c.args.site.now.graph = leaf_inside c.args.site.now.graph _ (c.requires.found.is.nodes _ (In-get_or c.args.search.now.queue.items c.loop-links.j 0 place)).1 in

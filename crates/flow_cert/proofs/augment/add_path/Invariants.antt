@@ -1,5 +1,5 @@
 use Rattle.flow_cert.proofs.Common.{◌≡◌, ◌∷◌, [], ◌++◌, length, get_or, node_count, net_of, owner_in}
-use Rattle.flow_cert.proofs.TurnLemmas.{IsTurning}
+use Rattle.flow_cert.proofs.LinkLemmas.{IsTurning}
 use Rattle.flow_cert.proofs.augment.add_path.Given as goal
 
 abbrev pub invariant-loop-links : goal.invariant-loop-links

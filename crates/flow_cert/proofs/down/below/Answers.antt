@@ -1,5 +1,5 @@
 use Rattle.flow_cert.proofs.Common.{refl, label_of, first, second}
-use Rattle.flow_cert.proofs.DownLemmas.{second_way}
+use Rattle.flow_cert.proofs.LabelLemmas.{second_way}
 use Rattle.flow_cert.proofs.down.below.Goals as goal
 
 pub returns-then-is_way-clause-fan_in : goal.returns-then-is_way-clause-fan_in

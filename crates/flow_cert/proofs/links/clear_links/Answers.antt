@@ -1,5 +1,5 @@
 use Rattle.flow_cert.proofs.Common.{length}
-use Rattle.flow_cert.proofs.FirstLemmas.{first_links}
+use Rattle.flow_cert.proofs.LinkLemmas.{first_links}
 use Rattle.flow_cert.proofs.links.clear_links.Goals as goal
 
 pub returns-clause-linked : goal.returns-clause-linked

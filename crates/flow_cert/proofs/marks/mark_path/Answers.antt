@@ -7,19 +7,14 @@ take_node-requires-clause-marks c =
     let e : c.deref-m-items.result.now ≡ c.args.path.now.nodes = c.deref-m-items.ensures.value ∙ ap (λ (p : PathValue). p.nodes) c.path.view_is in
     let m : get_or c.deref-m-items.result.now c.loop-m.m-index 0 ≡ get_or c.args.path.now.nodes c.loop-m.m-index 0 = ap (λ xs. get_or xs c.loop-m.m-index 0) e in
     let fit = c.requires.fit.each c.args.path.now _ (In-get c.args.step.now.paths c.args.place c.args.path.now c.requires.path) (In-get_or c.args.path.now.nodes c.loop-m.m-index 0 (subst (λ xs. c.loop-m.m-index < length xs) e c.loop-m-test.true)) in
-    let b : get_or c.args.path.now.nodes c.loop-m.m-index 0 < length c.args.marks.now.items = fit.1 in
-    let size : length c.loop-m.marks.items ≡ length c.args.marks.now.items = c.loop-m.invariant.size in
-    omega arith
+    omega (arith, fit.1, c.loop-m.invariant.size)
 
 pub take_node-requires-clause-met : goal.take_node-requires-clause-met
 take_node-requires-clause-met c =
     let e : c.deref-m-items.result.now ≡ c.args.path.now.nodes = c.deref-m-items.ensures.value ∙ ap (λ (p : PathValue). p.nodes) c.path.view_is in
     let m : get_or c.deref-m-items.result.now c.loop-m.m-index 0 ≡ get_or c.args.path.now.nodes c.loop-m.m-index 0 = ap (λ xs. get_or xs c.loop-m.m-index 0) e in
     let fit = c.requires.fit.each c.args.path.now _ (In-get c.args.step.now.paths c.args.place c.args.path.now c.requires.path) (In-get_or c.args.path.now.nodes c.loop-m.m-index 0 (subst (λ xs. c.loop-m.m-index < length xs) e c.loop-m-test.true)) in
-    let b : get_or c.args.path.now.nodes c.loop-m.m-index 0 < length c.args.marks.now.items = fit.1 in
-    let room : length c.loop-m.met ≡ length c.args.met.now = c.loop-m.invariant.room in
-    let same : length c.args.met.now ≡ length c.args.marks.now.items = c.requires.room in
-    omega arith
+    omega (arith, fit.1, c.loop-m.invariant.room, c.requires.room)
 
 pub loop-m-preserved : goal.loop-m-preserved
 loop-m-preserved c =

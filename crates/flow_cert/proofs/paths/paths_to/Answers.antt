@@ -1,5 +1,5 @@
 use Rattle.flow_cert.proofs.Common.{sym, subst, label_of, net_of, IsNet, SiteValue, AreShowing}
-use Rattle.flow_cert.proofs.ShowLemmas.{net_is, shown}
+use Rattle.flow_cert.proofs.WayLemmas.{net_is, shown}
 use Rattle.flow_cert.proofs.paths.paths_to.Goals as goal
 
 pub make-site-requires-clause-net : goal.make-site-requires-clause-net

@@ -1,14 +1,12 @@
-use Rattle.flow_cert.proofs.Common.{◌≡◌, ◌<◌, arith, refl, length, get_or, node_count, In-get_or, net_of}
-use Rattle.flow_cert.proofs.SearchLemmas.{begun_more, search_start}
+use Rattle.flow_cert.proofs.Common.{◌<◌, arith, refl, get_or, node_count, In-get_or, net_of}
+use Rattle.flow_cert.proofs.HandLemmas.{begun_more, search_start}
 use Rattle.flow_cert.proofs.search.begin.Goals as goal
 
 pub set-requires : goal.set-requires
 set-requires c =
     let end = c.ends-ends.ensures.only _ (In-get_or c.ends-ends.result.now c.loop-m.m-index 0 c.loop-m-test.true) in
     let below : get_or c.ends-ends.result.now c.loop-m.m-index 0 < c.args.site.now.node = (c.node-node.ensures.net.readers.met _ end.met).below in
-    let top : c.args.site.now.node < node_count c.args.site.now.graph = c.node-node.ensures.net.and.1 in
-    let size : length c.loop-m.search.seen ≡ node_count c.args.site.now.graph = c.loop-m.invariant.size in
-    omega arith
+    omega (arith, c.node-node.ensures.net.and.1, c.loop-m.invariant.size)
 
 pub loop-m-preserved : goal.loop-m-preserved
 loop-m-preserved c =

@@ -1,6 +1,5 @@
-use Rattle.flow_cert.proofs.Common.{◌≡◌, ◌+◌, ◌<◌, ◌≤◌, ap, sym, ◌∙◌, arith, length, get_or, subst, inl, inr, cases_lt, net_of, owner_in, IsSearching}
-use Rattle.flow_cert.proofs.StampLemmas.{read_is}
-use Rattle.flow_cert.proofs.SearchLemmas.{queue_short, search_ends}
+use Rattle.flow_cert.proofs.Common.{◌≡◌, ◌+◌, ◌<◌, ◌≤◌, ap, sym, ◌∙◌, arith, length, get_or, subst, inl, inr, cases_lt, net_of, owner_in, IsSearching, get_or_read}
+use Rattle.flow_cert.proofs.HandLemmas.{queue_short, search_ends}
 use Rattle.flow_cert.proofs.search.find.Goals as goal
 
 pub loop-place-init : goal.loop-place-init
@@ -19,7 +18,7 @@ loop-place-preserved-then-tested-len c =
     let n : c.len-in-loop-place.result ≡ c.loop-place.search.queue.len = c.len-in-loop-place.ensures in
     let t : c.loop-place.tested < c.len-in-loop-place.result = c.if-tested-len.true in
     let l : c.loop-place.tested < length c.loop-place.search.queue.items = omega arith in
-    let u : c.index.result.now ≡ get_or c.loop-place.search.queue.items c.loop-place.tested 0 = read_is c.loop-place.search.queue.items c.loop-place.tested c.index.result.now l c.index.ensures in
+    let u : c.index.result.now ≡ get_or c.loop-place.search.queue.items c.loop-place.tested 0 = get_or_read c.loop-place.search.queue.items c.loop-place.tested c.index.result.now l c.index.ensures 0 in
     let o : c.owner.result ≡ owner_in c.args.site.now c.args.links.now.owners (get_or c.loop-place.search.queue.items c.loop-place.tested 0) = c.owner.ensures ∙ ap (owner_in c.args.site.now c.args.links.now.owners) u in
     let some : c.owner.result ≡ 0 → ⊥ = c.if-owner-eq0.false in
     record {

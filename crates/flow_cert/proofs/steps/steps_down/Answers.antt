@@ -1,4 +1,4 @@
-use Rattle.flow_cert.proofs.Common.{◌≡◌, ◌+◌, ◌-◌, ◌<◌, ◌≤◌, arith, subst, length, first_and, label_of, AreDoneTo}
+use Rattle.flow_cert.proofs.Common.{◌≡◌, ◌+◌, ◌-◌, ◌<◌, arith, subst, first_and, label_of, AreDoneTo}
 use Rattle.flow_cert.proofs.steps.steps_down.Goals as goal
 
 pub loop-i-preserved : goal.loop-i-preserved
@@ -14,7 +14,5 @@ loop-i-preserved c =
 
 pub returns : goal.returns
 returns c =
-    let l : c.len.result - (c.sources-first.result + 1) ≤ c.loop-i.i = c.loop-i-test.false in
-    let s : c.sources-first.result ≡ length c.args.graph.now.kinds = c.sources-first.ensures.count in
-    let e : c.sources-first.result + 1 + (c.len.result - (c.sources-first.result + 1) - c.loop-i.i) ≡ first_and c.args.graph.now = omega arith in
+    let e : c.sources-first.result + 1 + (c.len.result - (c.sources-first.result + 1) - c.loop-i.i) ≡ first_and c.args.graph.now = omega (arith, c.sources-first.ensures.count, c.loop-i-test.false) in
     (c.loop-i.marks.items, subst (λ n. AreDoneTo c.args.graph.now c.args.k (label_of c.args.labels.now) c.args.begin n c.loop-i.marks.items c.loop-i.steps.items) e c.loop-i.invariant.done)

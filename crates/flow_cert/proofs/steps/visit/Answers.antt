@@ -1,4 +1,4 @@
-use Rattle.flow_cert.proofs.Common.{◌≡◌, ◌<◌, true, false, sym, ◌∙◌, arith, length, node_count, label_of, get_or_read, mark}
+use Rattle.flow_cert.proofs.Common.{◌≡◌, true, false, sym, ◌∙◌, arith, length, label_of, get_or_read, mark}
 use Rattle.flow_cert.proofs.StepLemmas.{step_fits, done_push}
 use Rattle.flow_cert.proofs.steps.visit.Goals as goal
 
@@ -7,7 +7,5 @@ mark_shared-requires-clause-fit c = step_fits c.args.graph.now c.args.k (label_o
 
 pub returns-clause-done : goal.returns-clause-done
 returns-clause-done c =
-    let n : c.args.n < node_count c.args.graph.now = c.requires.node.1 in
-    let size : length c.args.marks.now.items ≡ node_count c.args.graph.now = c.requires.size in
-    let on : mark c.args.marks.now.items c.args.n ≡ true = sym (get_or_read c.args.marks.now.items c.args.n c.index.result.now (omega arith) c.index.ensures false) ∙ c.if-not-index.false in
+    let on : mark c.args.marks.now.items c.args.n ≡ true = sym (get_or_read c.args.marks.now.items c.args.n c.index.result.now (omega (arith, c.requires.size, c.requires.node.1)) c.index.ensures false) ∙ c.if-not-index.false in
     λ begin d. rw c.in_ok-push.ensures.items (done_push c.args.graph.now c.args.k (label_of c.args.labels.now) c.requires.right begin c.args.n c.args.marks.now.items c.args.steps.now.items d c.in_ok-step.step c.mark_shared.new.marks.items on c.in_ok-step.ensures.step c.in_ok-step.ensures.node c.mark_shared.ensures.marked)

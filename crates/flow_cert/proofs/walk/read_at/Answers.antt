@@ -1,29 +1,23 @@
-use Rattle.flow_cert.proofs.Common.{◌≡◌, ◌<◌, ◌/◌, ◌∙◌, arith, sym, subst, get_or, IsAnd, IsNode, node_count, In-get_or, label_of, HasRead}
-use Rattle.flow_cert.proofs.StampLemmas.{read_is}
+use Rattle.flow_cert.proofs.Common.{◌≡◌, ◌/◌, ◌∙◌, arith, sym, subst, get_or, IsAnd, IsNode, In-get_or, label_of, HasRead, get_or_read}
 use Rattle.flow_cert.proofs.WalkLemmas.{read_both, read_size}
 use Rattle.flow_cert.proofs.walk.read_at.Goals as goal
 
 pub pair_at-pair-requires : goal.pair_at-pair-requires
 pair_at-pair-requires c =
-    let e : c.index-v.result.now ≡ get_or c.args.walk.now.uppers.items c.args.place 0 = read_is c.args.walk.now.uppers.items c.args.place c.index-v.result.now c.requires.inside c.index-v.ensures in
+    let e : c.index-v.result.now ≡ get_or c.args.walk.now.uppers.items c.args.place 0 = get_or_read c.args.walk.now.uppers.items c.args.place c.index-v.result.now c.requires.inside c.index-v.ensures 0 in
     subst (λ v. IsAnd c.args.graph.now v) (sym e) (c.requires.walked.uppers_are.only _ (In-get_or c.args.walk.now.uppers.items c.args.place 0 c.requires.inside)).1
 
 pub read-requires-clause-inside : goal.read-requires-clause-inside
 read-requires-clause-inside c =
-    let e : c.index-v.result.now ≡ get_or c.args.walk.now.uppers.items c.args.place 0 = read_is c.args.walk.now.uppers.items c.args.place c.index-v.result.now c.requires.inside c.index-v.ensures in
+    let e : c.index-v.result.now ≡ get_or c.args.walk.now.uppers.items c.args.place 0 = get_or_read c.args.walk.now.uppers.items c.args.place c.index-v.result.now c.requires.inside c.index-v.ensures 0 in
     let and : IsAnd c.args.graph.now c.index-v.result.now = subst (λ v. IsAnd c.args.graph.now v) (sym e) (c.requires.walked.uppers_are.only _ (In-get_or c.args.walk.now.uppers.items c.args.place 0 c.requires.inside)).1 in
-    let top : c.index-v.result.now < node_count c.args.graph.now = and.1 in
-    let y : c.pair_at-pair.result.y.0 / 2 < c.index-v.result.now = c.pair_at-pair.ensures.normal.below in
-    let x : c.pair_at-pair.result.x.0 / 2 < c.pair_at-pair.result.y.0 / 2 = c.pair_at-pair.ensures.normal.ordered in
-    omega arith
+    omega (arith, and.1, c.pair_at-pair.ensures.normal.below, c.pair_at-pair.ensures.normal.ordered)
 
 pub read-requires-2-clause-inside : goal.read-requires-2-clause-inside
 read-requires-2-clause-inside c =
-    let e : c.index-v.result.now ≡ get_or c.args.walk.now.uppers.items c.args.place 0 = read_is c.args.walk.now.uppers.items c.args.place c.index-v.result.now c.requires.inside c.index-v.ensures in
+    let e : c.index-v.result.now ≡ get_or c.args.walk.now.uppers.items c.args.place 0 = get_or_read c.args.walk.now.uppers.items c.args.place c.index-v.result.now c.requires.inside c.index-v.ensures 0 in
     let and : IsAnd c.args.graph.now c.index-v.result.now = subst (λ v. IsAnd c.args.graph.now v) (sym e) (c.requires.walked.uppers_are.only _ (In-get_or c.args.walk.now.uppers.items c.args.place 0 c.requires.inside)).1 in
-    let top : c.index-v.result.now < node_count c.args.graph.now = and.1 in
-    let y : c.pair_at-pair.result.y.0 / 2 < c.index-v.result.now = c.pair_at-pair.ensures.normal.below in
-    omega arith
+    omega (arith, and.1, c.pair_at-pair.ensures.normal.below)
 
 pub returns-clause-room : goal.returns-clause-room
 returns-clause-room c =
@@ -32,7 +26,7 @@ returns-clause-room c =
 
 pub returns-clause-walked : goal.returns-clause-walked
 returns-clause-walked c =
-    let e : c.index-v.result.now ≡ get_or c.args.walk.now.uppers.items c.args.place 0 = read_is c.args.walk.now.uppers.items c.args.place c.index-v.result.now c.requires.inside c.index-v.ensures in
+    let e : c.index-v.result.now ≡ get_or c.args.walk.now.uppers.items c.args.place 0 = get_or_read c.args.walk.now.uppers.items c.args.place c.index-v.result.now c.requires.inside c.index-v.ensures 0 in
     let and : IsAnd c.args.graph.now c.index-v.result.now = subst (λ v. IsAnd c.args.graph.now v) (sym e) (c.requires.walked.uppers_are.only _ (In-get_or c.args.walk.now.uppers.items c.args.place 0 c.requires.inside)).1 in
     read_both c.args.graph.now c.args.labels.now c.args.n c.len-count.ensures.normal c.requires.node c.requires.high c.requires.right.0 c.requires.right.1 c.pair_at-pair.result c.args.place
     c.args.walk.now.readers c.args.walk.now.uppers.items c.args.walk.now.ends.items c.read.new.walk.readers c.read.new.walk.uppers.items c.read.new.walk.ends.items c.read-2.new.walk.readers c.read-2.new.walk.uppers.items c.read-2.new.walk.ends.items

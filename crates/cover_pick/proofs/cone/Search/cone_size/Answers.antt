@@ -1,5 +1,5 @@
-use Rattle.cover_pick.proofs.Common.{arith, ◌≡◌, ◌∙◌, ◌/◌, ◌<◌, length, ap, node_count, IsAnd, reach}
-use Rattle.cover_pick.proofs.SearchLemmas.{search_start, search_step, search_end, found_and}
+use Rattle.cover_pick.proofs.Common.{arith, ◌∙◌, ap, IsAnd, reach}
+use Rattle.cover_pick.proofs.SearchLemmas.{search_start, search_step, reached_all, found_and}
 use Rattle.cover_pick.proofs.cone.Search.cone_size.Goals as goal
 
 pub loop-next-init : goal.loop-next-init
@@ -13,17 +13,12 @@ pair_at-pair-requires c = found_and c.args.graph.now c.args.leaves.now c.args.to
 pub reach_fan_ins-requires-clause-x : goal.reach_fan_ins-requires-clause-x
 reach_fan_ins-requires-clause-x c =
     let and : IsAnd c.args.graph.now c.node.result = found_and c.args.graph.now c.args.leaves.now c.args.top c.args.stamp c.loop-next.self c.loop-next.next c.node.result c.loop-next.invariant (omega arith) c.node.ensures in
-    let size : length c.loop-next.self.stamps ≡ node_count c.args.graph.now = c.loop-next.invariant.is.size in
-    let x : c.pair_at-pair.result.x.0 / 2 < c.pair_at-pair.result.y.0 / 2 = c.pair_at-pair.ensures.normal.ordered in
-    let y : c.pair_at-pair.result.y.0 / 2 < c.node.result = c.pair_at-pair.ensures.normal.below in
-    omega arith
+    omega (arith, c.loop-next.invariant.is.size, c.pair_at-pair.ensures.normal.ordered, c.pair_at-pair.ensures.normal.below)
 
 pub reach_fan_ins-requires-clause-y : goal.reach_fan_ins-requires-clause-y
 reach_fan_ins-requires-clause-y c =
     let and : IsAnd c.args.graph.now c.node.result = found_and c.args.graph.now c.args.leaves.now c.args.top c.args.stamp c.loop-next.self c.loop-next.next c.node.result c.loop-next.invariant (omega arith) c.node.ensures in
-    let size : length c.loop-next.self.stamps ≡ node_count c.args.graph.now = c.loop-next.invariant.is.size in
-    let y : c.pair_at-pair.result.y.0 / 2 < c.node.result = c.pair_at-pair.ensures.normal.below in
-    omega arith
+    omega (arith, c.loop-next.invariant.is.size, c.pair_at-pair.ensures.normal.below)
 
 pub loop-next-preserved : goal.loop-next-preserved
 loop-next-preserved c =
@@ -32,4 +27,4 @@ loop-next-preserved c =
 
 pub returns-clause-size : goal.returns-clause-size
 returns-clause-size c =
-    c.count-2.ensures ∙ search_end c.args.graph.now c.args.leaves.now c.args.top c.args.stamp c.loop-next.self c.loop-next.next c.requires.normal c.requires.top c.loop-next.invariant (omega arith)
+    c.count-2.ensures ∙ reached_all c.args.graph.now c.args.leaves.now c.args.top c.args.stamp c.loop-next.self c.loop-next.next c.requires.normal c.requires.top c.loop-next.invariant.is (omega arith) c.loop-next.invariant.start

@@ -1,5 +1,5 @@
-use Rattle.cut_enum.proofs.Common.{arith, ◌≡◌, ◌+◌, length, ap, sym, ◌∙◌, vec_len, row_at}
-use Rattle.cut_enum.proofs.SpanLemmas.{parts_of-past, row_between, IsRowAt, read_at}
+use Rattle.cut_enum.proofs.Common.{arith, ◌≡◌, length, ap, sym, ◌∙◌, vec_len, row_at}
+use Rattle.cut_enum.proofs.SpanLemmas.{parts_of-past, row_between}
 use Rattle.cut_enum.proofs.table.CutTable.cuts_of.Goals as goal
 
 pub returns-then-n-len-clause-row : goal.returns-then-n-len-clause-row
@@ -10,23 +10,17 @@ returns-then-n-len-clause-row c =
 pub part-requires-clause-ordered : goal.part-requires-clause-ordered
 part-requires-clause-ordered c =
     let len : vec_len c.self.inside.starts ≡ length c.self.inside.starts.items = c.self.inside.starts.ok.0 in
-    let span : IsRowAt c.self.inside.starts.items c.self.inside.cuts.items c.args.n c.index.result.now c.index-2.result.now =
-    row_between c.self.inside.starts.items c.self.inside.cuts.items c.args.n c.index.result.now c.index-2.result.now c.self.invariant (omega arith)
-    (read_at c.self.inside.starts.items c.args.n c.index.result.now (omega arith) c.index.ensures) (read_at c.self.inside.starts.items (c.args.n + 1) c.index-2.result.now (omega arith) c.index-2.ensures) in
+    let span = row_between c.self.inside.starts.items c.self.inside.cuts.items c.args.n _ _ c.self.invariant (omega arith) c.index.ensures c.index-2.ensures in
     span.ordered
 
 pub part-requires-clause-inside : goal.part-requires-clause-inside
 part-requires-clause-inside c =
     let len : vec_len c.self.inside.starts ≡ length c.self.inside.starts.items = c.self.inside.starts.ok.0 in
-    let span : IsRowAt c.self.inside.starts.items c.self.inside.cuts.items c.args.n c.index.result.now c.index-2.result.now =
-    row_between c.self.inside.starts.items c.self.inside.cuts.items c.args.n c.index.result.now c.index-2.result.now c.self.invariant (omega arith)
-    (read_at c.self.inside.starts.items c.args.n c.index.result.now (omega arith) c.index.ensures) (read_at c.self.inside.starts.items (c.args.n + 1) c.index-2.result.now (omega arith) c.index-2.ensures) in
+    let span = row_between c.self.inside.starts.items c.self.inside.cuts.items c.args.n _ _ c.self.invariant (omega arith) c.index.ensures c.index-2.ensures in
     rw c.deref.ensures.value span.inside
 
 pub returns-clause-row : goal.returns-clause-row
 returns-clause-row c =
     let len : vec_len c.self.inside.starts ≡ length c.self.inside.starts.items = c.self.inside.starts.ok.0 in
-    let span : IsRowAt c.self.inside.starts.items c.self.inside.cuts.items c.args.n c.index.result.now c.index-2.result.now =
-    row_between c.self.inside.starts.items c.self.inside.cuts.items c.args.n c.index.result.now c.index-2.result.now c.self.invariant (omega arith)
-    (read_at c.self.inside.starts.items c.args.n c.index.result.now (omega arith) c.index.ensures) (read_at c.self.inside.starts.items (c.args.n + 1) c.index-2.result.now (omega arith) c.index-2.ensures) in
+    let span = row_between c.self.inside.starts.items c.self.inside.cuts.items c.args.n _ _ c.self.invariant (omega arith) c.index.ensures c.index-2.ensures in
     rw (c.part.ensures, c.deref.ensures.value, span.is) (ap (λ t. row_at t c.args.n) c.self.view_is)

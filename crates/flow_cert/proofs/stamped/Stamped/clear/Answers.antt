@@ -1,5 +1,5 @@
-use Rattle.flow_cert.proofs.Common.{◌≡◌, ◌+◌, ◌≤◌, arith, sym, ap, ◌∙◌, length, get_or, vec_len, zeros}
-use Rattle.flow_cert.proofs.StampLemmas.{length_values, length_zeros, values_none, zeros_none}
+use Rattle.flow_cert.proofs.Common.{◌≡◌, ◌+◌, ◌≤◌, arith, sym, ap, ◌∙◌, length, get_or, vec_len, zeros, length-replicate}
+use Rattle.flow_cert.proofs.StampLemmas.{length_values, values_none, zeros_none}
 use Rattle.flow_cert.proofs.stamped.Stamped.clear.Goals as goal
 
 pub returns-then-self : goal.returns-then-self
@@ -8,7 +8,7 @@ returns-then-self c =
     let size : length c.self.inside.stamps.items ≡ length c.self.inside.values.items = c.self.invariant.size in
     let n : length c.args.self.now ≡ length c.self.inside.values.items = ap length (sym c.self.view_is) ∙ length_values c.self.inside.present c.self.inside.stamps.items c.self.inside.values.items size in
     let z : c.fill.new.self.items ≡ zeros (vec_len c.self.inside.stamps) = c.fill.ensures.items (λ y e. e) in
-    let m : length c.fill.new.self.items ≡ vec_len c.self.inside.stamps = ap length z ∙ length_zeros (vec_len c.self.inside.stamps) in
+    let m : length c.fill.new.self.items ≡ vec_len c.self.inside.stamps = ap length z ∙ length-replicate (vec_len c.self.inside.stamps) 0 in
     values_none 1 c.fill.new.self.items c.self.inside.values.items (omega arith) (λ i l e. zeros_none 1 (vec_len c.self.inside.stamps) (omega arith) i (ap (λ xs. get_or xs i 0) (sym z) ∙ e))
     ∙ ap zeros (sym n)
 

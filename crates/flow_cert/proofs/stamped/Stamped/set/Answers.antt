@@ -1,22 +1,16 @@
-use Rattle.flow_cert.proofs.Common.{◌≡◌, ◌<◌, arith, sym, ap, ◌∙◌, length, set, vec_len}
+use Rattle.flow_cert.proofs.Common.{◌≡◌, arith, sym, ap, ◌∙◌, length, set}
 use Rattle.flow_cert.proofs.StampLemmas.{length_values, values_set}
 use Rattle.flow_cert.proofs.stamped.Stamped.set.Goals as goal
 
 pub index_mut-requires : goal.index_mut-requires
 index_mut-requires c =
-    let k : vec_len c.self.inside.stamps ≡ length c.self.inside.stamps.items = c.self.inside.stamps.ok.0 in
     let size : length c.self.inside.stamps.items ≡ length c.self.inside.values.items = c.self.invariant.size in
-    let n : length c.args.self.now ≡ length c.self.inside.values.items = ap length (sym c.self.view_is) ∙ length_values c.self.inside.present c.self.inside.stamps.items c.self.inside.values.items size in
-    let l : c.args.i < length c.args.self.now = c.requires in
-    omega arith
+    omega (arith, c.self.inside.stamps.ok.0, ap length (sym c.self.view_is) ∙ length_values c.self.inside.present c.self.inside.stamps.items c.self.inside.values.items size, c.requires)
 
 pub index_mut-requires-2 : goal.index_mut-requires-2
 index_mut-requires-2 c =
-    let k : vec_len c.self.inside.values ≡ length c.self.inside.values.items = c.self.inside.values.ok.0 in
     let size : length c.self.inside.stamps.items ≡ length c.self.inside.values.items = c.self.invariant.size in
-    let n : length c.args.self.now ≡ length c.self.inside.values.items = ap length (sym c.self.view_is) ∙ length_values c.self.inside.present c.self.inside.stamps.items c.self.inside.values.items size in
-    let l : c.args.i < length c.args.self.now = c.requires in
-    omega arith
+    omega (arith, c.self.inside.values.ok.0, ap length (sym c.self.view_is) ∙ length_values c.self.inside.present c.self.inside.stamps.items c.self.inside.values.items size, c.requires)
 
 pub returns : goal.returns
 returns c =

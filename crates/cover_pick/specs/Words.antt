@@ -1,0 +1,22 @@
+-- The words of other crates, and the types of this one, that the definitions say, passed on from one place.
+pub use Rattle.aig_core.specs.Aig.{Aig, first_and, pair_of, node_count, IsAnd, IsSource, IsNode, AreNormal, IsNormal}
+pub use Rattle.aig_core.specs.Roots.{RootsValue, roots_of, AreRoots, lits_of}
+pub use Rattle.aig_core.specs.declared.lit.Kind.{Kind}
+pub use Rattle.aig_core.specs.declared.lit.Kind.TheVariants.{Regular, Parameter}
+pub use Rattle.aig_core.specs.declared.lit.Lit.{Lit}
+pub use Rattle.aig_core.specs.declared.lit.Pair.{Pair}
+pub use Rattle.cut_enum.specs.Table.{row_at, AreRows}
+pub use Rattle.cut_sets.specs.Covers.{IsCover, RootsWithin, IsLeastDepth, HasDepth, free, free as no_leaves, source, table}
+pub use Rattle.cut_sets.specs.Cuts.{IsCut, AreMinimal}
+pub use Rattle.cut_sets.specs.Sets.{lex, before, IsOrdered, before as comes_before}
+pub use Rattle.depth_label.specs.Label.{height, greatest, AreLabels, IsCutTable, label_at, label_of}
+pub use Rattle.list_laws.specs.Members.{In}
+pub use Rattle.list_laws.specs.Order.{IsAscending, IsDescending}
+pub use Rattle.cover_pick.specs.declared.limits.TheConstants.{MOST_FLOW, TABLE_PRICE, MOST_WORK}
+pub use Rattle.cover_pick.specs.declared.lut.Lut.{Lut}
+pub use Rattle.cover_pick.specs.declared.lut.PickErr.{PickErr}
+pub use Rattle.cover_pick.specs.declared.lut.PickErr.TheVariants.{Work, Memory}
+pub use Rattle.cover_pick.specs.declared.rule.Rule.{Rule}
+pub use Rattle.cover_pick.specs.declared.rule.Rule.TheVariants.{FewestLeaves, LeastCost}
+pub use Rattle.cover_pick.specs.declared.scope.Scope.{Scope}
+pub use Rattle.cover_pick.specs.declared.scope.Scope.TheVariants.{AnyHeight, LeastHeight}
