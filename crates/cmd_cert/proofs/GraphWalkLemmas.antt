@@ -1,5 +1,5 @@
 -- The reading of a source circuit up to its graph is part of that of `audit`; and after it the certificate is settled.
-use Rattle.cmd_cert.proofs.Common.{◌≡◌, Option, refl, subst, Files, ShelfSeen, Aig, first_and, AreNormal, RootsValue, roots_of, Explains, File, Outcome, IsPart, Explains_lift, Source, ToGraph, IsBuilt, HasGraph, ReachesSource, IsOfSource, source_word, source_reading, IsSourceSettled, refused_unmade, same_graph, settled_once, CertWords, cert_word, IsOfAudit, ReachesAudit, IsAuditSettled, audit_reading, of_source}
+use Rattle.cmd_cert.proofs.Common.{◌≡◌, Option, refl, subst, Files, ShelfSeen, Aig, first_and, AreNormal, RootsValue, roots_of, Explains, Outcome, IsPart, Explains_lift, Source, ToGraph, IsBuilt, HasGraph, ReachesSource, source_word, source_reading, IsSourceSettled, refused_unmade, same_graph, settled_once, CertWords, cert_word, IsOfAudit, ReachesAudit, IsAuditSettled, audit_reading, of_source}
 use Rattle.cert_check.proofs.CheckLemmas.{one_verdict}
 use Rattle.cert_check.proofs.OnceLemmas.{one_reading}
 use Rattle.cmd_cert.specs.Audit as audit

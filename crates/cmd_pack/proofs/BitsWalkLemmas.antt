@@ -1,5 +1,5 @@
 -- The walk of `bits`: an accepted job isn't refused, a job is refused for one reason, and what its stations return explains how it ends.
-use Rattle.cmd_pack.proofs.Common.{◌≡◌, Option, refl, subst, Files, ShelfSeen, PackValue, Told, Explains, Outcome, HasPack, IsPackSettled, IsPackItself, pack_reading, pack_names, IsScriptRefused, IsScriptSettled, IsScriptFile, script_reading, BitsWords, IsBitsRefused, IsBitsSettled, IsOfBits, bits_word, ReachesBits, bits_reading, HasBitsJob, IsPart, Explains_lift, pack_or_not, pack_refused_once, pack_once, same_names}
+use Rattle.cmd_pack.proofs.Common.{◌≡◌, Option, refl, subst, Files, ShelfSeen, PackValue, Told, Explains, Outcome, HasPack, IsPackSettled, pack_reading, pack_names, IsScriptRefused, IsScriptSettled, script_reading, BitsWords, IsBitsRefused, IsBitsSettled, IsOfBits, bits_word, ReachesBits, bits_reading, HasBitsJob, IsPart, Explains_lift, pack_or_not, pack_refused_once, pack_once, same_names}
 use Rattle.tl_fault.specs.RefusalValue.{RefusalValue}
 use Rattle.cmd_base.specs.declared.outcome.File.{File}
 use Rattle.cmd_pack.specs.Bits as job

@@ -3,7 +3,6 @@ use Rattle.cmd_pack.proofs.Common.{◌≡◌, ℕ, List, ◌∷◌, Some, sym, a
 use Rattle.std.specs.FinMap.{get}
 use Rattle.aig_core.specs.declared.lit.Lit.{Lit}
 use Rattle.ppc_file.specs.PackFile.{AreSame}
-use Rattle.ppc_file.proofs.OneReading.{one_reading}
 use Rattle.run_text.specs.ScriptText.{IsScript}
 use Rattle.run_text.proofs.ScriptOnceLemmas as scripts
 use Rattle.cmd_stations.proofs.ReplayLemmas.{same_packs_replay, same_both, file_same, repacked, pack_at}

@@ -1,5 +1,5 @@
 -- A mapped source circuit with its script: what its files hold isn't refused, it is refused for one reason, and what its stations return explains how a command ends there.
-use Rattle.cmd_stations.proofs.Common.{◌≡◌, List, Option, refl, subst, RefusalValue, Files, ShelfSeen, TemplateValue, EventValue, event_values, Told, Explains, File, Outcome, IsPart, Explains_lift, Source, HasMapped, ReachesSource, names_in, HasScript, IsScriptFile, IsScriptRefused, IsScriptSettled, script_reading, ToTables, IsOfSource, source_word, IsSourceSettled, source_reading, ScriptedWords, HasScripted, IsScriptedRefused, IsScriptedSettled, IsOfScripted, scripted_word, scripted_reading, ComesPast, ComesScripted}
+use Rattle.cmd_stations.proofs.Common.{◌≡◌, List, Option, refl, subst, RefusalValue, Files, ShelfSeen, TemplateValue, EventValue, event_values, Told, Explains, File, Outcome, IsPart, Explains_lift, Source, HasMapped, ReachesSource, names_in, HasScript, IsScriptRefused, IsScriptSettled, script_reading, ToTables, source_word, IsSourceSettled, source_reading, ScriptedWords, HasScripted, IsScriptedRefused, IsScriptedSettled, IsOfScripted, scripted_word, scripted_reading, ComesPast, ComesScripted}
 use Rattle.cmd_stations.specs.declared.scripted.Scripted.{Scripted}
 use Rattle.cmd_stations.specs.Script as scripted
 use Rattle.cmd_stations.proofs.FileLemmas.{of_source, of_script}

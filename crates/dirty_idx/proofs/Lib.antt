@@ -1,11 +1,6 @@
 mod Common
 mod CountLemmas
-mod FillLemmas
-mod FirstLemmas
 mod LayerLemmas
 mod MarkLemmas
-mod MarksExample
+mod Examples
 pub mod ReadLemmas
-mod ReaderLemmas
-mod ReadersExample
-mod Zeros

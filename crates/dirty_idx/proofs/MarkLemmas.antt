@@ -1,9 +1,8 @@
 -- The marks that the lowest words have, and what a bit put into them changes.
 use Rattle.dirty_idx.proofs.Common.{◌≡◌, ℕ, ◌+◌, ◌-◌, ◌*◌, ◌/◌, ◌%◌, ◌^◌, ◌<◌, ◌≤◌, min, Bool, true, false, eqb, List, length, set, get_or, replicate, sym, ap, ◌∙◌, subst, inl, inr, arith, eq-eqb, eqb-true, bit_and, bit_or, bit_at, bit_not, trailing_zeros, w64, length-set, length-replicate, get_or-replicate, get_or-set_same, get_or-set_other, get_or_past, get_or_read, same_lists, length-map-range_with_len, get_or-map-range_with_len, cases_eq, cases_lt, bit_at-trailing_zeros, bit_at_set_same, bit_at_set_other, bit_at_clear_same, bit_at_clear_other, shr_and_one, is_marked, IsLeast, IsEmpty}
 use Rattle.dirty_idx.specs.Layers.{word_at, upper_words, AreTold, bit_above, mark_bit, marks_of, AreTiers, AreNoneBefore, AreKept, IsPut, IsRetold, IsFirstWord}
-use Rattle.dirty_idx.proofs.LayerLemmas.{some_bit, no_bit}
-use Rattle.dirty_idx.proofs.FirstLemmas.{none_below}
-use Rattle.dirty_idx.proofs.Zeros.{zeros-at}
+use Rattle.dirty_idx.proofs.LayerLemmas.{some_bit, no_bit, none_below}
+use Rattle.dirty_idx.proofs.CountLemmas.{zeros-at}
 
 -- how many marks there are, and each of them
 pub length-marks_of : (size base : ℕ) (words : List ℕ) → length (marks_of size base words) ≡ size
@@ -175,16 +174,13 @@ empty_is size depth base words tiers none = record {
 }
 
 -- words without a bit
-bit-zeros : (n m b : ℕ) → bit_at (word_at (replicate n 0) m) b ≡ 0
-bit-zeros n m b = no_bit (word_at (replicate n 0) m) b (zeros-at n m)
-
 pub marks_zeros : (size base n : ℕ) → marks_of size base (replicate n 0) ≡ replicate size false
 marks_zeros size base n =
     same_lists (marks_of size base (replicate n 0)) (replicate size false)
     (length-marks_of size base (replicate n 0) ∙ sym (length-replicate size false))
     (λ k d h.
     let l : k < size = subst (λ m. k < m) (length-marks_of size base (replicate n 0)) h in
-    marks_of-at size base k (replicate n 0) d l ∙ ap (λ b. eqb b 1) (bit-zeros n (base + k / 64) (k % 64)) ∙ sym (get_or-replicate size k false d l))
+    marks_of-at size base k (replicate n 0) d l ∙ ap (λ b. eqb b 1) (no_bit (word_at (replicate n 0) (base + k / 64)) (k % 64) (zeros-at n (base + k / 64))) ∙ sym (get_or-replicate size k false d l))
 
 -- past the last word there is no bit
 some_within : (words : List ℕ) (at : ℕ) → 0 < word_at words at → at < length words

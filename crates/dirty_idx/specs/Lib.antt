@@ -4,5 +4,4 @@ pub mod Readers
 pub mod Counted
 -- What only bodies are compared with.
 pub mod Layers
-pub mod Parts
 pub mod Listed

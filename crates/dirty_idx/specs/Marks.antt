@@ -1,5 +1,5 @@
 -- A set of numbers below a size, by its marks: one for each of these numbers, in their order.
-use Rattle.std.specs.Prelude.{◌≡◌, ℕ, ◌<◌, Bool, true, false, List, length, Option, Some, None, slice_index_or, slice_set}
+use Rattle.std.specs.Prelude.{◌≡◌, ℕ, ◌<◌, Bool, true, false, List, length, Option, Some, None, slice_set}
 -- is a number a member
 pub use Rattle.list_laws.specs.Digits.{bit_in as is_marked}
 

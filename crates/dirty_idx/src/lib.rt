@@ -17,7 +17,7 @@
 //! takes no bytes.
 //!
 //! `proofs/ReadLemmas.antt` shows, for the crates above, that a reader is an AND node above the node that it reads, and that
-//! an address is one of the pack. `proofs/MarksExample.antt` and `proofs/ReadersExample.antt` work out a set and the readers
+//! an address is one of the pack. `proofs/Examples.antt` works out a set and the readers
 //! of a small pack.
 #![tactic(auto)]
 

@@ -95,7 +95,7 @@ fn clear_bit(words: &mut Vec<u64>, base: usize, i: usize)
 }
 
 // The place of the first word of the lowest layer that has a bit.
-#[tactic(auto, using(crate::proofs::FirstLemmas::upper_within))]
+#[tactic(auto, using(crate::proofs::LayerLemmas::upper_within))]
 fn first_word(words: &[u64], depth: u32) -> usize
     requires some { 0 < word_at words.now 0 }
     requires room { upper_words depth ≤ length words.now }

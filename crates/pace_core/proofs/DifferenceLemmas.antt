@@ -3,7 +3,7 @@ use Rattle.pace_core.proofs.Common.{◌≡◌, ℕ, zero, suc, ◌+◌, ◌-◌,
 use Rattle.std.specs.List.{slice_get, filter, range_with_len}
 use Rattle.std.proofs.lemmas.List.FromFn.{length-range_with_len}
 use Rattle.list_laws.proofs.Ranges.{of_range, in_range}
-use Rattle.spec_core.proofs.WriteLemmas.{filter_none}
+use Rattle.spec_core.proofs.StoreLemmas.{filter_none}
 
 -- one more element in front of the longer list, or of both
 longer : (b : Bool) (n : ℕ) (ms ns : List ℕ) → length ms ≡ suc (length ns) → length (cond b (n ∷ ms) ms) ≡ suc (length (cond b (n ∷ ns) ns))
@@ -83,11 +83,7 @@ length-differences from to = length-map (differing from to) (write_of to)
 
 -- there are no more than bits
 pub differences_few : (from to : List Bool) → length (differences from to) ≤ length to
-differences_few from to =
-    let m : length (differences from to) ≡ length (differing from to) = length-differences from to in
-    let f : length (differing from to) ≤ length (range_with_len 0 (length to)) = length-filter_le (differs_at from to) (range_with_len 0 (length to)) in
-    let r : length (range_with_len 0 (length to)) ≡ length to = length-range_with_len 0 (length to) in
-    omega arith
+differences_few from to = omega (arith, length-differences from to, length-filter_le (differs_at from to) (range_with_len 0 (length to)), length-range_with_len 0 (length to))
 
 -- a list with a member isn't empty
 some_in : (ns : List ℕ) (n : ℕ) → In ns n → 0 < length ns
@@ -97,9 +93,8 @@ some_in (m ∷ ns) n i = omega arith
 -- where two configurations differ at an address, they have a difference
 pub differs_some : (from to : List Bool) (a : ℕ) → a < length to → differs_at from to a ≡ true → 0 < length (differences from to)
 differs_some from to a l d =
-    let m : length (differences from to) ≡ length (differing from to) = length-differences from to in
     let s : 0 < length (differing from to) = some_in (differing from to) a (in_filter (differs_at from to) (range_with_len 0 (length to)) a (in_range 0 (length to) a (omega arith) (omega arith)) d) in
-    omega arith
+    omega (arith, length-differences from to)
 
 -- configurations without a difference are one
 pub no_differences : (from to : List Bool) → length from ≡ length to → length (differences from to) ≡ 0 → from ≡ to
@@ -216,10 +211,7 @@ module _ (from to : List Bool) (ws : List Write) (i : ℕ) (w : Write) (same : l
 
   -- its address is one of theirs
   pub next_within : w.address < length (written from (take i ws))
-  next_within =
-      let l : length (written from (take i ws)) ≡ length from = length-written (take i ws) from in
-      let f : w.address < length to = (first_difference (written from (take i ws)) to w (drop (i + 1) ws) next_first).within in
-      omega arith
+  next_within = omega (arith, length-written (take i ws) from, (first_difference (written from (take i ws)) to w (drop (i + 1) ws) next_first).within)
 
   -- the bit that stands there is the other one
   pub next_other : config_bit (written from (take i ws)) w.address ≡ not w.bit

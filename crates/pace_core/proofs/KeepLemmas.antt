@@ -5,9 +5,8 @@ use Rattle.spec_core.specs.Events.{IsSet}
 use Rattle.spec_core.specs.Specialiser.{SpecialiserValue}
 use Rattle.spec_core.specs.Touched.{IsWithinTouched}
 use Rattle.pace_core.specs.Keeps.{Keeps}
-use Rattle.pace_core.proofs.BacklogLemmas.{behind_nothing}
+use Rattle.pace_core.proofs.StallLemmas.{behind_nothing, has_stalls}
 use Rattle.pace_core.proofs.DifferenceLemmas.{no_differences}
-use Rattle.pace_core.proofs.StallLemmas.{has_stalls}
 
 -- a configuration has a bit for each of the pack's
 pub conf_length : (pack : PackValue) (params bits : List Bool) → IsConf pack params bits → length bits ≡ length pack.bits
@@ -40,10 +39,6 @@ module _ (s : SpecialiserValue) (b : BacklogValue) (sim : SimValue) (rate luts d
   -- so many bits of the device differ from it
   pub waits_for : (wanted : List Bool) → IsConf s.pack s.state.params wanted → b.waiting ≡ length (differences b.config wanted)
   waits_for wanted conf = keeps.behind.waiting ∙ ap (λ (c : List Bool). length (differences b.config c)) (sym (only_wanted wanted conf))
-
-  -- the device has as many bits as the tables
-  pub config_length : length b.config ≡ sim.template.bits
-  config_length = keeps.behind.same ∙ conf_length s.pack s.state.params s.state.config keeps.right ∙ keeps.bits
 
   -- where none differs, it has it
   pub config_right : b.waiting ≡ 0 → IsConf s.pack s.state.params b.config
@@ -99,10 +94,6 @@ module _ (s : SpecialiserValue) (b : BacklogValue) (sim : SimValue) (rate luts d
     as_many : length new.state.params ≡ length s.pack.params
     as_many = ap length set.params ∙ length-assigned assigns s.state.params ∙ keeps.params
 
-    -- the configuration before is the one that was asked for
-    from_is : set.from ≡ s.state.config
-    from_is = only_wanted set.from set.before
-
     -- the one after is that of the new values
     to_is : set.to ≡ new.state.config
     to_is = conf_once s.pack new.state.params set.to new.state.config (keeps.one new.state.params as_many) set.after (steady keeps.right)
@@ -126,7 +117,7 @@ module _ (s : SpecialiserValue) (b : BacklogValue) (sim : SimValue) (rate luts d
 
     -- the device is behind the first of them
     behind_from : IsBehind b set.from
-    behind_from = subst (IsBehind b) (sym from_is) keeps.behind
+    behind_from = subst (IsBehind b) (sym (only_wanted set.from set.before)) keeps.behind
 
     -- the bits that change are those that turn
     pub writes_turn : AreTurns b new.writes

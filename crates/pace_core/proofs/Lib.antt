@@ -1,6 +1,5 @@
 mod Common
 mod DifferenceLemmas
-mod BacklogLemmas
 pub mod StallLemmas
 pub mod KeepLemmas
 pub mod PaceTextLemmas

@@ -2,7 +2,7 @@
 use Rattle.pace_core.proofs.Common.{◌≡◌, ◌⊎◌, ℕ, Bool, List, [], ◌∷◌, length, map, Option, Some, None, codes, bytes_eq, if◌then◌else◌, refl, sym, ap, ◌∙◌, subst, inl, inr, cons_option, none-some, same_Some, Assign, In, In-get, place_in, EventValue, Set, Cycle, Upset, Scrub, Image, PaceValue, Ask, Tick, pace_of, asks_and_ticks, Fits, ArePaced, HasOneReading}
 use Rattle.std.specs.Option.{option_map, option_and_then}
 use Rattle.list_laws.proofs.Choice.{choose}
-use Rattle.tl_text.specs.LineValue.{WordsLine, words_line}
+use Rattle.tl_text.specs.LineValue.{words_line}
 use Rattle.run_text.specs.Each.{in_front, each_of}
 use Rattle.run_text.specs.Fits.{Fits as RunFits}
 use Rattle.run_text.specs.NamesValue.{NamesValue}
@@ -50,10 +50,6 @@ words_paced : (params words : List (List ℕ)) (event : EventValue) → option_a
 words_paced params [] event is = absurd (none-some event is)
 words_paced params (word ∷ rest) event is = form_paced params rest word event is
 
--- so does a line of a script by these forms
-line_paced : (names : NamesValue) (line : WordsLine) (event : EventValue) → names.forms ≡ Pace → line_event names line ≡ Some event → HasPace event
-line_paced names line event forms is = words_paced names.params line.words event (ap (λ f. option_and_then (event_of names.params) (said_of f line.words)) (sym forms) ∙ is)
-
 -- where each event is an ask or a tick, those that are are all of them
 front_kept : (o : Option PaceValue) (rest : Option (List PaceValue)) (kept : List PaceValue) (pace : PaceValue) → o ≡ Some pace → rest ≡ Some kept → in_front o rest ≡ Some (cons_option o kept)
 front_kept None rest kept pace is later = absurd (none-some pace is)
@@ -70,7 +66,7 @@ pub script_paced : (names : NamesValue) (text : List ℕ) (read : List EventValu
 script_paced names text read forms script = each_paced read (λ event i.
     let p = place_in read event i in
     let l = each_at (line_event names) (map (words_line text) script.lines) read p.0 event (script.are).are p.1 in
-    line_paced names l.source event forms l.is)
+    words_paced names.params l.source.words event (ap (λ f. option_and_then (event_of names.params) (said_of f l.source.words)) (sym forms) ∙ l.is))
 
 -- an event of a script that fits what may be named fits so many parameters and regular inputs
 event_fits : (names : NamesValue) (width : ℕ) (event : EventValue) (pace : PaceValue) → names.width ≡ Some width → pace_of event ≡ Some pace → RunFits names event → Fits (length names.params) width pace

@@ -1,6 +1,6 @@
 -- What the proofs of this crate cite of other crates, and its own definitions, passed on from one place.
 pub use Rattle.std.proofs.Common.{◌≡◌, ℕ, ◌+◌, List, ◌++◌, length, replicate, drop, Some, sym, ap, ◌∙◌, arith, append_assoc, suc, ◌-◌, ◌*◌, ◌/◌, ◌<◌, ◌≤◌, Bool, true, false, not, ◌||◌, cond, ltb, leb, eqb, bytes_eq, [], ◌∷◌, take, Result, Ok, Err, refl, subst, inl, inr, eqb-true, length-append, get_or, append-nil, ◌&&◌, None, zero, ◌%◌, ◌^◌, Option, min, max, ◌⊎◌, rules, slice_index_or}
-pub use Rattle.std.proofs.Math.Nat.{pow-succ'}
+pub use Rattle.std.proofs.Math.Nat.{pow-succ', pow-le-pow_right}
 pub use Rattle.std.proofs.lemmas.Bool.{ltb-false, leb-false, eqb-false, cases_Bool, or_parts, not-false, le-ltb, lt-leb, or_from, ne_eqb, both_ways, cases_lt, lt-ltb, and_parts}
 pub use Rattle.std.proofs.lemmas.Bool.Decides.{nat_tests}
 pub use Rattle.std.proofs.lemmas.List.{length-replicate, length-take, take_at, drop_at, map-append, at_drop_more, take-append-drop, get_or-drop, get_or-take, get_or_past, nil_from_length}

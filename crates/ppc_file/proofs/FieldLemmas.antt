@@ -1,9 +1,9 @@
 -- Fields: the names that the test of a name passes are the clean ones that are new; a field that is taken is the spelling of its value, which obeys the rules; and what was spelled is taken again where it obeys them.
-use Rattle.ppc_file.proofs.Common.{◌≡◌, ℕ, suc, ◌-◌, ◌*◌, ◌/◌, ◌<◌, ◌≤◌, Bool, true, false, not, ◌||◌, cond, ltb, leb, eqb, bytes_eq, List, [], ◌∷◌, ◌++◌, length, take, drop, Result, Ok, Err, refl, sym, ap, subst, arith, w16, w32, to_be_bytes, list_any, ltb-false, leb-false, or_parts, not-false, length-take, In, IsClean, IsNormal, is_pair, Lit, Pair, PackParam, MOST_NAME_BYTES, PackErr, Version, One, Two, ◌>>=◌, offset, spelled, unless_over, number_at, magic, version_number, bit_byte, param_bytes, node_bytes, bit_bytes, bytes_at, if_magic, magic_at, version_by, version_at, if_some, name_length_at, is_bad_name, if_good_name, name_at, value_at, with_name, value_behind, name_behind, param_at, pair, higher_behind, lower_behind, fan_ins_at, is_bad_pair, if_new_pair, node_at, if_literal, bit_at, ◌∙◌, append_assoc, length-append, le-ltb, lt-leb, or_from, ne_eqb, take_at, drop_at, Field, nat_tests, ◌&&◌, None, inl, inr, cases_Bool, place_of, is_bad_byte, Width}
+use Rattle.ppc_file.proofs.Common.{◌≡◌, ℕ, suc, ◌-◌, ◌*◌, ◌/◌, ◌<◌, ◌≤◌, Bool, true, false, not, ◌||◌, cond, ltb, leb, eqb, bytes_eq, List, [], ◌∷◌, ◌++◌, length, take, drop, Result, Ok, Err, refl, sym, ap, subst, arith, w16, w32, to_be_bytes, list_any, ltb-false, leb-false, or_parts, not-false, length-take, In, IsClean, IsNormal, is_pair, Lit, Pair, PackParam, MOST_NAME_BYTES, PackErr, Version, One, Two, ◌>>=◌, offset, spelled, unless_over, number_at, magic, version_number, bit_byte, param_bytes, node_bytes, bit_bytes, bytes_at, if_magic, magic_at, version_by, version_at, if_some, name_length_at, is_bad_name, if_good_name, name_at, value_at, with_name, value_behind, name_behind, param_at, pair, higher_behind, lower_behind, fan_ins_at, is_bad_pair, if_new_pair, node_at, if_literal, bit_at, ◌∙◌, append_assoc, length-append, le-ltb, lt-leb, or_from, ne_eqb, take_at, drop_at, Field, nat_tests, None, inl, inr, cases_Bool, place_of, is_bad_byte, Width, rules}
 use Rattle.std.proofs.lemmas.Slice.Eq.{bytes_eq-Decides}
 use Rattle.ppc_file.proofs.NumberLemmas.{IsBytes, Takes, Takes-then, front_taken, bind_ok, guard_ok, ok_is, not_zero, unless_ok, number_takes, wide16, wide32, unless_again, number_again, IsWide}
 use Rattle.tl_text.specs.NameSets.{has_name}
-use Rattle.tl_text.specs.Lines.{is_bad, ends_in}
+use Rattle.tl_text.specs.Lines.{is_bad}
 use Rattle.tl_text.specs.Tokens.{is_blank}
 use Rattle.tl_text.proofs.NameLemmas.{not_there}
 use Rattle.tl_text.proofs.NameSetLemmas.{has_in, place_none}
@@ -34,21 +34,7 @@ good_again b blank bad comment = grind (arith, nat_tests)
 
 -- a name that the test passes
 pub clean_name : (earlier : List (List ℕ)) (name : List ℕ) → 1 ≤ length name → is_bad_name earlier name ≡ false → IsClean name × (In earlier name → ⊥)
-clean_name earlier name some h =
-    let p = or_parts (list_any is_bad_byte name) (ends_in 92 name || has_name earlier name) h in
-    let q = or_parts (ends_in 92 name) (has_name earlier name) p.1 in
-    let good : (b : ℕ) → In name b → is_bad_byte b ≡ false = (λ b i. none_in is_bad_byte name b p.0 i) in (
-      record {
-        bytes = record {
-          some = omega arith;
-          no_blank = λ b i. no_blank b (good b i);
-          no_bad = λ b i. no_bad b (good b i);
-          no_comment = λ b i. no_comment b (good b i);
-        };
-        no_slash = q.0;
-      },
-      not_there earlier name q.1,
-    )
+clean_name earlier name some h = grind (arith, or_parts, none_in, no_blank, no_bad, no_comment, not_there)
 
 -- a name that isn't there isn't found, and has no place
 not_found : (earlier : List (List ℕ)) (name : List ℕ) → (In earlier name → ⊥) → has_name earlier name ≡ false
@@ -58,27 +44,21 @@ pub new_place : (earlier : List (List ℕ)) (name : List ℕ) → (In earlier na
 new_place earlier name new = place_none earlier name (not_found earlier name new)
 
 pub clean_again : (earlier : List (List ℕ)) (name : List ℕ) → IsClean name → (In earlier name → ⊥) → is_bad_name earlier name ≡ false
-clean_again earlier name clean new =
-    let bytes = clean.bytes in
-    or_from (list_any is_bad_byte name) (ends_in 92 name || has_name earlier name)
-    (none_all is_bad_byte name (λ b i. good_again b (bytes.no_blank b i) (bytes.no_bad b i) (bytes.no_comment b i)))
-    (or_from (ends_in 92 name) (has_name earlier name) clean.no_slash (not_found earlier name new))
+clean_again earlier name clean new = grind (arith, or_from, none_all, good_again, not_found)
 
 module _ (total : ℕ) where
   bytes_takes : (n : ℕ) (bytes : List ℕ) (y : List ℕ × List ℕ) → IsBytes bytes → bytes_at total n bytes ≡ Ok y → Takes bytes y.0 y.1 × (length y.0 ≡ n)
   bytes_takes n bytes y fits e =
       let g = guard_ok (ltb (length bytes) n) (refused.Truncated (offset total bytes)) (take n bytes, drop n bytes) y e in
       let long : n ≤ length bytes = ltb-false _ _ g.0 in
-      let count : length (take n bytes) ≡ n = omega (arith, length-take n bytes) in
-      subst (λ (p : List ℕ × List ℕ). Takes bytes p.0 p.1 × (length p.0 ≡ n)) g.1 (front_taken n bytes fits, count)
+      subst (λ (p : List ℕ × List ℕ). Takes bytes p.0 p.1 × (length p.0 ≡ n)) g.1 (front_taken n bytes fits, omega (arith, length-take n bytes))
 
   pub magic_takes : (bytes : List ℕ) (y : List ℕ × List ℕ) → IsBytes bytes → magic_at total bytes ≡ Ok y → Takes bytes magic y.1
   magic_takes bytes y fits e =
       let x = bind_ok (bytes_at total 4 bytes) (if_magic (offset total bytes)) y e in
-      let t = bytes_takes 4 bytes x.0 fits x.1 in
       let m = guard_ok (not (bytes_eq x.0.0 magic)) (refused.Magic (offset total bytes)) x.0 y x.2 in
       let is : x.0.0 ≡ magic = (bytes_eq-Decides x.0.0 magic).0 (not-false (bytes_eq x.0.0 magic) m.0) in
-      subst (λ (b : List ℕ). Takes bytes b y.1) is (subst (λ (p : List ℕ × List ℕ). Takes bytes x.0.0 p.1) m.1 t.0)
+      subst (λ (b : List ℕ). Takes bytes b y.1) is (subst (λ (p : List ℕ × List ℕ). Takes bytes x.0.0 p.1) m.1 (bytes_takes 4 bytes x.0 fits x.1).0)
 
   version_by_ok : (at : ℕ) (x : ℕ × List ℕ) (y : Version × List ℕ) → version_by at x ≡ Ok y → (x.0 ≡ version_number y.0) × (x.1 ≡ y.1)
   version_by_ok at x y e = grind (arith, nat_tests)
@@ -86,9 +66,8 @@ module _ (total : ℕ) where
   pub version_takes : (bytes : List ℕ) (y : Version × List ℕ) → IsBytes bytes → version_at total bytes ≡ Ok y → Takes bytes (to_be_bytes w16 (version_number y.0)) y.1
   version_takes bytes y fits e =
       let x = bind_ok (number_at total One w16 bytes) (version_by (offset total bytes)) y e in
-      let t = number_takes w16 65536 wide16 total One bytes x.0.0 x.0.1 fits x.1 in
       let v = version_by_ok (offset total bytes) x.0 y x.2 in
-      subst (λ (n : ℕ). Takes bytes (to_be_bytes w16 n) y.1) v.0 (subst (λ (r : List ℕ). Takes bytes (to_be_bytes w16 x.0.0) r) v.1 t.0)
+      subst (λ (n : ℕ). Takes bytes (to_be_bytes w16 n) y.1) v.0 (subst (λ (r : List ℕ). Takes bytes (to_be_bytes w16 x.0.0) r) v.1 (number_takes w16 65536 wide16 total One bytes x.0.0 x.0.1 fits x.1).0)
 
   -- a number that is at most so much
   pub count_takes : (w : Width) (limit : ℕ) → IsWide w limit → (v : Version) (most : ℕ) (e : PackErr) (bytes : List ℕ) (y : ℕ × List ℕ) → IsBytes bytes → unless_over most e (number_at total v w bytes) ≡ Ok y
@@ -96,8 +75,6 @@ module _ (total : ℕ) where
   count_takes w limit wide v most e bytes y fits h =
       let u = unless_ok most e (number_at total v w bytes) y h in
       ((number_takes w limit wide total v bytes y.0 y.1 fits u.0).0, u.1)
-
-  -- ---- parameters
 
   length_takes : (v : Version) (bytes : List ℕ) (y : ℕ × List ℕ) → IsBytes bytes → name_length_at total v bytes ≡ Ok y → Takes bytes (spelled v w16 y.0) y.1 × ((y.0 ≤ MOST_NAME_BYTES) × (1 ≤ y.0))
   length_takes v bytes y fits e =
@@ -119,8 +96,7 @@ module _ (total : ℕ) where
   value_takes : (bytes : List ℕ) (y : Bool × List ℕ) → IsBytes bytes → value_at total bytes ≡ Ok y → Takes bytes (bit_byte y.0 ∷ []) y.1
   value_takes [] y fits e = absurd cc
   value_takes (b ∷ bytes) y fits e =
-      let v = value_ok b bytes y e in
-      subst (Takes (b ∷ bytes) (bit_byte y.0 ∷ [])) v.1 (record { parts = ap (λ (c : ℕ). c ∷ bytes) v.0; rest_fits = λ i. fits (suc i) })
+      subst (Takes (b ∷ bytes) (bit_byte y.0 ∷ [])) (value_ok b bytes y e).1 (record { parts = ap (λ (c : ℕ). c ∷ bytes) (value_ok b bytes y e).0; rest_fits = λ i. fits (suc i) })
 
   -- a parameter behind others with these names
   pub record IsNextParam (earlier : List (List ℕ)) (p : PackParam) : Type 0 where
@@ -137,15 +113,12 @@ module _ (total : ℕ) where
       let f = bind_ok (value_at total c.0.1) (with_name c.0.0) y c.2 in
       let value = value_takes c.0.1 f.0 name.0.rest_fits f.1 in
       let len : length c.0.0 ≡ a.0.0 = name.1.0 in
-      let some : 1 ≤ length c.0.0 = subst (λ (n : ℕ). 1 ≤ n) (sym len) count.1.1 in
       let short : length c.0.0 ≤ MOST_NAME_BYTES = subst (λ (n : ℕ). n ≤ MOST_NAME_BYTES) (sym len) count.1.0 in
-      let good = clean_name earlier c.0.0 some name.1.1 in
+      let good = clean_name earlier c.0.0 (subst (λ (n : ℕ). 1 ≤ n) (sym len) count.1.1) name.1.1 in
       let all : Takes bytes (spelled v w16 (length c.0.0) ++ (c.0.0 ++ bit_byte f.0.0 ∷ [])) f.0.1 =
       subst (λ (n : ℕ). Takes bytes (spelled v w16 n ++ (c.0.0 ++ bit_byte f.0.0 ∷ [])) f.0.1) (sym len)
       (Takes-then bytes (spelled v w16 a.0.0) a.0.1 (c.0.0 ++ bit_byte f.0.0 ∷ []) f.0.1 count.0 (Takes-then a.0.1 c.0.0 c.0.1 (bit_byte f.0.0 ∷ []) f.0.1 name.0 value)) in
       subst (λ (z : PackParam × List ℕ). Takes bytes (param_bytes v z.0) z.1 × IsNextParam earlier z.0) (ok_is (record { name = c.0.0; init = f.0.0 }, f.0.1) y f.2) (all, record { clean = good.0; short = short; new = good.1 })
-
-  -- ---- nodes and bits
 
   -- fan-ins that the test passes
   pub good_pair : (node : ℕ) (p : Pair) → is_bad_pair node p ≡ false → IsNormal node p
@@ -169,13 +142,12 @@ module _ (total : ℕ) where
       let a = bind_ok (number_at total Two w32 bytes) (lower_behind total node) y e in
       let x = number_takes w32 4294967296 wide32 total Two bytes a.0.0 a.0.1 fits a.1 in
       let b = bind_ok (number_at total Two w32 a.0.1) (λ z. Ok (pair (2 * node - a.0.0 - z.0) (2 * node - a.0.0), z.1)) y a.2 in
-      let z = number_takes w32 4294967296 wide32 total Two a.0.1 b.0.0 b.0.1 x.0.rest_fits b.1 in
       let is = ok_is (pair (2 * node - a.0.0 - b.0.0) (2 * node - a.0.0), b.0.1) y b.2 in
       let low : 2 ≤ 2 * node - a.0.0 - b.0.0 = subst (λ (q : Pair × List ℕ). 2 ≤ q.0.x.0) (sym is) normal.no_constant in
       let first : 2 * node - (2 * node - a.0.0) ≡ a.0.0 = omega arith in
       let second : 2 * node - a.0.0 - (2 * node - a.0.0 - b.0.0) ≡ b.0.0 = omega arith in
       subst (λ (q : Pair × List ℕ). Takes bytes (node_bytes Two node q.0) q.1) is
-      (rw (first, second) (Takes-then bytes (spelled Two w32 a.0.0) a.0.1 (spelled Two w32 b.0.0) b.0.1 x.0 z.0))
+      (rw (first, second) (Takes-then bytes (spelled Two w32 a.0.0) a.0.1 (spelled Two w32 b.0.0) b.0.1 x.0 (number_takes w32 4294967296 wide32 total Two a.0.1 b.0.0 b.0.1 x.0.rest_fits b.1).0))
 
   -- a node behind others with these pairs
   pub record IsNextNode (node : ℕ) (earlier : List Pair) (p : Pair) : Type 0 where
@@ -187,100 +159,57 @@ module _ (total : ℕ) where
       let x = bind_ok (fan_ins_at total v node bytes) (if_new_pair (offset total bytes) node earlier) y e in
       let g = guard_ok (is_bad_pair node x.0.0 || list_any (is_pair x.0.0.x.0 x.0.0.y.0) earlier) (refused.BadNode (offset total bytes)) x.0 y x.2 in
       let p = or_parts (is_bad_pair node x.0.0) (list_any (is_pair x.0.0.x.0 x.0.0.y.0) earlier) g.0 in
-      let normal = good_pair node x.0.0 p.0 in
       subst (λ (z : Pair × List ℕ). Takes bytes (node_bytes v node z.0) z.1 × IsNextNode node earlier z.0) g.1
-      (fan_ins_takes v node bytes x.0 fits x.1 normal, record { normal = normal; new = p.1 })
+      (fan_ins_takes v node bytes x.0 fits x.1 (good_pair node x.0.0 p.0), record { normal = (good_pair node x.0.0 p.0); new = p.1 })
 
   pub bit_takes : (v : Version) (nodes : ℕ) (bytes : List ℕ) (y : Lit × List ℕ) → IsBytes bytes → bit_at total v nodes bytes ≡ Ok y → Takes bytes (bit_bytes v y.0) y.1 × (y.0.0 < 2 * nodes)
   bit_takes v nodes bytes y fits e =
       let x = bind_ok (number_at total v w32 bytes) (if_literal (offset total bytes) nodes) y e in
       let t = number_takes w32 4294967296 wide32 total v bytes x.0.0 x.0.1 fits x.1 in
       let g = guard_ok (leb nodes (x.0.0 / 2)) (refused.BadBit (offset total bytes)) (record { 0 = x.0.0 }, x.0.1) y x.2 in
-      let below : x.0.0 / 2 < nodes = leb-false nodes (x.0.0 / 2) g.0 in
-      subst (λ (z : Lit × List ℕ). Takes bytes (bit_bytes v z.0) z.1 × (z.0.0 < 2 * nodes)) g.1 (t.0, omega arith)
+      subst (λ (z : Lit × List ℕ). Takes bytes (bit_bytes v z.0) z.1 × (z.0.0 < 2 * nodes)) g.1 (t.0, omega (arith, leb-false nodes (x.0.0 / 2) g.0))
 
 module _ (total : ℕ) where
   bytes_again : (text rest : List ℕ) → bytes_at total (length text) (text ++ rest) ≡ Ok (text, rest)
-  bytes_again text rest =
-      let long : ltb (length (text ++ rest)) (length text) ≡ false = le-ltb _ _ (omega (arith, length-append text rest)) in
-      rw (long, take_at text rest (length text) refl, drop_at text rest (length text) refl) refl
+  bytes_again text rest = grind (arith, ltb, le-ltb, length-append, take_at, drop_at)
 
   pub magic_again : (rest : List ℕ) → magic_at total (magic ++ rest) ≡ Ok (magic, rest)
   magic_again rest = ap (λ (f : Field (List ℕ)). f >>= if_magic (offset total (magic ++ rest))) (bytes_again magic rest)
 
   pub version_again : (v : Version) (rest : List ℕ) → version_at total (to_be_bytes w16 (version_number v) ++ rest) ≡ Ok (v, rest)
-  version_again One rest = ap (λ (f : Field ℕ). f >>= version_by (offset total (to_be_bytes w16 1 ++ rest))) (number_again w16 65536 wide16 total One 1 rest (omega arith))
-  version_again Two rest = ap (λ (f : Field ℕ). f >>= version_by (offset total (to_be_bytes w16 2 ++ rest))) (number_again w16 65536 wide16 total One 2 rest (omega arith))
+  version_again v rest = grind arith
 
   pub count_again : (w : Width) (limit : ℕ) → IsWide w limit → (v : Version) (most : ℕ) (e : PackErr) (n : ℕ) (rest : List ℕ) → n ≤ most → n < limit → unless_over most e (number_at total v w (spelled v w n ++ rest)) ≡ Ok (n, rest)
   count_again w limit wide v most e n rest within small = unless_again most e (number_at total v w (spelled v w n ++ rest)) n rest (number_again w limit wide total v n rest small) within
 
-  -- ---- parameters
-
   length_again : (v : Version) (n : ℕ) (rest : List ℕ) → 1 ≤ n → n ≤ MOST_NAME_BYTES → name_length_at total v (spelled v w16 n ++ rest) ≡ Ok (n, rest)
   length_again v n rest some short =
-      ap (λ (f : Field ℕ). f >>= if_some (offset total (spelled v w16 n ++ rest))) (count_again w16 65536 wide16 v MOST_NAME_BYTES (refused.BadName (offset total (spelled v w16 n ++ rest))) n rest short (omega arith))
-      ∙ ap (λ (b : Bool). cond b (Err (refused.BadName (offset total (spelled v w16 n ++ rest)))) (Ok (n, rest))) (ne_eqb n 0 (λ e. absurd (omega arith)))
+      rw (count_again w16 65536 wide16 v MOST_NAME_BYTES (refused.BadName (offset total (spelled v w16 n ++ rest))) n rest short (omega arith), ne_eqb n 0 (λ e. absurd (omega arith))) refl
 
   name_again : (earlier : List (List ℕ)) (name rest : List ℕ) → is_bad_name earlier name ≡ false → name_at total earlier (length name) (name ++ rest) ≡ Ok (name, rest)
-  name_again earlier name rest good =
-      ap (λ (f : Field (List ℕ)). f >>= if_good_name (offset total (name ++ rest)) earlier) (bytes_again name rest)
-      ∙ ap (λ (b : Bool). cond b (Err (refused.BadName (offset total (name ++ rest)))) (Ok (name, rest))) good
+  name_again earlier name rest good = rw (bytes_again name rest, good) refl
 
   value_again : (b : Bool) (rest : List ℕ) → value_at total (bit_byte b ∷ rest) ≡ Ok (b, rest)
-  value_again true rest = refl
-  value_again false rest = refl
+  value_again b rest = search rules
 
   pub param_again : (v : Version) (earlier : List (List ℕ)) (p : PackParam) (rest : List ℕ) → IsNextParam total earlier p → param_at total v earlier (param_bytes v p ++ rest) ≡ Ok (p, rest)
-  param_again v earlier p rest next =
-      let behind : List ℕ = bit_byte p.init ∷ rest in
-      let clean = next.clean in
-      let parts : param_bytes v p ++ rest ≡ spelled v w16 (length p.name) ++ (p.name ++ behind) =
-      append_assoc (spelled v w16 (length p.name)) (p.name ++ bit_byte p.init ∷ []) rest
-      ∙ ap (λ (t : List ℕ). spelled v w16 (length p.name) ++ t) (append_assoc p.name (bit_byte p.init ∷ []) rest) in
-      ap (param_at total v earlier) parts
-      ∙ ap (λ (f : Field ℕ). f >>= name_behind total earlier) (length_again v (length p.name) (p.name ++ behind) (let s = clean.bytes.some in omega arith) next.short)
-      ∙ ap (λ (f : Field (List ℕ)). f >>= value_behind total) (name_again earlier p.name behind (clean_again earlier p.name clean next.new))
-      ∙ ap (λ (f : Field Bool). f >>= with_name p.name) (value_again p.init rest)
-
-  -- ---- nodes and bits
+  param_again v earlier p rest next = grind (arith, append_assoc, length_again, name_again, clean_again, value_again)
 
   pair_good : (node : ℕ) (p : Pair) → IsNormal node p → is_bad_pair node p ≡ false
-  pair_good node p normal =
-      let low : 2 ≤ p.x.0 = normal.no_constant in
-      let order : p.x.0 / 2 < p.y.0 / 2 = normal.ordered in
-      let below : p.y.0 / 2 < node = normal.below in grind (arith, nat_tests)
+  pair_good node p normal = grind arith
 
   fan_ins_again : (v : Version) (node : ℕ) (p : Pair) (rest : List ℕ) → IsNormal node p → node < 2147483648 → fan_ins_at total v node (node_bytes v node p ++ rest) ≡ Ok (p, rest)
-  fan_ins_again One node p rest normal small =
-      let order : p.x.0 / 2 < p.y.0 / 2 = normal.ordered in
-      let below : p.y.0 / 2 < node = normal.below in
-      let x : List ℕ = to_be_bytes w32 p.x.0 in
-      let y : List ℕ = to_be_bytes w32 p.y.0 in
-      let long : ltb (length ((x ++ y) ++ rest)) 8 ≡ false = le-ltb _ _ (let lx : length x ≡ 4 = refl in let ly : length y ≡ 4 = refl in omega (arith, length-append (x ++ y) rest, length-append x y)) in
-      ap (λ (b : Bool). cond b (Err (refused.Truncated (offset total ((x ++ y) ++ rest)))) (number_at total One w32 ((x ++ y) ++ rest) >>= higher_behind total)) long
-      ∙ ap (λ (t : List ℕ). number_at total One w32 t >>= higher_behind total) (append_assoc x y rest)
-      ∙ ap (λ (f : Field ℕ). f >>= higher_behind total) (number_again w32 4294967296 wide32 total One p.x.0 (y ++ rest) (omega arith))
-      ∙ ap (λ (f : Field ℕ). f >>= λ z. Ok (pair p.x.0 z.0, z.1)) (number_again w32 4294967296 wide32 total One p.y.0 rest (omega arith))
+  fan_ins_again One node p rest normal small = grind (arith, ltb, le-ltb, length-append, cond, append_assoc, number_again, wide32)
   fan_ins_again Two node p rest normal small =
-      let order : p.x.0 / 2 < p.y.0 / 2 = normal.ordered in
-      let below : p.y.0 / 2 < node = normal.below in
-      let x : List ℕ = spelled Two w32 (2 * node - p.y.0) in
-      let y : List ℕ = spelled Two w32 (p.y.0 - p.x.0) in
-      let higher : 2 * node - (2 * node - p.y.0) ≡ p.y.0 = omega arith in
-      let lower : 2 * node - (2 * node - p.y.0) - (p.y.0 - p.x.0) ≡ p.x.0 = omega arith in
-      ap (λ (t : List ℕ). number_at total Two w32 t >>= lower_behind total node) (append_assoc x y rest)
-      ∙ ap (λ (f : Field ℕ). f >>= lower_behind total node) (number_again w32 4294967296 wide32 total Two (2 * node - p.y.0) (y ++ rest) (omega arith))
+      ap (λ (t : List ℕ). number_at total Two w32 t >>= lower_behind total node) (append_assoc (spelled Two w32 (2 * node - p.y.0)) _ rest)
+      ∙ ap (λ (f : Field ℕ). f >>= lower_behind total node) (number_again w32 4294967296 wide32 total Two (2 * node - p.y.0) (_ ++ rest) (omega arith))
       ∙ ap (λ (f : Field ℕ). f >>= λ z. Ok (pair (2 * node - (2 * node - p.y.0) - z.0) (2 * node - (2 * node - p.y.0)), z.1)) (number_again w32 4294967296 wide32 total Two (p.y.0 - p.x.0) rest (omega arith))
-      ∙ ap (λ (n : ℕ). Ok (pair (2 * node - (2 * node - p.y.0) - (p.y.0 - p.x.0)) n, rest)) higher
-      ∙ ap (λ (n : ℕ). Ok (pair n p.y.0, rest)) lower
+      ∙ ap (λ (n : ℕ). Ok (pair (2 * node - (2 * node - p.y.0) - (p.y.0 - p.x.0)) n, rest)) (omega arith)
+      ∙ ap (λ (n : ℕ). Ok (pair n p.y.0, rest)) (omega arith)
 
   pub node_again : (v : Version) (node : ℕ) (earlier : List Pair) (p : Pair) (rest : List ℕ) → IsNextNode total node earlier p → node < 2147483648 → node_at total v node earlier (node_bytes v node p ++ rest) ≡ Ok (p, rest)
-  node_again v node earlier p rest next small =
-      ap (λ (f : Field Pair). f >>= if_new_pair (offset total (node_bytes v node p ++ rest)) node earlier) (fan_ins_again v node p rest next.normal small)
-      ∙ ap (λ (b : Bool). cond b (Err (refused.BadNode (offset total (node_bytes v node p ++ rest)))) (Ok (p, rest))) (or_from (is_bad_pair node p) (list_any (is_pair p.x.0 p.y.0) earlier) (pair_good node p next.normal) next.new)
+  node_again v node earlier p rest next small = grind (arith, fan_ins_again, or_from, pair_good)
 
   pub bit_again : (v : Version) (nodes : ℕ) (l : Lit) (rest : List ℕ) → l.0 < 2 * nodes → nodes ≤ 2147483648 → bit_at total v nodes (bit_bytes v l ++ rest) ≡ Ok (l, rest)
   bit_again v nodes l rest below small =
-      ap (λ (f : Field ℕ). f >>= if_literal (offset total (bit_bytes v l ++ rest)) nodes) (number_again w32 4294967296 wide32 total v l.0 rest (omega arith))
-      ∙ ap (λ (b : Bool). cond b (Err (refused.BadBit (offset total (bit_bytes v l ++ rest)))) (Ok (l, rest))) (lt-leb nodes (l.0 / 2) (omega arith))
+      rw (number_again w32 4294967296 wide32 total v l.0 rest (omega arith), lt-leb nodes (l.0 / 2) (omega arith)) refl

@@ -1,31 +1,16 @@
 -- A number that is read is the number that was spelled, and what was spelled is read again; numbers by bytes of seven bits are small.
-use Rattle.ppc_file.proofs.Common.{◌≡◌, ℕ, zero, suc, ◌+◌, ◌-◌, ◌*◌, ◌^◌, ◌<◌, ◌≤◌, arith, pow-succ', ◌/◌, ◌%◌, Bool, true, false, cond, ltb, eqb, List, [], ◌∷◌, ◌++◌, length, get_or, take, drop, Result, Ok, Err, refl, sym, ap, subst, ◌∙◌, append_assoc, inl, inr, Width, w16, w32, byte_len, from_be_bytes, to_be_bytes, cases_lt, ltb-false, le-ltb, lt-ltb, PackErr, Truncated, BadNumber, Version, One, Two, Field, ◌>>=◌, offset, sevens, spelled, sevens_at, behind_byte, unless_over, number_at, nat_tests, take_at, drop_at, take-append-drop, length-append, length-take, get_or-drop, get_or-take, get_or_past}
+use Rattle.ppc_file.proofs.Common.{◌≡◌, ℕ, zero, suc, ◌+◌, ◌-◌, ◌*◌, ◌^◌, ◌<◌, ◌≤◌, arith, pow-le-pow_right, ◌/◌, ◌%◌, Bool, false, cond, ltb, eqb, List, ◌∷◌, ◌++◌, length, get_or, take, drop, Result, Ok, Err, refl, sym, ap, subst, ◌∙◌, append_assoc, inl, inr, Width, w16, w32, byte_len, from_be_bytes, to_be_bytes, cases_lt, ltb-false, le-ltb, lt-ltb, PackErr, Truncated, BadNumber, Version, One, Two, Field, ◌>>=◌, offset, sevens, spelled, sevens_at, behind_byte, unless_over, number_at, nat_tests, take-append-drop, length-take, get_or-drop, get_or-take, get_or_past, rules}
 use Rattle.std.proofs.lemmas.Nat.{be_bytes_2, be_bytes_4, from_be_bytes-to_be_bytes_2, from_be_bytes-to_be_bytes_4}
 
 pub one_at_least : (n b : ℕ) → 1 ≤ n → b < 128 → b < 128 ^ n
-one_at_least zero b some small = absurd (omega arith)
-one_at_least (suc zero) b some small = omega arith
-one_at_least (suc (suc n)) b some small =
-    let r : b < 128 ^ suc n = one_at_least (suc n) b (omega arith) small in
-    let p : 128 ^ suc (suc n) ≡ 128 * 128 ^ suc n = pow-succ' 128 (suc n) in
-    omega arith
+one_at_least n b some small = let l : 128 ^ 1 ≤ 128 ^ n = pow-le-pow_right {n = 128} (omega arith) {i = 1} {j = n} some in omega arith
 
--- one more byte
 pub below_power : (n high b : ℕ) → 1 ≤ n → high < 128 ^ (n - 1) → b < 128 → b + 128 * high < 128 ^ n
 below_power zero high b some h small = absurd (omega arith)
-below_power (suc n) high b some h small =
-    let p : 128 ^ suc n ≡ 128 * 128 ^ n = pow-succ' 128 n in
-    let e : suc n - 1 ≡ n = omega arith in
-    let h' : high < 128 ^ n = rw e at h in
-    omega arith
+below_power (suc n) high b some h small = grind arith
 
 pub fits_word : (n high b : ℕ) → 1 ≤ n → n ≤ 5 → high < 128 ^ (n - 1) → b < 128 → b + 128 * high < 34359738368
-fits_word (suc zero) high b some few h small = let h' : high < 1 = h in omega arith
-fits_word (suc (suc zero)) high b some few h small = let h' : high < 128 = h in omega arith
-fits_word (suc (suc (suc zero))) high b some few h small = let h' : high < 16384 = h in omega arith
-fits_word (suc (suc (suc (suc zero)))) high b some few h small = let h' : high < 2097152 = h in omega arith
-fits_word (suc (suc (suc (suc (suc zero))))) high b some few h small = let h' : high < 268435456 = h in omega arith
-fits_word n high b some few h small = absurd (omega arith)
+fits_word n high b some few h small = omega (arith, pow-le-pow_right {n = 128} (omega arith) {i = n - 1} {j = 4} (omega arith))
 
 -- numbers below 256
 abbrev pub IsBytes : List ℕ → Type 0
@@ -35,16 +20,11 @@ IsBytes-drop : (n : ℕ) (bytes : List ℕ) → IsBytes bytes → IsBytes (drop 
 IsBytes-drop n bytes h i = rw get_or-drop (h (n + i))
 
 IsBytes-take : (n : ℕ) (bytes : List ℕ) → IsBytes bytes → IsBytes (take n bytes)
-IsBytes-take n bytes h i =
-    elim (cases_lt i n) [
-      | inl lt ↦ rw (get_or-take n bytes i 0 lt) (h i)
-      | inr le ↦ rw (get_or_past (take n bytes) i 0 (omega (arith, length-take n bytes))) (omega arith)
-    ]
+IsBytes-take n bytes h i = search (rules, cases_lt, get_or-take, get_or_past, length-take)
 
 -- the value of a step that wasn't refused
 pub bind_ok : {A B : Type 0} (r : Result A PackErr) (f : A → Result B PackErr) (y : B) → (r >>= f) ≡ Ok y → (x : A) × (r ≡ Ok x) × (f x ≡ Ok y)
-bind_ok (Ok x) f y e = (x, refl, e)
-bind_ok (Err d) f y e = absurd cc
+bind_ok h f y e = search rules
 
 abbrev done : {A : Type 0} → A → Result A PackErr
 done x = Ok x
@@ -52,10 +32,8 @@ done x = Ok x
 pub ok_is : {A : Type 0} (x y : A) → done x ≡ done y → x ≡ y
 ok_is x y e = cc
 
--- a test that refused nothing
 pub guard_ok : {A : Type 0} (b : Bool) (d : PackErr) (x y : A) → cond b (Err d) (Ok x) ≡ Ok y → (b ≡ false) × (x ≡ y)
-guard_ok true d x y e = absurd cc
-guard_ok false d x y e = (refl, cc)
+guard_ok h d x y e = search rules
 
 -- what a reader took from the front
 pub record Takes (bytes text rest : List ℕ) : Type 0 where
@@ -65,26 +43,17 @@ pub record Takes (bytes text rest : List ℕ) : Type 0 where
 pub Takes-then : (a x b y c : List ℕ) → Takes a x b → Takes b y c → Takes a (x ++ y) c
 Takes-then a x b y c p q = record { parts = p.parts ∙ ap (λ (t : List ℕ). x ++ t) q.parts ∙ sym (append_assoc x y c); rest_fits = q.rest_fits }
 
--- so many bytes are taken
 pub front_taken : (n : ℕ) (bytes : List ℕ) → IsBytes bytes → Takes bytes (take n bytes) (drop n bytes)
 front_taken n bytes fits = record { parts = sym (take-append-drop n bytes); rest_fits = IsBytes-drop n bytes fits }
 
--- ---- bytes of seven bits
-
 pub sevens_again : (at left n : ℕ) (rest : List ℕ) → n < 128 ^ suc left → sevens_at at (suc left) (sevens (suc left) n ++ rest) ≡ Ok (n, rest)
-sevens_again at zero n rest h =
-    let small : n < 128 = omega arith in
-    rw (lt-ltb n 128 small) (rw (lt-ltb n 128 small) refl)
+sevens_again at zero n rest h = grind arith
 sevens_again at (suc left) n rest h = elim (cases_lt n 128) [
   | inl small ↦ rw (lt-ltb n 128 small) (rw (lt-ltb n 128 small) refl)
   | inr large ↦ (
-      let p : 128 ^ suc (suc left) ≡ 128 * 128 ^ suc left = pow-succ' 128 (suc left) in
-      let high : n / 128 < 128 ^ suc left = omega arith in
-      let again : sevens_at at (suc left) (sevens (suc left) (n / 128) ++ rest) ≡ Ok (n / 128, rest) = sevens_again at left (n / 128) rest high in
-      let top : ltb (128 + n % 128) 128 ≡ false = le-ltb (128 + n % 128) 128 (omega arith) in
       let some : eqb (n / 128) 0 ≡ false = (let q : 1 ≤ n / 128 = omega arith in grind arith) in
       let value : 128 + n % 128 - 128 + 128 * (n / 128) ≡ n = omega arith in
-      rw (le-ltb n 128 large) (rw (top, again, some, value) refl)
+      rw (le-ltb n 128 large) (rw (le-ltb (128 + n % 128) 128 (omega arith), sevens_again at left (n / 128) rest (omega arith), some, value) refl)
       )
 ]
 
@@ -92,20 +61,13 @@ pub not_zero : (n : ℕ) → eqb n 0 ≡ false → 1 ≤ n
 not_zero n h = grind (arith, nat_tests)
 
 behind_ok : (at low : ℕ) (field : Field ℕ) (y : ℕ × List ℕ) → behind_byte at low field ≡ Ok y → (x : ℕ × List ℕ) × (field ≡ Ok x) × (1 ≤ x.0) × (y ≡ (low + 128 * x.0, x.1))
-behind_ok at low (Err e) y h = absurd cc
-behind_ok at low (Ok x) y h =
-    let g = guard_ok (eqb x.0 0) (BadNumber at) (low + 128 * x.0, x.1) y h in
-    (x, refl, not_zero x.0 g.0, sym g.1)
+behind_ok at low field y h = grind arith
 
 rest_bytes : (b : ℕ) (bytes : List ℕ) → IsBytes (b ∷ bytes) → IsBytes bytes
 rest_bytes b bytes h i = h (suc i)
 
 one_more : (left b n high : ℕ) (bytes rest : List ℕ) → 128 ≤ b → b < 256 → 1 ≤ high → n ≡ b - 128 + 128 * high → Takes bytes (sevens left high) rest → Takes (b ∷ bytes) (sevens (suc left) n) rest
-one_more left b n high bytes rest large byte some number inner =
-    let up : n / 128 ≡ high = omega arith in
-    let low : 128 + n % 128 ≡ b = omega arith in
-    let above : 128 ≤ n = omega arith in
-    record { parts = rw (le-ltb n 128 above) (rw (up, low) (ap (λ (t : List ℕ). b ∷ t) inner.parts)); rest_fits = inner.rest_fits }
+one_more left b n high bytes rest large byte some number inner = grind arith
 
 pub sevens_takes : (at left : ℕ) (bytes : List ℕ) (n : ℕ) (rest : List ℕ) → IsBytes bytes → sevens_at at left bytes ≡ Ok (n, rest) → Takes bytes (sevens left n) rest
 sevens_takes at (suc left) (b ∷ bytes) n rest fits e = elim (cases_lt b 128) [
@@ -130,8 +92,6 @@ sevens_takes at (suc left) (b ∷ bytes) n rest fits e = elim (cases_lt b 128) [
 ]
 sevens_takes at left bytes n rest fits e = absurd cc
 
--- ---- numbers of a field
-
 pub record IsWide (w : Width) (limit : ℕ) : Type 0 where
   pub len : (n : ℕ) → length (to_be_bytes w n) ≡ byte_len w
   pub back : (bytes : List ℕ) → length bytes ≡ byte_len w → IsBytes bytes → to_be_bytes w (from_be_bytes w bytes) ≡ bytes
@@ -140,28 +100,13 @@ pub record IsWide (w : Width) (limit : ℕ) : Type 0 where
   pub word : limit ≤ 4294967296
 
 pub wide16 : IsWide w16 65536
-wide16 = record {
-  len = λ n. refl;
-  back = λ bytes len fits. be_bytes_2 bytes _ len fits refl;
-  again = λ n lt. from_be_bytes-to_be_bytes_2 n lt;
-  below = λ bytes fits. omega (arith, fits 0, fits 1);
-  word = omega arith;
-}
+wide16 = search (rules, be_bytes_2, from_be_bytes-to_be_bytes_2)
 
 pub wide32 : IsWide w32 4294967296
-wide32 = record {
-  len = λ n. refl;
-  back = λ bytes len fits. be_bytes_4 bytes _ len fits refl;
-  again = λ n lt. from_be_bytes-to_be_bytes_4 n lt;
-  below = λ bytes fits. omega (arith, fits 0, fits 1, fits 2, fits 3);
-  word = omega arith;
-}
+wide32 = search (rules, be_bytes_4, from_be_bytes-to_be_bytes_4)
 
 pub unless_ok : (most : ℕ) (e : PackErr) (field : Field ℕ) (y : ℕ × List ℕ) → unless_over most e field ≡ Ok y → (field ≡ Ok y) × (y.0 ≤ most)
-unless_ok most e (Err f) y h = absurd cc
-unless_ok most e (Ok x) y h =
-    let g = guard_ok (ltb most x.0) e x y h in
-    (ap (λ (z : ℕ × List ℕ). Ok z) g.1, subst (λ (z : ℕ × List ℕ). z.0 ≤ most) g.1 (ltb-false most x.0 g.0))
+unless_ok most e field y h = grind arith
 
 pub unless_again : (most : ℕ) (e : PackErr) (field : Field ℕ) (n : ℕ) (rest : List ℕ) → field ≡ Ok (n, rest) → n ≤ most → unless_over most e field ≡ Ok (n, rest)
 unless_again most e field n rest is within = rw (is, le-ltb most n within) refl
@@ -178,14 +123,10 @@ module _ (w : Width) (limit : ℕ) (wide : IsWide w limit) (total : ℕ) where
       (record { parts = rw (front, ← rest-is) (sym (take-append-drop (byte_len w) bytes)); rest_fits = rw (← rest-is) (IsBytes-drop (byte_len w) bytes fits) }, omega (arith, wide.word))
   number_takes Two bytes n rest fits e =
       let u = unless_ok 4294967295 (BadNumber (offset total bytes)) (sevens_at (offset total bytes) 5 bytes) (n, rest) e in
-      let small : n ≤ 4294967295 = u.1 in
       (sevens_takes (offset total bytes) 5 bytes n rest fits u.0, omega arith)
 
   pub number_again : (v : Version) (n : ℕ) (rest : List ℕ) → n < limit → number_at total v w (spelled v w n ++ rest) ≡ Ok (n, rest)
-  number_again One n rest lt =
-      let len = wide.len n in
-      let long : ltb (length (to_be_bytes w n ++ rest)) (byte_len w) ≡ false = le-ltb _ _ (omega (arith, length-append (to_be_bytes w n) rest)) in
-      rw (long, take_at (to_be_bytes w n) rest (byte_len w) len, drop_at (to_be_bytes w n) rest (byte_len w) len, wide.again n lt) refl
+  number_again One n rest lt = grind arith
   number_again Two n rest lt =
       unless_again 4294967295 (BadNumber (offset total (sevens 5 n ++ rest))) (sevens_at (offset total (sevens 5 n ++ rest)) 5 (sevens 5 n ++ rest)) n rest
       (sevens_again (offset total (sevens 5 n ++ rest)) 4 n rest (omega (arith, lt, wide.word))) (omega (arith, lt, wide.word))

@@ -1,33 +1,16 @@
 -- Bytes are the file of one pack at most, or have one refusal at most, and never both.
-use Rattle.ppc_file.proofs.Common.{◌≡◌, ℕ, ◌+◌, ◌*◌, ◌<◌, false, ltb, List, [], length, replicate, Option, Some, None, Ok, Err, refl, sym, ap, subst, ◌∙◌, append-nil, arith, inl, inr, le-ltb, none-some, AreNormal, Parameter, Lit, Pair, PackValue, IsPack, PackParam, PackErr, Version, One, Two, Field, bytes_of, Front, nothing, in_bits, IsSound, next_at, IsPackFile, IsPackFault, AreSame, HasOneReading}
+use Rattle.ppc_file.proofs.Common.{◌≡◌, ℕ, ◌+◌, List, [], length, Option, Some, Ok, Err, refl, sym, ap, subst, ◌∙◌, append-nil, arith, inl, inr, le-ltb, none-some, AreNormal, Lit, Pair, PackValue, IsPack, PackParam, PackErr, Version, One, Two, Field, bytes_of, Front, nothing, in_bits, IsSound, next_at, IsPackFile, IsPackFault, AreSame, HasOneReading}
 use Rattle.ppc_pack.proofs.ConfLemmas.{kinds_count}
 use Rattle.ppc_file.proofs.ReadsLemmas.{Reads, IsEnd, one_end, reads_front}
 
--- the front that is a whole pack
 abbrev pub whole : Version → PackValue → Front
 whole v pack = in_bits v pack.params pack.graph.pairs (length pack.bits) pack.bits
 
 whole_sound : (v : Version) (pack : PackValue) → IsPack pack.params pack.graph pack.bits → AreNormal (1 + length pack.graph.kinds) pack.graph.pairs → IsSound (whole v pack)
-whole_sound v pack is normal =
-    let kinds : length pack.graph.kinds ≡ length pack.params = kinds_count pack is in (
-      record { few = is.few_bits; within = omega arith },
-      (
-        record { few = is.few_params; short = is.short; clean = is.clean; once = is.once },
-        (
-          record { few = is.few_nodes; normal = subst (λ (n : ℕ). AreNormal (1 + n) pack.graph.pairs) kinds normal },
-          record {
-            few = is.few_bits;
-            below = λ l i. subst (λ (n : ℕ). l.0 < 2 * (1 + n + length pack.graph.pairs)) kinds (is.lits l i);
-          },
-        ),
-      ),
-    )
+whole_sound v pack is normal = grind (arith, kinds_count)
 
 whole_end : (total : ℕ) (v : Version) (pack : PackValue) → IsEnd total (whole v pack) []
-whole_end total v pack x e =
-    let all : ltb (length pack.bits) (length pack.bits) ≡ false = le-ltb (length pack.bits) (length pack.bits) (omega arith) in
-    let h : None ≡ Some (Ok x) = rw all at e in
-    none-some (Ok x) h
+whole_end total v pack x e = grind arith
 
 refused_end : (total : ℕ) (f : Front) (r : List ℕ) (e : PackErr) → next_at total f r ≡ Some (Err e) → IsEnd total f r
 refused_end total f r e is x h = (let same : Some (Err e) ≡ Some (Ok x) = sym is ∙ h in cc)
@@ -58,27 +41,17 @@ module _ (bytes : List ℕ) where
 
   -- what a whole front tells
   params_of : Front → List PackParam
-  params_of (in_bits v params pairs count bits) = params
-  params_of f = []
+  params_of f = grind arith
 
   pairs_of : Front → List Pair
-  pairs_of (in_bits v params pairs count bits) = pairs
-  pairs_of f = []
+  pairs_of f = grind arith
 
   bits_of : Front → List Lit
-  bits_of (in_bits v params pairs count bits) = bits
-  bits_of f = []
+  bits_of f = grind arith
 
   same_whole : (v w : Version) (p q : PackValue) → IsPack p.params p.graph p.bits → IsPack q.params q.graph q.bits → whole v p ≡ whole w q → AreSame p q
   unfolding params_of pairs_of bits_of
-  same_whole v w p q is_p is_q e =
-      let params : p.params ≡ q.params = ap params_of e in
-      record {
-        params = params;
-        kinds = is_p.kinds ∙ ap (λ (ps : List PackParam). replicate (length ps) Parameter) params ∙ sym is_q.kinds;
-        pairs = ap pairs_of e;
-        bits = ap bits_of e;
-      }
+  same_whole v w p q is_p is_q e = grind arith
 
   one_pack : (p q : PackValue) → IsPackFile bytes p → IsPackFile bytes q → AreSame p q
   one_pack p q a b =
@@ -90,17 +63,14 @@ module _ (bytes : List ℕ) where
   one_fault : (e f : PackErr) → IsPackFault bytes e → IsPackFault bytes f → e ≡ f
   one_fault e f a b =
       let same = one_end (length bytes) a.front a.rest b.front b.rest nothing bytes (fault_reads e a) (fault_reads f b) (refused_end (length bytes) a.front a.rest e a.refused) (refused_end (length bytes) b.front b.rest f b.refused) in
-      let there : next_at (length bytes) a.front a.rest ≡ next_at (length bytes) b.front b.rest = ap (λ (g : Front). next_at (length bytes) g a.rest) same.0 ∙ ap (next_at (length bytes) b.front) same.1 in
-      same_refusal e f (sym a.refused ∙ there ∙ b.refused)
+      same_refusal e f (sym a.refused ∙ (ap (λ (g : Front). next_at (length bytes) g a.rest) same.0 ∙ ap (next_at (length bytes) b.front) same.1) ∙ b.refused)
 
   not_both : (pack : PackValue) (e : PackErr) → IsPackFile bytes pack → IsPackFault bytes e → ⊥
   not_both pack e file fault =
       let r = file_reads pack file in
       let same = one_end (length bytes) (whole r.version pack) [] fault.front fault.rest nothing bytes r.reads (fault_reads e fault) (whole_end (length bytes) r.version pack) (refused_end (length bytes) fault.front fault.rest e fault.refused) in
-      let all : ltb (length pack.bits) (length pack.bits) ≡ false = le-ltb (length pack.bits) (length pack.bits) (omega arith) in
-      let none : next_at (length bytes) (whole r.version pack) [] ≡ None = rw all refl in
       let there : next_at (length bytes) (whole r.version pack) [] ≡ next_at (length bytes) fault.front fault.rest = ap (λ (g : Front). next_at (length bytes) g []) same.0 ∙ ap (next_at (length bytes) fault.front) same.1 in
-      none-some (Err e) (sym none ∙ there ∙ fault.refused)
+      none-some (Err e) (sym (rw (le-ltb (length pack.bits) (length pack.bits) (omega arith)) refl) ∙ there ∙ fault.refused)
 
   pub one_reading : HasOneReading bytes
   one_reading = record { one_pack = one_pack; one_fault = one_fault; not_both = not_both }

@@ -1,11 +1,11 @@
 -- What the readers of a file's parts are compared with: refusals, new names, new pairs of a graph, and the pack of a file that was read to its end.
-use Rattle.ppc_file.proofs.Common.{◌≡◌, ℕ, ◌+◌, ◌*◌, ◌/◌, ◌<◌, ◌≤◌, Bool, true, false, ◌||◌, List, [], ◌∷◌, ◌++◌, length, replicate, min, max, Option, Some, None, Ok, Err, refl, sym, ap, subst, ◌∙◌, arith, inl, inr, cond, list_any, position, cases_Bool, ne_eqb, length-replicate, position_none, list_any-position_none, OrMemory, place_of, Aig, IsNormal, first_and, node_count, Answer, and_of, is_pair, found_or_new, Parameter, Lit, Pair, PackParam, PackErr, Version, Field, ◌>>=◌, offset, param_at, names_of_params, fan_ins_at, is_bad_pair, if_new_pair, node_at, bit_at, in_params, in_nodes, in_bits, IsPackFault, StandsAt, refusal_of, ◌⊎◌, append-nil, AreNormal, PackValue, IsPack, One, Two, bytes_of, IsPackFile, Result, passed_on}
+use Rattle.ppc_file.proofs.Common.{◌≡◌, ℕ, ◌+◌, ◌*◌, ◌/◌, ◌<◌, ◌≤◌, true, false, ◌||◌, List, [], ◌∷◌, ◌++◌, length, replicate, min, max, None, Ok, Err, refl, sym, ap, subst, ◌∙◌, arith, list_any, position, cases_Bool, ne_eqb, length-replicate, position_none, list_any-position_none, OrMemory, place_of, Aig, IsNormal, first_and, node_count, and_of, is_pair, found_or_new, Parameter, Lit, Pair, PackParam, PackErr, Version, Field, ◌>>=◌, offset, param_at, names_of_params, fan_ins_at, is_bad_pair, if_new_pair, node_at, bit_at, in_params, in_nodes, in_bits, IsPackFault, StandsAt, refusal_of, ◌⊎◌, append-nil, PackValue, IsPack, One, Two, bytes_of, IsPackFile, Result, passed_on, lt-ltb, le-ltb, Front, rules}
 use Rattle.std.proofs.lemmas.List.Quantifiers.{position-Some}
 use Rattle.std.specs.Prelude.{IsErrAnd, MatchResult}
 use Rattle.tl_fault.proofs.OrMemoryLemmas.{Unless-of}
 use Rattle.ppc_file.proofs.FieldLemmas.{param_takes, new_place}
 use Rattle.ppc_file.proofs.NumberLemmas.{IsBytes}
-use Rattle.ppc_file.proofs.StandLemmas.{rest_bytes, stands_param, stands_node, stands_bit, no_param, no_node, no_bit, no_end}
+use Rattle.ppc_file.proofs.StandLemmas.{rest_bytes, stands_param, stands_node, stands_bit, field_refused}
 use Rattle.ppc_file.specs.declared.pack_err.PackErr.TheVariants as refused
 
 -- a refusal that is so whatever it tells
@@ -32,26 +32,11 @@ module _ (g : Aig) (p : Pair) (normal : IsNormal (node_count g) p) where
     pub pairs : (and_of g p.x.0 p.y.0).pairs ≡ g.pairs ++ p ∷ []
 
   pub is_made : (and_of g p.x.0 p.y.0).lit ≡ 2 * node_count g → IsMade
-  is_made e = go (position (is_pair p.x.0 p.y.0) g.pairs) refl
-    where
-      go : (o : Option ℕ) → position (is_pair p.x.0 p.y.0) g.pairs ≡ o → IsMade
-      go None is = record {
-        new = list_any-position_none (is_pair p.x.0 p.y.0) g.pairs is;
-        pairs = ap (λ (a : Answer). a.pairs) (searched ∙ ap (found_or_new (first_and g) g.pairs p.x.0 p.y.0) is);
-      }
-      go (Some i) is =
-          let within : i < length g.pairs = (position-Some (is_pair p.x.0 p.y.0) g.pairs i p is).0 in
-          let lit : 2 * (first_and g + i) ≡ 2 * node_count g = sym (ap (λ (a : Answer). a.lit) (searched ∙ ap (found_or_new (first_and g) g.pairs p.x.0 p.y.0) is)) ∙ e in
-          absurd (omega arith)
+  is_made e = grind (arith, list_any-position_none, position-Some)
 
   -- else the pair stood earlier
   pub is_found : ((and_of g p.x.0 p.y.0).lit ≡ 2 * node_count g → ⊥) → list_any (is_pair p.x.0 p.y.0) g.pairs ≡ true
-  is_found other = elim (cases_Bool (list_any (is_pair p.x.0 p.y.0) g.pairs)) [
-    | inl t ↦ t
-    | inr f ↦ absurd (other (ap (λ (a : Answer). a.lit) (searched ∙ ap (found_or_new (first_and g) g.pairs p.x.0 p.y.0) (position_none (is_pair p.x.0 p.y.0) g.pairs f))))
-  ]
-
--- ---- parameters
+  is_found other = search (rules, cases_Bool, position_none)
 
 module _ (bytes : List ℕ) (fits : IsBytes bytes) (v : Version) (count : ℕ) (params : List PackParam) (names : List (List ℕ)) (rest : List ℕ) (stands : StandsAt bytes (in_params v count params) rest) (are : names ≡ names_of_params params) (more : length params < count) where
   -- a parameter that is read has a new name
@@ -69,27 +54,15 @@ module _ (bytes : List ℕ) (fits : IsBytes bytes) (v : Version) (count : ℕ) (
 
   -- or it is refused
   pub param_refused : (e : PackErr) → param_at (length bytes) v names rest ≡ Err e → IsPackFault bytes e
-  param_refused e is = no_param bytes fits v count params rest e stands more (subst (λ (ns : List (List ℕ)). param_at (length bytes) v ns rest ≡ Err e) are is)
-
--- all of them were read
-pub all_params : (bytes : List ℕ) (v : Version) (count read : ℕ) (params : List PackParam) (rest : List ℕ) → StandsAt bytes (in_params v count params) rest → length params ≡ read → count ≤ read → StandsAt bytes (in_params v (length params) params) rest
-all_params bytes v count read params rest stands is past =
-    let within : length params ≤ count = stands.sound.0.within in
-    let same : count ≡ length params = omega arith in
-    subst (λ (n : ℕ). StandsAt bytes (in_params v n params) rest) same stands
-
--- ---- nodes
+  param_refused e is =
+      field_refused bytes (in_params v count params) rest (λ p. in_params v count (params ++ p ∷ [])) _ e stands (subst (λ (ns : List (List ℕ)). param_at (length bytes) v ns rest ≡ Err e) are is) (rw (lt-ltb (length params) count more) refl)
 
 module _ (total : ℕ) (v : Version) (node : ℕ) (earlier : List Pair) (rest : List ℕ) where
   pub node_taken : (p : Pair) (behind : List ℕ) → fan_ins_at total v node rest ≡ Ok (p, behind) → (is_bad_pair node p || list_any (is_pair p.x.0 p.y.0) earlier) ≡ false → node_at total v node earlier rest ≡ Ok (p, behind)
-  node_taken p behind e good =
-      ap (λ (f : Field Pair). f >>= if_new_pair (offset total rest) node earlier) e
-      ∙ ap (λ (b : Bool). cond b (Err (refused.BadNode (offset total rest))) (Ok (p, behind))) good
+  node_taken p behind e good = rw (e, good) refl
 
   pub node_bad : (p : Pair) (behind : List ℕ) → fan_ins_at total v node rest ≡ Ok (p, behind) → (is_bad_pair node p || list_any (is_pair p.x.0 p.y.0) earlier) ≡ true → node_at total v node earlier rest ≡ Err (refused.BadNode (offset total rest))
-  node_bad p behind e bad =
-      ap (λ (f : Field Pair). f >>= if_new_pair (offset total rest) node earlier) e
-      ∙ ap (λ (b : Bool). cond b (Err (refused.BadNode (offset total rest))) (Ok (p, behind))) bad
+  node_bad p behind e bad = rw (e, bad) refl
 
   pub node_refused : (e : PackErr) → fan_ins_at total v node rest ≡ Err e → node_at total v node earlier rest ≡ Err e
   node_refused e is = ap (λ (f : Field Pair). f >>= if_new_pair (offset total rest) node earlier) is
@@ -104,15 +77,8 @@ module _ (bytes : List ℕ) (fits : IsBytes bytes) (v : Version) (params : List 
       (stands_node bytes fits v params count g.pairs rest (p, behind) stands more (subst (λ (n : ℕ). node_at (length bytes) v n g.pairs rest ≡ Ok (p, behind)) place e))
 
   pub no_next_node : (e : PackErr) → node_at (length bytes) v (node_count g) g.pairs rest ≡ Err e → IsPackFault bytes e
-  no_next_node e is = no_node bytes fits v params count g.pairs rest e stands more (subst (λ (n : ℕ). node_at (length bytes) v n g.pairs rest ≡ Err e) place is)
-
-pub all_nodes : (bytes : List ℕ) (v : Version) (params : List PackParam) (count read : ℕ) (pairs : List Pair) (rest : List ℕ) → StandsAt bytes (in_nodes v params count pairs) rest → length pairs ≡ read → count ≤ read → StandsAt bytes (in_nodes v params (length pairs) pairs) rest
-all_nodes bytes v params count read pairs rest stands is past =
-    let within : length pairs ≤ count = stands.sound.0.within in
-    let same : count ≡ length pairs = omega arith in
-    subst (λ (n : ℕ). StandsAt bytes (in_nodes v params n pairs) rest) same stands
-
--- ---- bits
+  no_next_node e is =
+      field_refused bytes (in_nodes v params count g.pairs) rest (λ p. in_nodes v params count (g.pairs ++ p ∷ [])) _ e stands (subst (λ (n : ℕ). node_at (length bytes) v n g.pairs rest ≡ Err e) place is) (rw (lt-ltb (length g.pairs) count more) refl)
 
 module _ (bytes : List ℕ) (fits : IsBytes bytes) (v : Version) (params : List PackParam) (pairs : List Pair) (count nodes : ℕ) (bits : List Lit) (rest : List ℕ) (stands : StandsAt bytes (in_bits v params pairs count bits) rest) (are : nodes ≡ 1 + length params + length pairs) (more : length bits < count) where
   pub bit_read : (l : Lit) (behind : List ℕ) (all : List Lit) → bit_at (length bytes) v nodes rest ≡ Ok (l, behind) → all ≡ bits ++ l ∷ [] → StandsAt bytes (in_bits v params pairs count all) behind
@@ -121,46 +87,29 @@ module _ (bytes : List ℕ) (fits : IsBytes bytes) (v : Version) (params : List 
       (stands_bit bytes fits v params pairs count bits rest (l, behind) stands more (subst (λ (n : ℕ). bit_at (length bytes) v n rest ≡ Ok (l, behind)) are e))
 
   pub bit_refused : (e : PackErr) → bit_at (length bytes) v nodes rest ≡ Err e → IsPackFault bytes e
-  bit_refused e is = no_bit bytes fits v params pairs count bits rest e stands more (subst (λ (n : ℕ). bit_at (length bytes) v n rest ≡ Err e) are is)
+  bit_refused e is =
+      field_refused bytes (in_bits v params pairs count bits) rest (λ l. in_bits v params pairs count (bits ++ l ∷ [])) _ e stands (subst (λ (n : ℕ). bit_at (length bytes) v n rest ≡ Err e) are is) (rw (lt-ltb (length bits) count more) refl)
 
-pub all_bits : (bytes : List ℕ) (v : Version) (params : List PackParam) (pairs : List Pair) (count read : ℕ) (bits : List Lit) (rest : List ℕ) → StandsAt bytes (in_bits v params pairs count bits) rest → length bits ≡ read → count ≤ read → StandsAt bytes (in_bits v params pairs (length bits) bits) rest
-all_bits bytes v params pairs count read bits rest stands is past =
-    let within : length bits ≤ count = stands.sound.0.within in
-    let same : count ≡ length bits = omega arith in
-    subst (λ (n : ℕ). StandsAt bytes (in_bits v params pairs n bits) rest) same stands
+-- the reader stands behind all that a part has
+pub all_read : (bytes : List ℕ) (front : ℕ → Front) (count size read : ℕ) (rest : List ℕ) → StandsAt bytes (front count) rest → size ≤ count → size ≡ read → count ≤ read → StandsAt bytes (front size) rest
+all_read bytes front count size read rest stands within is past = let same : count ≡ size = omega arith in subst (λ (n : ℕ). StandsAt bytes (front n) rest) same stands
 
 -- the bytes are those of one of the versions
 pub by_version : (v : Version) (pack : PackValue) (bytes : List ℕ) → bytes ≡ bytes_of v pack → (bytes ≡ bytes_of One pack) ⊎ (bytes ≡ bytes_of Two pack)
-by_version One pack bytes is = inl is
-by_version Two pack bytes is = inr is
+by_version v pack bytes is = search rules
 
 module _ (bytes : List ℕ) (params : List PackParam) (g : Aig) (bits : List Lit) (kinds : g.kinds ≡ replicate (length params) Parameter) where
   sources : length g.kinds ≡ length params
   sources = ap length kinds ∙ length-replicate (length params) Parameter
 
   pub is_pack : (v : Version) (rest : List ℕ) → StandsAt bytes (in_bits v params g.pairs (length bits) bits) rest → IsPack params g bits
-  is_pack v rest stands =
-      let sound = stands.sound in
-      record {
-        few_params = sound.1.0.few;
-        short = sound.1.0.short;
-        clean = sound.1.0.clean;
-        once = sound.1.0.once;
-        kinds = kinds;
-        few_nodes = sound.1.1.0.few;
-        few_bits = sound.1.1.1.few;
-        lits = λ l i. subst (λ (n : ℕ). l.0 < 2 * (1 + n + length g.pairs)) (sym sources) (sound.1.1.1.below l i);
-      }
+  is_pack v rest stands = grind (arith, sources)
 
   pub is_file : (v : Version) → StandsAt bytes (in_bits v params g.pairs (length bits) bits) [] → IsPackFile bytes (record { params = params; graph = g; bits = bits })
-  is_file v stands = record {
-    is_pack = is_pack v [] stands;
-    normal = subst (λ (n : ℕ). AreNormal (1 + n) g.pairs) (sym sources) stands.sound.1.1.0.normal;
-    spelled = by_version v (record { params = params; graph = g; bits = bits }) bytes (stands.spelled ∙ append-nil (bytes_of v (record { params = params; graph = g; bits = bits })));
-  }
+  is_file v stands = search (rules, is_pack, sources, by_version, append-nil)
 
 -- bytes follow the last bit
-pub trailing : (bytes : List ℕ) (fits : IsBytes bytes) (v : Version) (params : List PackParam) (pairs : List Pair) (bits : List Lit) (rest : List ℕ) → StandsAt bytes (in_bits v params pairs (length bits) bits) rest → 1 ≤ length rest
+pub trailing : (bytes : List ℕ) (v : Version) (params : List PackParam) (pairs : List Pair) (bits : List Lit) (rest : List ℕ) → StandsAt bytes (in_bits v params pairs (length bits) bits) rest → 1 ≤ length rest
     → IsPackFault bytes (refused.Trailing (offset (length bytes) rest))
-trailing bytes fits v params pairs bits [] stands some = absurd (omega arith)
-trailing bytes fits v params pairs bits (b ∷ rest) stands some = no_end bytes fits v params pairs bits b rest stands
+trailing bytes v params pairs bits [] stands some = absurd (omega arith)
+trailing bytes v params pairs bits (b ∷ rest) stands some = search (rules, le-ltb)

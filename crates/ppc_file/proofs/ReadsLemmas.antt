@@ -1,5 +1,5 @@
 -- A file is read front by front, in one way; and a sound front that a file begins with is met on the way.
-use Rattle.ppc_file.proofs.Common.{◌≡◌, ℕ, ◌+◌, ◌*◌, ◌<◌, ◌≤◌, true, false, ltb, List, [], ◌∷◌, ◌++◌, length, Option, Some, Ok, refl, sym, ap, subst, ◌∙◌, append_assoc, append-nil, arith, inl, inr, length-append, slice_get, w16, w32, to_be_bytes, flat_map, list_any, le-ltb, lt-ltb, cases_Bool, slice_get_within, In, In-right, In-map, place_in, get_left, get_end, AreOnce, AreNormal, is_pair, Lit, Pair, PackParam, MOST_PACK_NODES, MOST_PACK_BITS, MOST_PARAMETERS, Version, Field, offset, spelled, magic, version_number, head_bytes, param_bytes, node_bytes, nodes_bytes, bit_bytes, params_part, nodes_part, bits_part, names_of_params, Front, nothing, lettered, versioned, in_params, in_nodes, in_bits, spelling, AreParams, AreNodes, AreBits, AreSome, IsSound, read_into, next_at, nat_tests}
+use Rattle.ppc_file.proofs.Common.{◌≡◌, ℕ, ◌+◌, ◌≤◌, true, false, ltb, List, [], ◌∷◌, ◌++◌, length, Option, Some, Ok, refl, sym, ap, subst, ◌∙◌, append_assoc, append-nil, arith, inl, inr, length-append, slice_get, w16, w32, to_be_bytes, flat_map, list_any, le-ltb, lt-ltb, cases_Bool, slice_get_within, In, In-right, In-map, place_in, get_left, get_end, AreOnce, AreNormal, is_pair, Lit, Pair, PackParam, MOST_PACK_NODES, MOST_PACK_BITS, MOST_PARAMETERS, Version, Field, offset, spelled, magic, version_number, head_bytes, param_bytes, node_bytes, nodes_bytes, bit_bytes, params_part, nodes_part, bits_part, names_of_params, Front, nothing, lettered, versioned, in_params, in_nodes, in_bits, spelling, AreParams, AreNodes, AreBits, AreSome, IsSound, read_into, next_at, nat_tests}
 use Rattle.ppc_file.proofs.NumberLemmas.{wide16, wide32}
 use Rattle.ppc_file.proofs.FieldLemmas.{none_all, IsNextParam, IsNextNode, magic_again, version_again, count_again, param_again, node_again, bit_again}
 use Rattle.ppc_file.specs.declared.pack_err.PackErr.TheVariants as refused
@@ -25,8 +25,7 @@ one_end total t q u p f r (stay a b) (stay c d) no_t no_u = (sym a ∙ c, sym b 
 one_end total t q u p f r (stay a b) (go x e more) no_t no_u = absurd (no_t x (subst (λ (g : Front). next_at total g q ≡ Some (Ok x)) a (subst (λ (s : List ℕ). next_at total f s ≡ Some (Ok x)) b e)))
 one_end total t q u p f r (go x e more) (stay a b) no_t no_u = absurd (no_u x (subst (λ (g : Front). next_at total g p ≡ Some (Ok x)) a (subst (λ (s : List ℕ). next_at total f s ≡ Some (Ok x)) b e)))
 one_end total t q u p f r (go x e more) (go y d rest) no_t no_u =
-    let same : y ≡ x = same_taken y x (sym d ∙ e) in
-    one_end total t q u p x.0 x.1 more (subst (λ (z : Front × List ℕ). Reads total u p z.0 z.1) same rest) no_t no_u
+    one_end total t q u p x.0 x.1 more (subst (λ (z : Front × List ℕ). Reads total u p z.0 z.1) (same_taken y x (sym d ∙ e)) rest) no_t no_u
 
 -- the name of a parameter is none of those before it
 new_name : (front : List PackParam) (p : PackParam) (rest : List PackParam) → AreOnce (names_of_params (front ++ p ∷ rest)) → In (names_of_params front) p.name → ⊥
@@ -43,77 +42,46 @@ new_pair first front p rest normal = none_all (is_pair p.x.0 p.y.0) front (λ q 
   | inl t ↦
       let place = place_in front q i in
       let there : slice_get front place.0 ≡ Some p = place.1 ∙ ap (λ (z : Pair). Some z) (pair_is p q t) in
-      let same : place.0 ≡ length front = normal.once place.0 (length front) p (get_left front (p ∷ rest) place.0 p there) (get_end front p rest) in
-      let below : place.0 < length front = slice_get_within front place.0 p there in
-      absurd (omega arith)
+      absurd (omega (arith, slice_get_within front place.0 p there, normal.once place.0 (length front) p (get_left front (p ∷ rest) place.0 p there) (get_end front p rest)))
   | inr f ↦ f
 ])
 
-behind_one : {A : Type 0} (front : List A) (x : A) (rest : List A) → (front ++ x ∷ []) ++ rest ≡ front ++ x ∷ rest
-behind_one front x rest = append_assoc front (x ∷ []) rest
-
 module _ (total : ℕ) (t : Front) (q : List ℕ) where
-  -- the parameters, the nodes and the bits behind those that were read
-  module _ (v : Version) (count : ℕ) where
-    param_next : (front : List PackParam) (p : PackParam) (rest : List ℕ) → length front < count → IsNextParam total (names_of_params front) p
-        → next_at total (in_params v count front) (param_bytes v p ++ rest) ≡ Some (Ok (in_params v count (front ++ p ∷ []), rest))
-    param_next front p rest few next =
-        let more : ltb (length front) count ≡ true = lt-ltb (length front) count few in
-        rw more (ap (λ (f : Field PackParam). Some (read_into (λ r. in_params v count (front ++ r ∷ [])) f)) (param_again total v (names_of_params front) p rest next))
+  -- things behind those that were read, one by one: `part` is the front with some of them, `one` is the text of one behind others, and `all` that of some
+  module _ {X : Type 0} (part : List X → Front) (one : List X → X → List ℕ) (all : List X → List X → List ℕ) (none : (front : List X) → all front [] ≡ [])
+      (more : (front : List X) (x : X) (xs : List X) → all front (x ∷ xs) ≡ one front x ++ all (front ++ x ∷ []) xs) where
+    reads_all : (front todo : List X) (rest : List ℕ)
+        → ((before : List X) (x : X) (after : List X) (s : List ℕ) → before ++ x ∷ after ≡ front ++ todo → next_at total (part before) (one before x ++ s) ≡ Some (Ok (part (before ++ x ∷ []), s)))
+        → Reads total t q (part (front ++ todo)) rest → Reads total t q (part front) (all front todo ++ rest)
+    reads_all front [] rest next on = rw (none front) (subst (λ (xs : List X). Reads total t q (part xs) rest) (append-nil front) on)
+    reads_all front (x ∷ todo) rest next on =
+        let same : (front ++ x ∷ []) ++ todo ≡ front ++ x ∷ todo = append_assoc front (x ∷ []) todo in
+        let behind : List ℕ = all (front ++ x ∷ []) todo ++ rest in
+        let again : Reads total t q (part (front ++ x ∷ [])) behind =
+        reads_all (front ++ x ∷ []) todo rest (λ before y after s is. next before y after s (is ∙ same)) (subst (λ (xs : List X). Reads total t q (part xs) rest) (sym same) on) in
+        subst (λ (s : List ℕ). Reads total t q (part front) s) (sym (ap (λ (s : List ℕ). s ++ rest) (more front x todo) ∙ append_assoc (one front x) (all (front ++ x ∷ []) todo) rest))
+        (go (part (front ++ x ∷ []), behind) (next front x todo behind refl) again)
 
-    reads_params : (front todo : List PackParam) (rest : List ℕ) → AreParams (front ++ todo) → length (front ++ todo) ≤ count → Reads total t q (in_params v count (front ++ todo)) rest
-        → Reads total t q (in_params v count front) (flat_map (param_bytes v) todo ++ rest)
-    reads_params front [] rest are few on = subst (λ (ps : List PackParam). Reads total t q (in_params v count ps) rest) (append-nil front) on
-    reads_params front (p ∷ todo) rest are few on =
-        let here : In (front ++ p ∷ todo) p = In-right front (p ∷ todo) p (inl refl) in
-        let next : IsNextParam total (names_of_params front) p = record { clean = are.clean p here; short = are.short p here; new = new_name front p todo are.once } in
-        let below : length front < count = omega (arith, length-append front (p ∷ todo)) in
-        let again = reads_params (front ++ p ∷ []) todo rest (subst AreParams (sym (behind_one front p todo)) are) (subst (λ (ps : List PackParam). length ps ≤ count) (sym (behind_one front p todo)) few)
-        (subst (λ (ps : List PackParam). Reads total t q (in_params v count ps) rest) (sym (behind_one front p todo)) on) in
-        subst (λ (s : List ℕ). Reads total t q (in_params v count front) s) (sym (append_assoc (param_bytes v p) (flat_map (param_bytes v) todo) rest))
-        (go (in_params v count (front ++ p ∷ []), flat_map (param_bytes v) todo ++ rest) (param_next front p (flat_map (param_bytes v) todo ++ rest) below next) again)
+  param_next : (v : Version) (count : ℕ) (before : List PackParam) (p : PackParam) (after : List PackParam) (s : List ℕ) → AreParams (before ++ p ∷ after) → length (before ++ p ∷ after) ≤ count
+      → next_at total (in_params v count before) (param_bytes v p ++ s) ≡ Some (Ok (in_params v count (before ++ p ∷ []), s))
+  param_next v count before p after s are few =
+      let here : In (before ++ p ∷ after) p = In-right before (p ∷ after) p (inl refl) in
+      let next : IsNextParam total (names_of_params before) p = record { clean = are.clean p here; short = are.short p here; new = new_name before p after are.once } in
+      grind (arith, lt-ltb, length-append, param_again)
 
-  module _ (v : Version) (params : List PackParam) (few_params : length params ≤ MOST_PARAMETERS) (count : ℕ) where
-    node_next : (front : List Pair) (p : Pair) (rest : List ℕ) → length front < count → length front ≤ MOST_PACK_NODES → IsNextNode total (1 + length params + length front) front p
-        → next_at total (in_nodes v params count front) (node_bytes v (1 + length params + length front) p ++ rest) ≡ Some (Ok (in_nodes v params count (front ++ p ∷ []), rest))
-    node_next front p rest few small next =
-        let more : ltb (length front) count ≡ true = lt-ltb (length front) count few in
-        rw more (ap (λ (f : Field Pair). Some (read_into (λ r. in_nodes v params count (front ++ r ∷ [])) f)) (node_again total v (1 + length params + length front) front p rest next (omega arith)))
+  node_next : (v : Version) (params : List PackParam) (count : ℕ) (before : List Pair) (p : Pair) (after : List Pair) (s : List ℕ) → length params ≤ MOST_PARAMETERS → AreNodes params (before ++ p ∷ after) → length (before ++ p ∷ after) ≤ count
+      → next_at total (in_nodes v params count before) (node_bytes v (1 + length params + length before) p ++ s) ≡ Some (Ok (in_nodes v params count (before ++ p ∷ []), s))
+  node_next v params count before p after s few_params are few =
+      let next : IsNextNode total _ before p = record { normal = are.normal.each (length before) p (get_end before p after); new = new_pair (1 + length params) before p after are.normal } in
+      grind (arith, lt-ltb, length-append, node_again)
 
-    reads_nodes : (front todo : List Pair) (rest : List ℕ) → AreNodes params (front ++ todo) → length (front ++ todo) ≤ count → Reads total t q (in_nodes v params count (front ++ todo)) rest
-        → Reads total t q (in_nodes v params count front) (nodes_bytes v (1 + length params + length front) todo ++ rest)
-    reads_nodes front [] rest are few on = subst (λ (ps : List Pair). Reads total t q (in_nodes v params count ps) rest) (append-nil front) on
-    reads_nodes front (p ∷ todo) rest are few on =
-        let node : ℕ = 1 + length params + length front in
-        let normal = are.normal in
-        let next : IsNextNode total node front p = record { normal = normal.each (length front) p (get_end front p todo); new = new_pair (1 + length params) front p todo normal } in
-        let few_nodes : length (front ++ p ∷ todo) ≤ MOST_PACK_NODES = are.few in
-        let below : length front < count = omega (arith, length-append front (p ∷ todo)) in
-        let index : 1 + length params + length (front ++ p ∷ []) ≡ node + 1 = omega (arith, length-append front (p ∷ [])) in
-        let again = reads_nodes (front ++ p ∷ []) todo rest (subst (AreNodes params) (sym (behind_one front p todo)) are) (subst (λ (ps : List Pair). length ps ≤ count) (sym (behind_one front p todo)) few)
-        (subst (λ (ps : List Pair). Reads total t q (in_nodes v params count ps) rest) (sym (behind_one front p todo)) on) in
-        let again' : Reads total t q (in_nodes v params count (front ++ p ∷ [])) (nodes_bytes v (node + 1) todo ++ rest) = subst (λ (n : ℕ). Reads total t q (in_nodes v params count (front ++ p ∷ [])) (nodes_bytes v n todo ++ rest)) index again in
-        subst (λ (s : List ℕ). Reads total t q (in_nodes v params count front) s) (sym (append_assoc (node_bytes v node p) (nodes_bytes v (node + 1) todo) rest))
-        (go (in_nodes v params count (front ++ p ∷ []), nodes_bytes v (node + 1) todo ++ rest) (node_next front p (nodes_bytes v (node + 1) todo ++ rest) below (omega (arith, length-append front (p ∷ todo))) next) again')
+  bit_next : (v : Version) (params : List PackParam) (pairs : List Pair) (count : ℕ) (before : List Lit) (l : Lit) (after : List Lit) (s : List ℕ) → 1 + length params + length pairs ≤ 2147483648
+      → AreBits (1 + length params + length pairs) (before ++ l ∷ after) → length (before ++ l ∷ after) ≤ count → next_at total (in_bits v params pairs count before) (bit_bytes v l ++ s) ≡ Some (Ok (in_bits v params pairs count (before ++ l ∷ []), s))
+  bit_next v params pairs count before l after s small are few =
+      rw (lt-ltb (length before) count (omega (arith, length-append before (l ∷ after))))
+      (ap (λ (f : Field Lit). Some (read_into (λ r. in_bits v params pairs count (before ++ r ∷ [])) f))
+      (bit_again total v (1 + length params + length pairs) l s (are.below l (In-right before (l ∷ after) l (inl refl))) small))
 
-  module _ (v : Version) (params : List PackParam) (pairs : List Pair) (small : 1 + length params + length pairs ≤ 2147483648) (count : ℕ) where
-    bit_next : (front : List Lit) (l : Lit) (rest : List ℕ) → length front < count → l.0 < 2 * (1 + length params + length pairs)
-        → next_at total (in_bits v params pairs count front) (bit_bytes v l ++ rest) ≡ Some (Ok (in_bits v params pairs count (front ++ l ∷ []), rest))
-    bit_next front l rest few below =
-        let more : ltb (length front) count ≡ true = lt-ltb (length front) count few in
-        rw more (ap (λ (f : Field Lit). Some (read_into (λ r. in_bits v params pairs count (front ++ r ∷ [])) f)) (bit_again total v (1 + length params + length pairs) l rest below small))
-
-    reads_bits : (front todo : List Lit) (rest : List ℕ) → AreBits (1 + length params + length pairs) (front ++ todo) → length (front ++ todo) ≤ count → Reads total t q (in_bits v params pairs count (front ++ todo)) rest
-        → Reads total t q (in_bits v params pairs count front) (flat_map (bit_bytes v) todo ++ rest)
-    reads_bits front [] rest are few on = subst (λ (ls : List Lit). Reads total t q (in_bits v params pairs count ls) rest) (append-nil front) on
-    reads_bits front (l ∷ todo) rest are few on =
-        let below : length front < count = omega (arith, length-append front (l ∷ todo)) in
-        let again = reads_bits (front ++ l ∷ []) todo rest (subst (AreBits (1 + length params + length pairs)) (sym (behind_one front l todo)) are) (subst (λ (ls : List Lit). length ls ≤ count) (sym (behind_one front l todo)) few)
-        (subst (λ (ls : List Lit). Reads total t q (in_bits v params pairs count ls) rest) (sym (behind_one front l todo)) on) in
-        subst (λ (s : List ℕ). Reads total t q (in_bits v params pairs count front) s) (sym (append_assoc (bit_bytes v l) (flat_map (bit_bytes v) todo) rest))
-        (go (in_bits v params pairs count (front ++ l ∷ []), flat_map (bit_bytes v) todo ++ rest) (bit_next front l (flat_map (bit_bytes v) todo ++ rest) below (are.below l (In-right front (l ∷ todo) l (inl refl)))) again)
-
-  -- the parts of a file
   reads_head : (v : Version) (rest : List ℕ) → Reads total t q (versioned v) rest → Reads total t q nothing (head_bytes v ++ rest)
   reads_head v rest on =
       let vb : List ℕ = to_be_bytes w16 (version_number v) in
@@ -124,39 +92,35 @@ module _ (total : ℕ) (t : Front) (q : List ℕ) where
   reads_params_part : (v : Version) (count : ℕ) (params : List PackParam) (rest : List ℕ) → AreSome MOST_PARAMETERS count (length params) → AreParams params → Reads total t q (in_params v count params) rest
       → Reads total t q (versioned v) (params_part v count params ++ rest)
   reads_params_part v count params rest some are on =
-      let few : count ≤ 65535 = some.few in
-      let behind : List ℕ = flat_map (param_bytes v) params ++ rest in
       subst (λ (s : List ℕ). Reads total t q (versioned v) s) (sym (append_assoc (spelled v w16 count) (flat_map (param_bytes v) params) rest))
-      (go (in_params v count [], behind) (ap (λ (f : Field ℕ). Some (read_into (λ n. in_params v n []) f)) (count_again total w16 65536 wide16 v MOST_PARAMETERS (refused.BadNumber (offset total (spelled v w16 count ++ behind))) count behind some.few (omega arith)))
-      (reads_params v count [] params rest are some.within on))
+      (go (in_params v count [], _) (ap (λ (f : Field ℕ). Some (read_into (λ n. in_params v n []) f)) (count_again total w16 65536 wide16 v MOST_PARAMETERS (refused.BadNumber (offset total (spelled v w16 count ++ _))) count _ some.few (omega arith)))
+      (reads_all (in_params v count) (λ front p. param_bytes v p) (λ front ps. flat_map (param_bytes v) ps) (λ front. refl) (λ front p ps. refl) [] params rest
+      (λ before p after s is. param_next v count before p after s (subst AreParams (sym is) are) (subst (λ (ps : List PackParam). length ps ≤ count) (sym is) some.within)) on))
 
   reads_nodes_part : (v : Version) (params : List PackParam) (count : ℕ) (pairs : List Pair) (rest : List ℕ) → AreParams params → AreSome MOST_PACK_NODES count (length pairs) → AreNodes params pairs
       → Reads total t q (in_nodes v params count pairs) rest → Reads total t q (in_params v (length params) params) (nodes_part v (1 + length params) count pairs ++ rest)
   reads_nodes_part v params count pairs rest are_params some are on =
-      let few : count ≤ 33554432 = some.few in
       let first : ℕ = 1 + length params in
-      let behind : List ℕ = nodes_bytes v first pairs ++ rest in
       let all : ltb (length params) (length params) ≡ false = le-ltb (length params) (length params) (omega arith) in
       let start : 1 + length params + 0 ≡ first = omega arith in
       subst (λ (s : List ℕ). Reads total t q (in_params v (length params) params) s) (sym (append_assoc (spelled v w32 count) (nodes_bytes v first pairs) rest))
-      (go (in_nodes v params count [], behind)
-      (rw all (ap (λ (f : Field ℕ). Some (read_into (λ n. in_nodes v params n []) f)) (count_again total w32 4294967296 wide32 v MOST_PACK_NODES (refused.BadNode (offset total (spelled v w32 count ++ behind))) count behind some.few (omega arith))))
-      (subst (λ (n : ℕ). Reads total t q (in_nodes v params count []) (nodes_bytes v n pairs ++ rest)) start (reads_nodes v params are_params.few count [] pairs rest are some.within on)))
+      (go (in_nodes v params count [], _)
+      (rw all (ap (λ (f : Field ℕ). Some (read_into (λ n. in_nodes v params n []) f)) (count_again total w32 4294967296 wide32 v MOST_PACK_NODES (refused.BadNode (offset total (spelled v w32 count ++ _))) count _ some.few (omega arith))))
+      (subst (λ (n : ℕ). Reads total t q (in_nodes v params count []) (nodes_bytes v n pairs ++ rest)) start
+      (reads_all (in_nodes v params count) (λ front p. node_bytes v (first + length front) p) (λ front ps. nodes_bytes v (first + length front) ps) (λ front. refl)
+      (λ front p ps. ap (λ (n : ℕ). node_bytes v (first + length front) p ++ nodes_bytes v n ps) (omega (arith, length-append front (p ∷ [])))) [] pairs rest
+      (λ before p after s is. node_next v params count before p after s are_params.few (subst (AreNodes params) (sym is) are) (subst (λ (ps : List Pair). length ps ≤ count) (sym is) some.within)) on)))
 
   reads_bits_part : (v : Version) (params : List PackParam) (pairs : List Pair) (count : ℕ) (bits : List Lit) (rest : List ℕ) → AreParams params → AreNodes params pairs → AreSome MOST_PACK_BITS count (length bits) → AreBits (1 + length params + length pairs) bits
       → Reads total t q (in_bits v params pairs count bits) rest → Reads total t q (in_nodes v params (length pairs) pairs) (bits_part v count bits ++ rest)
   reads_bits_part v params pairs count bits rest are_params are_nodes some are on =
-      let few : count ≤ 33554432 = some.few in
-      let few_params : length params ≤ 65535 = are_params.few in
-      let few_nodes : length pairs ≤ 33554432 = are_nodes.few in
-      let behind : List ℕ = flat_map (bit_bytes v) bits ++ rest in
       let all : ltb (length pairs) (length pairs) ≡ false = le-ltb (length pairs) (length pairs) (omega arith) in
       subst (λ (s : List ℕ). Reads total t q (in_nodes v params (length pairs) pairs) s) (sym (append_assoc (spelled v w32 count) (flat_map (bit_bytes v) bits) rest))
-      (go (in_bits v params pairs count [], behind)
-      (rw all (ap (λ (f : Field ℕ). Some (read_into (λ n. in_bits v params pairs n []) f)) (count_again total w32 4294967296 wide32 v MOST_PACK_BITS (refused.BadBit (offset total (spelled v w32 count ++ behind))) count behind some.few (omega arith))))
-      (reads_bits v params pairs (omega arith) count [] bits rest are some.within on))
+      (go (in_bits v params pairs count [], _)
+      (rw all (ap (λ (f : Field ℕ). Some (read_into (λ n. in_bits v params pairs n []) f)) (count_again total w32 4294967296 wide32 v MOST_PACK_BITS (refused.BadBit (offset total (spelled v w32 count ++ _))) count _ some.few (omega arith))))
+      (reads_all (in_bits v params pairs count) (λ front l. bit_bytes v l) (λ front ls. flat_map (bit_bytes v) ls) (λ front. refl) (λ front l ls. refl) [] bits rest
+      (λ before l after s is. bit_next v params pairs count before l after s (omega arith) (subst (AreBits (1 + length params + length pairs)) (sym is) are) (subst (λ (ls : List Lit). length ls ≤ count) (sym is) some.within)) on))
 
--- a sound front is met
 pub reads_front : (total : ℕ) (front : Front) (rest : List ℕ) → IsSound front → Reads total front rest nothing (spelling front ++ rest)
 reads_front total nothing rest sound = stay refl refl
 reads_front total lettered rest sound = go (lettered, rest) (ap (λ (f : Field (List ℕ)). Some (read_into (λ letters. lettered) f)) (magic_again total rest)) (stay refl refl)
@@ -167,21 +131,19 @@ reads_front total (in_params v count params) rest sound =
     (reads_head total f rest v (params_part v count params ++ rest) (reads_params_part total f rest v count params rest sound.0 sound.1 (stay refl refl)))
 reads_front total (in_nodes v params count pairs) rest sound =
     let f : Front = in_nodes v params count pairs in
-    let P : List ℕ = params_part v (length params) params in
     let N : List ℕ = nodes_part v (1 + length params) count pairs in
     let whole : AreSome MOST_PARAMETERS (length params) (length params) = record { few = sound.1.0.few; within = omega arith } in
-    subst (λ (s : List ℕ). Reads total f rest nothing s) (sym (append_assoc (head_bytes v) (P ++ N) rest ∙ ap (λ (s : List ℕ). head_bytes v ++ s) (append_assoc P N rest)))
-    (reads_head total f rest v (P ++ (N ++ rest)) (reads_params_part total f rest v (length params) params (N ++ rest) whole sound.1.0
+    subst (λ (s : List ℕ). Reads total f rest nothing s) (sym (append_assoc (head_bytes v) (_ ++ N) rest ∙ ap (λ (s : List ℕ). head_bytes v ++ s) (append_assoc _ N rest)))
+    (reads_head total f rest v (_ ++ (N ++ rest)) (reads_params_part total f rest v (length params) params (N ++ rest) whole sound.1.0
     (reads_nodes_part total f rest v params count pairs rest sound.1.0 sound.0 sound.1.1 (stay refl refl))))
 reads_front total (in_bits v params pairs count bits) rest sound =
     let f : Front = in_bits v params pairs count bits in
     let P : List ℕ = params_part v (length params) params in
-    let N : List ℕ = nodes_part v (1 + length params) (length pairs) pairs in
     let B : List ℕ = bits_part v count bits in
     let whole : AreSome MOST_PARAMETERS (length params) (length params) = record { few = sound.1.0.few; within = omega arith } in
     let nodes : AreSome MOST_PACK_NODES (length pairs) (length pairs) = record { few = sound.1.1.0.few; within = omega arith } in
     subst (λ (s : List ℕ). Reads total f rest nothing s)
-    (sym (append_assoc (head_bytes v) (P ++ (N ++ B)) rest ∙ ap (λ (s : List ℕ). head_bytes v ++ s) (append_assoc P (N ++ B) rest ∙ ap (λ (s : List ℕ). P ++ s) (append_assoc N B rest))))
-    (reads_head total f rest v (P ++ (N ++ (B ++ rest))) (reads_params_part total f rest v (length params) params (N ++ (B ++ rest)) whole sound.1.0
+    (sym (append_assoc (head_bytes v) (P ++ (_ ++ B)) rest ∙ ap (λ (s : List ℕ). head_bytes v ++ s) (append_assoc P (_ ++ B) rest ∙ ap (λ (s : List ℕ). P ++ s) (append_assoc _ B rest))))
+    (reads_head total f rest v (P ++ (_ ++ (B ++ rest))) (reads_params_part total f rest v (length params) params (_ ++ (B ++ rest)) whole sound.1.0
     (reads_nodes_part total f rest v params (length pairs) pairs (B ++ rest) sound.1.0 nodes sound.1.1.0
     (reads_bits_part total f rest v params pairs count bits rest sound.1.0 sound.1.1.0 sound.0 sound.1.1.1 (stay refl refl)))))

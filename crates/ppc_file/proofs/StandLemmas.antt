@@ -1,5 +1,5 @@
 -- A reader that is after a front is after a longer one once the next field is taken.
-use Rattle.ppc_file.proofs.Common.{◌≡◌, ℕ, suc, ◌+◌, ◌*◌, ◌<◌, ◌≤◌, List, [], ◌∷◌, ◌++◌, length, Some, Ok, Err, refl, sym, ap, subst, ◌∙◌, append_assoc, append-nil, arith, inl, inr, length-append, slice_get, w16, w32, to_be_bytes, flat_map, le-ltb, lt-ltb, map-append, none-some, position_none, In-push, IsClean, AreOnce, is_pair, Lit, Pair, AreNormal-push, PackParam, MOST_PACK_NODES, MOST_PACK_BITS, MOST_PARAMETERS, MOST_NAME_BYTES, PackErr, Version, Field, offset, spelled, version_number, head_bytes, param_bytes, node_bytes, nodes_bytes, bit_bytes, params_part, nodes_part, bits_part, magic_at, version_at, param_count_at, node_count_at, bit_count_at, param_at, names_of_params, node_at, bit_at, Front, nothing, lettered, versioned, in_params, in_nodes, in_bits, spelling, AreParams, IsSound, read_into, next_at, IsPackFault, StandsAt}
+use Rattle.ppc_file.proofs.Common.{◌≡◌, ℕ, suc, ◌+◌, ◌*◌, ◌<◌, ◌≤◌, List, [], ◌∷◌, ◌++◌, length, Some, Ok, Err, refl, sym, ap, subst, ◌∙◌, append_assoc, append-nil, arith, inl, inr, length-append, slice_get, w16, w32, to_be_bytes, flat_map, map-append, none-some, position_none, In-push, IsClean, AreOnce, is_pair, Lit, Pair, AreNormal-push, PackParam, MOST_PACK_NODES, MOST_PACK_BITS, MOST_PARAMETERS, MOST_NAME_BYTES, PackErr, Version, Field, offset, spelled, version_number, head_bytes, param_bytes, node_bytes, nodes_bytes, bit_bytes, params_part, nodes_part, bits_part, magic_at, version_at, param_count_at, node_count_at, bit_count_at, param_at, names_of_params, node_at, bit_at, Front, lettered, versioned, in_params, in_nodes, in_bits, spelling, AreParams, IsSound, read_into, next_at, IsPackFault, StandsAt, AreNodes, AreBits, rules}
 use Rattle.std.proofs.lemmas.List.Concat.{flat_map-append}
 use Rattle.list_laws.proofs.Apart.{pushed_apart}
 use Rattle.ppc_file.specs.declared.pack_err.PackErr.TheVariants as refused
@@ -18,10 +18,7 @@ grown f xs x = sym (flat_map-append f xs (x ∷ []) ∙ ap (λ (t : List ℕ). f
 
 grown_nodes : (v : Version) (node : ℕ) (ps : List Pair) (p : Pair) → nodes_bytes v node ps ++ node_bytes v (node + length ps) p ≡ nodes_bytes v node (ps ++ p ∷ [])
 grown_nodes v node [] p = (let e : node + 0 ≡ node = omega arith in ap (λ (n : ℕ). node_bytes v n p) e ∙ sym (append-nil (node_bytes v node p)))
-grown_nodes v node (q ∷ ps) p =
-    let e : node + suc (length ps) ≡ node + 1 + length ps = omega arith in
-    inner (node_bytes v node q) (nodes_bytes v (node + 1) ps) (node_bytes v (node + suc (length ps)) p) (nodes_bytes v (node + 1) (ps ++ p ∷ []))
-    (ap (λ (n : ℕ). nodes_bytes v (node + 1) ps ++ node_bytes v n p) e ∙ grown_nodes v (node + 1) ps p)
+grown_nodes v node (q ∷ ps) p = grind (arith, inner, grown_nodes v (node + 1) ps p)
 
 abbrev no_pairs : List Pair
 no_pairs = []
@@ -29,16 +26,17 @@ no_pairs = []
 none_there : (i : ℕ) (p : Pair) → slice_get no_pairs i ≡ Some p → ⊥
 none_there i p h = none-some p h
 
+-- what stands where a field is refused has a fault
+pub field_refused : {A : Type 0} (bytes : List ℕ) (f : Front) (rest : List ℕ) (more : A → Front) (field : Field A) (e : PackErr)
+    → StandsAt bytes f rest → field ≡ Err e → next_at (length bytes) f rest ≡ Some (read_into more field) → IsPackFault bytes e
+field_refused bytes f rest more field e stands is next = search rules
+
 module _ (bytes : List ℕ) (fits : IsBytes bytes) where
-  -- what is left are bytes
   pub rest_bytes : (f : Front) (rest : List ℕ) → StandsAt bytes f rest → IsBytes rest
   rest_bytes f rest stands = bytes_behind (spelling f) rest (subst IsBytes stands.spelled fits)
 
   further : (f g : Front) (text rest behind : List ℕ) → StandsAt bytes f rest → Takes rest text behind → spelling f ++ text ≡ spelling g → IsSound g → StandsAt bytes g behind
-  further f g text rest behind stands takes e sound = record {
-    spelled = stands.spelled ∙ ap (λ (t : List ℕ). spelling f ++ t) takes.parts ∙ sym (append_assoc (spelling f) text behind) ∙ ap (λ (t : List ℕ). t ++ behind) e;
-    sound = sound;
-  }
+  further f g text rest behind stands takes e sound = search (rules, append_assoc)
 
   pub stands_magic : (y : List ℕ × List ℕ) → magic_at (length bytes) bytes ≡ Ok y → StandsAt bytes lettered y.1
   stands_magic y e = record { spelled = (magic_takes (length bytes) bytes y fits e).parts; sound = tt }
@@ -49,8 +47,7 @@ module _ (bytes : List ℕ) (fits : IsBytes bytes) where
   pub stands_param_count : (v : Version) (rest : List ℕ) (y : ℕ × List ℕ) → StandsAt bytes (versioned v) rest → param_count_at (length bytes) v rest ≡ Ok y → StandsAt bytes (in_params v y.0 []) y.1
   stands_param_count v rest y stands e =
       let t = count_takes (length bytes) w16 65536 wide16 v MOST_PARAMETERS (refused.BadNumber (offset (length bytes) rest)) rest y (rest_bytes (versioned v) rest stands) e in
-      further (versioned v) (in_params v y.0 []) (spelled v w16 y.0) rest y.1 stands t.0 (ap (λ (s : List ℕ). head_bytes v ++ s) (sym (append-nil (spelled v w16 y.0))))
-      (record { few = t.1; within = omega arith }, record { few = omega arith; short = λ p i. absurd i; clean = λ p i. absurd i; once = tt })
+      grind (arith, further, append-nil)
 
   more_params : (params : List PackParam) (p : PackParam) (total : ℕ) → AreParams params → length params < MOST_PARAMETERS → IsNextParam total (names_of_params params) p → AreParams (params ++ p ∷ [])
   more_params params p total are few next = record {
@@ -64,55 +61,36 @@ module _ (bytes : List ℕ) (fits : IsBytes bytes) where
       → param_at (length bytes) v (names_of_params params) rest ≡ Ok y → StandsAt bytes (in_params v count (params ++ y.0 ∷ [])) y.1
   stands_param v count params rest y stands more e =
       let t = param_takes (length bytes) v (names_of_params params) rest y (rest_bytes (in_params v count params) rest stands) e in
-      let sound = stands.sound in
-      let few : count ≤ MOST_PARAMETERS = sound.0.few in
       further (in_params v count params) (in_params v count (params ++ y.0 ∷ [])) (param_bytes v y.0) rest y.1 stands t.0
-      (inner (head_bytes v) (params_part v count params) (param_bytes v y.0) (params_part v count (params ++ y.0 ∷ []))
-      (inner (spelled v w16 count) (flat_map (param_bytes v) params) (param_bytes v y.0) (flat_map (param_bytes v) (params ++ y.0 ∷ [])) (grown (param_bytes v) params y.0)))
-      (record { few = few; within = omega (arith, length-append params (y.0 ∷ [])) }, more_params params y.0 (length bytes) sound.1 (omega arith) t.1)
+      (inner (head_bytes v) (params_part v count params) (param_bytes v y.0) _ (inner (spelled v w16 count) (flat_map (param_bytes v) params) (param_bytes v y.0) _ (grown (param_bytes v) params y.0)))
+      (record { few = stands.sound.0.few; within = omega (arith, length-append params (y.0 ∷ [])) }, more_params params y.0 (length bytes) stands.sound.1 (omega arith) t.1)
 
   pub stands_node_count : (v : Version) (params : List PackParam) (rest : List ℕ) (y : ℕ × List ℕ) → StandsAt bytes (in_params v (length params) params) rest → node_count_at (length bytes) v rest ≡ Ok y
       → StandsAt bytes (in_nodes v params y.0 []) y.1
   stands_node_count v params rest y stands e =
       let t = count_takes (length bytes) w32 4294967296 wide32 v MOST_PACK_NODES (refused.BadNode (offset (length bytes) rest)) rest y (rest_bytes (in_params v (length params) params) rest stands) e in
-      further (in_params v (length params) params) (in_nodes v params y.0 []) (spelled v w32 y.0) rest y.1 stands t.0
-      (inner (head_bytes v) (params_part v (length params) params) (spelled v w32 y.0) (params_part v (length params) params ++ nodes_part v (1 + length params) y.0 [])
-      (ap (λ (s : List ℕ). params_part v (length params) params ++ s) (sym (append-nil (spelled v w32 y.0)))))
-      (record { few = t.1; within = omega arith }, (stands.sound.1, record { few = omega arith; normal = record { each = λ i p h. absurd (none_there i p h); once = λ i j p h k. absurd (none_there i p h) } }))
+      grind (arith, further, inner, append-nil, none_there)
 
   pub stands_node : (v : Version) (params : List PackParam) (count : ℕ) (pairs : List Pair) (rest : List ℕ) (y : Pair × List ℕ) → StandsAt bytes (in_nodes v params count pairs) rest → length pairs < count
       → node_at (length bytes) v (1 + length params + length pairs) pairs rest ≡ Ok y → StandsAt bytes (in_nodes v params count (pairs ++ y.0 ∷ [])) y.1
   stands_node v params count pairs rest y stands more e =
-      let node : ℕ = 1 + length params + length pairs in
-      let t = node_takes (length bytes) v node pairs rest y (rest_bytes (in_nodes v params count pairs) rest stands) e in
+      let t = node_takes (length bytes) v _ pairs rest y (rest_bytes (in_nodes v params count pairs) rest stands) e in
       let sound = stands.sound in
-      let few : count ≤ MOST_PACK_NODES = sound.0.few in
-      let P : List ℕ = params_part v (length params) params in
-      let old : List ℕ = nodes_part v (1 + length params) count pairs in
-      let new : List ℕ = nodes_part v (1 + length params) count (pairs ++ y.0 ∷ []) in
-      further (in_nodes v params count pairs) (in_nodes v params count (pairs ++ y.0 ∷ [])) (node_bytes v node y.0) rest y.1 stands t.0
-      (inner (head_bytes v) (P ++ old) (node_bytes v node y.0) (P ++ new) (inner P old (node_bytes v node y.0) new
-      (inner (spelled v w32 count) (nodes_bytes v (1 + length params) pairs) (node_bytes v node y.0) (nodes_bytes v (1 + length params) (pairs ++ y.0 ∷ [])) (grown_nodes v (1 + length params) pairs y.0)))) (
-        record { few = few; within = omega (arith, length-append pairs (y.0 ∷ [])) },
-        (
-          sound.1.0,
-          record {
-            few = omega (arith, length-append pairs (y.0 ∷ []));
-            normal = AreNormal-push (1 + length params) pairs y.0 sound.1.1.normal (position_none (is_pair y.0.x.0 y.0.y.0) pairs t.1.new) t.1.normal;
-          },
-        ),
-      )
+      let nodes : AreNodes params (pairs ++ y.0 ∷ []) = record {
+        few = omega (arith, length-append pairs (y.0 ∷ []));
+        normal = AreNormal-push (1 + length params) pairs y.0 sound.1.1.normal (position_none (is_pair y.0.x.0 y.0.y.0) pairs t.1.new) t.1.normal;
+      } in
+      further (in_nodes v params count pairs) (in_nodes v params count (pairs ++ y.0 ∷ [])) (node_bytes v _ y.0) rest y.1 stands t.0
+      (inner (head_bytes v) (_ ++ nodes_part v (1 + length params) count pairs) (node_bytes v _ y.0) _ (inner _ (nodes_part v (1 + length params) count pairs) (node_bytes v _ y.0) _
+      (inner (spelled v w32 count) (nodes_bytes v (1 + length params) pairs) (node_bytes v _ y.0) _ (grown_nodes v (1 + length params) pairs y.0))))
+      (record { few = sound.0.few; within = omega (arith, length-append pairs (y.0 ∷ [])) }, (sound.1.0, nodes))
 
   pub stands_bit_count : (v : Version) (params : List PackParam) (pairs : List Pair) (rest : List ℕ) (y : ℕ × List ℕ) → StandsAt bytes (in_nodes v params (length pairs) pairs) rest → bit_count_at (length bytes) v rest ≡ Ok y
       → StandsAt bytes (in_bits v params pairs y.0 []) y.1
   stands_bit_count v params pairs rest y stands e =
       let t = count_takes (length bytes) w32 4294967296 wide32 v MOST_PACK_BITS (refused.BadBit (offset (length bytes) rest)) rest y (rest_bytes (in_nodes v params (length pairs) pairs) rest stands) e in
-      let P : List ℕ = params_part v (length params) params in
       let N : List ℕ = nodes_part v (1 + length params) (length pairs) pairs in
-      let C : List ℕ = spelled v w32 y.0 in
-      further (in_nodes v params (length pairs) pairs) (in_bits v params pairs y.0 []) C rest y.1 stands t.0
-      (inner (head_bytes v) (P ++ N) C (P ++ (N ++ bits_part v y.0 [])) (inner P N C (N ++ bits_part v y.0 []) (ap (λ (s : List ℕ). N ++ s) (sym (append-nil C)))))
-      (record { few = t.1; within = omega arith }, (stands.sound.1.0, (stands.sound.1.1, record { few = omega arith; below = λ l i. absurd i })))
+      grind (arith, further, inner, append-nil)
 
   pub stands_bit : (v : Version) (params : List PackParam) (pairs : List Pair) (count : ℕ) (bits : List Lit) (rest : List ℕ) (y : Lit × List ℕ) → StandsAt bytes (in_bits v params pairs count bits) rest → length bits < count
       → bit_at (length bytes) v (1 + length params + length pairs) rest ≡ Ok y → StandsAt bytes (in_bits v params pairs count (bits ++ y.0 ∷ [])) y.1
@@ -120,70 +98,14 @@ module _ (bytes : List ℕ) (fits : IsBytes bytes) where
       let nodes : ℕ = 1 + length params + length pairs in
       let t = bit_takes (length bytes) v nodes rest y (rest_bytes (in_bits v params pairs count bits) rest stands) e in
       let sound = stands.sound in
-      let few : count ≤ MOST_PACK_BITS = sound.0.few in
-      let P : List ℕ = params_part v (length params) params in
-      let N : List ℕ = nodes_part v (1 + length params) (length pairs) pairs in
-      let old : List ℕ = bits_part v count bits in
-      let new : List ℕ = bits_part v count (bits ++ y.0 ∷ []) in
-      let c : List ℕ = bit_bytes v y.0 in
-      further (in_bits v params pairs count bits) (in_bits v params pairs count (bits ++ y.0 ∷ [])) c rest y.1 stands t.0
-      (inner (head_bytes v) (P ++ (N ++ old)) c (P ++ (N ++ new)) (inner P (N ++ old) c (N ++ new) (inner N old c new
-      (inner (spelled v w32 count) (flat_map (bit_bytes v) bits) c (flat_map (bit_bytes v) (bits ++ y.0 ∷ [])) (grown (bit_bytes v) bits y.0))))) (
-        record { few = few; within = omega (arith, length-append bits (y.0 ∷ [])) },
-        (
-          sound.1.0,
-          (
-            sound.1.1.0,
-            record {
-              few = omega (arith, length-append bits (y.0 ∷ []));
-              below = λ l i. elim (In-push bits y.0 l i) [ inl old ↦ sound.1.1.1.below l old | inr new ↦ subst (λ (m : Lit). m.0 < 2 * nodes) (sym new) t.1 ];
-            },
-          ),
-        ),
-      )
-
-  -- ---- the field that comes next is refused
-
-  refused_there : (f : Front) (rest : List ℕ) (e : PackErr) → StandsAt bytes f rest → next_at (length bytes) f rest ≡ Some (Err e) → IsPackFault bytes e
-  refused_there f rest e stands is = record { front = f; rest = rest; spelled = stands.spelled; sound = stands.sound; refused = is }
-
-  into : {A : Type 0} (more : A → Front) (field : Field A) (e : PackErr) → field ≡ Err e → Some (read_into more field) ≡ Some (Err e)
-  into {A = A} more field e is = ap (λ (f : Field A). Some (read_into more f)) is
-
-  pub no_magic : (e : PackErr) → magic_at (length bytes) bytes ≡ Err e → IsPackFault bytes e
-  no_magic e is = refused_there nothing bytes e (record { spelled = refl; sound = tt }) (into (λ letters. lettered) (magic_at (length bytes) bytes) e is)
+      let are : AreBits nodes (bits ++ y.0 ∷ []) = record {
+        few = omega (arith, length-append bits (y.0 ∷ []));
+        below = λ l i. elim (In-push bits y.0 l i) [ inl old ↦ sound.1.1.1.below l old | inr new ↦ subst (λ (m : Lit). m.0 < 2 * nodes) (sym new) t.1 ];
+      } in
+      further (in_bits v params pairs count bits) (in_bits v params pairs count (bits ++ y.0 ∷ [])) (bit_bytes v y.0) rest y.1 stands t.0
+      (inner (head_bytes v) (_ ++ (_ ++ bits_part v count bits)) (bit_bytes v y.0) _ (inner _ (_ ++ bits_part v count bits) (bit_bytes v y.0) _ (inner _ (bits_part v count bits) (bit_bytes v y.0) _
+      (inner (spelled v w32 count) (flat_map (bit_bytes v) bits) (bit_bytes v y.0) _ (grown (bit_bytes v) bits y.0)))))
+      (record { few = sound.0.few; within = omega (arith, length-append bits (y.0 ∷ [])) }, (sound.1.0, (sound.1.1.0, are)))
 
   pub no_version : (rest : List ℕ) (e : PackErr) → StandsAt bytes lettered rest → version_at (length bytes) rest ≡ Err e → IsPackFault bytes e
-  no_version rest e stands is = refused_there lettered rest e stands (into versioned (version_at (length bytes) rest) e is)
-
-  pub no_param_count : (v : Version) (rest : List ℕ) (e : PackErr) → StandsAt bytes (versioned v) rest → param_count_at (length bytes) v rest ≡ Err e → IsPackFault bytes e
-  no_param_count v rest e stands is = refused_there (versioned v) rest e stands (into (λ n. in_params v n []) (param_count_at (length bytes) v rest) e is)
-
-  pub no_param : (v : Version) (count : ℕ) (params : List PackParam) (rest : List ℕ) (e : PackErr) → StandsAt bytes (in_params v count params) rest → length params < count
-      → param_at (length bytes) v (names_of_params params) rest ≡ Err e → IsPackFault bytes e
-  no_param v count params rest e stands more is =
-      refused_there (in_params v count params) rest e stands (rw (lt-ltb (length params) count more) (into (λ p. in_params v count (params ++ p ∷ [])) (param_at (length bytes) v (names_of_params params) rest) e is))
-
-  pub no_node_count : (v : Version) (params : List PackParam) (rest : List ℕ) (e : PackErr) → StandsAt bytes (in_params v (length params) params) rest → node_count_at (length bytes) v rest ≡ Err e → IsPackFault bytes e
-  no_node_count v params rest e stands is =
-      refused_there (in_params v (length params) params) rest e stands (rw (le-ltb (length params) (length params) (omega arith)) (into (λ n. in_nodes v params n []) (node_count_at (length bytes) v rest) e is))
-
-  pub no_node : (v : Version) (params : List PackParam) (count : ℕ) (pairs : List Pair) (rest : List ℕ) (e : PackErr) → StandsAt bytes (in_nodes v params count pairs) rest → length pairs < count
-      → node_at (length bytes) v (1 + length params + length pairs) pairs rest ≡ Err e → IsPackFault bytes e
-  no_node v params count pairs rest e stands more is =
-      refused_there (in_nodes v params count pairs) rest e stands
-      (rw (lt-ltb (length pairs) count more) (into (λ p. in_nodes v params count (pairs ++ p ∷ [])) (node_at (length bytes) v (1 + length params + length pairs) pairs rest) e is))
-
-  pub no_bit_count : (v : Version) (params : List PackParam) (pairs : List Pair) (rest : List ℕ) (e : PackErr) → StandsAt bytes (in_nodes v params (length pairs) pairs) rest → bit_count_at (length bytes) v rest ≡ Err e → IsPackFault bytes e
-  no_bit_count v params pairs rest e stands is =
-      refused_there (in_nodes v params (length pairs) pairs) rest e stands (rw (le-ltb (length pairs) (length pairs) (omega arith)) (into (λ n. in_bits v params pairs n []) (bit_count_at (length bytes) v rest) e is))
-
-  pub no_bit : (v : Version) (params : List PackParam) (pairs : List Pair) (count : ℕ) (bits : List Lit) (rest : List ℕ) (e : PackErr) → StandsAt bytes (in_bits v params pairs count bits) rest → length bits < count
-      → bit_at (length bytes) v (1 + length params + length pairs) rest ≡ Err e → IsPackFault bytes e
-  no_bit v params pairs count bits rest e stands more is =
-      refused_there (in_bits v params pairs count bits) rest e stands
-      (rw (lt-ltb (length bits) count more) (into (λ l. in_bits v params pairs count (bits ++ l ∷ [])) (bit_at (length bytes) v (1 + length params + length pairs) rest) e is))
-
-  pub no_end : (v : Version) (params : List PackParam) (pairs : List Pair) (bits : List Lit) (b : ℕ) (rest : List ℕ) → StandsAt bytes (in_bits v params pairs (length bits) bits) (b ∷ rest) → IsPackFault bytes (refused.Trailing (offset (length bytes) (b ∷ rest)))
-  no_end v params pairs bits b rest stands =
-      refused_there (in_bits v params pairs (length bits) bits) (b ∷ rest) (refused.Trailing (offset (length bytes) (b ∷ rest))) stands (rw (le-ltb (length bits) (length bits) (omega arith)) refl)
+  no_version rest e stands is = field_refused bytes lettered rest versioned (version_at (length bytes) rest) e stands is refl

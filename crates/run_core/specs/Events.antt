@@ -1,5 +1,5 @@
 -- The script machine: the host's part, which has the parameters' values and the configuration, and the circuit of LUTs that the clock plays under this configuration. Each event gives a new state and its writes.
-use Rattle.std.specs.Prelude.{◌≡◌, ℕ, Bool, List, [], ◌∷◌, ◌<◌, length}
+use Rattle.std.specs.Prelude.{◌≡◌, ℕ, Bool, List, [], ◌<◌, length}
 use Rattle.ppc_pack.specs.Pack.{IsConf, PackValue}
 use Rattle.run_text.specs.EventValue.{EventValue, Set, Cycle, Upset, Scrub, Image}
 use Rattle.lut_sim.specs.Cycle.{IsTableCycle, IsOnlyTableCycle}

@@ -81,15 +81,12 @@ AreMarked-idle pack now point idle = record {
   from = λ n h. absurd (false≢true (sym (no_node n) ∙ h));
   stale = λ n h. absurd (false≢true (sym (no_node n) ∙ h));
   all_stale = λ n l s. absurd (false≢true (sym (untouched now.values s.pair) ∙ s.touched));
-  moved = λ a h. absurd (false≢true (sym (no_address a) ∙ h));
+  moved = λ a h. absurd (false≢true (sym (ap (λ ms. is_marked ms a) idle.addresses ∙ none_marked (length pack.bits) a) ∙ h));
   all_moved = λ a m. absurd (false≢true (sym (xor-same (node_value now.values (m.lit.0 / 2)) _ refl) ∙ m.changed));
 }
   where
     no_node : (n : ℕ) → is_marked now.nodes n ≡ false
     no_node n = ap (λ ms. is_marked ms n) idle.nodes ∙ none_marked (node_count pack.graph) n
-
-    no_address : (a : ℕ) → is_marked now.addresses a ≡ false
-    no_address a = ap (λ ms. is_marked ms a) idle.addresses ∙ none_marked (length pack.bits) a
 
 -- a sweep begins
 module _ (pack : PackValue) (readers : ReadersValue) (now : Progress) (assigns : List Assign) (new : List Bool) (start : ℕ)

@@ -26,9 +26,8 @@ pub use Rattle.tl_io.specs.Assigns.{AreAssigned, assigned}
 pub use Rattle.tl_io.specs.Writes.{written, AreAscending, AreBitsOf, address_of}
 pub use Rattle.tl_io.specs.declared.Assign.{Assign}
 pub use Rattle.tl_io.specs.declared.Write.{Write}
-pub use Rattle.spec_core.specs.Device.{DeviceValue, IsSent, writes_where}
+pub use Rattle.spec_core.specs.Keeps.{DeviceValue, IsSent, writes_where, params_in, IsIdle, IsChange, Keeps}
 pub use Rattle.spec_core.specs.Differences.{config_bit, differs_at, write_of, differences}
 pub use Rattle.spec_core.specs.Events.{IsSet, HostState, IsUpset, IsScrub}
-pub use Rattle.spec_core.specs.Keeps.{params_in, IsIdle, IsChange, Keeps}
 pub use Rattle.spec_core.specs.Sweep.{Progress, Belong, stored, with_assigned, AreMarked, IsSweeping, EvaluationValue, bits_under, IsSwept, with_marks, IsStale, product_of, IsMoved}
 pub use Rattle.spec_core.specs.Touched.{is_changed, is_touched, touched}

@@ -2,8 +2,8 @@
 use Rattle.spec_core.proofs.Common.{◌≡◌, ℕ, ◌≤◌, Bool, false, List, [], length, replicate, refl, sym, ap, ◌∙◌, subst, length-map, Assign, AreAscending, AreBitsOf, written, first_and, node_count, AreNormal, FitsGraph, one_fit, PackValue, IsPack, IsConf, HasOneConf, inits_of, has_one_conf, kinds_count, is_marked, differs_at, IsSet, IsScrub, Progress, EvaluationValue, bits_under, DeviceValue, IsSent, params_in, IsIdle, IsChange, Keeps, length-written}
 use Rattle.ppc_pack.specs.declared.pack.TheConstants.{MOST_PACK_BITS}
 use Rattle.ppc_pack.specs.declared.pack.PackParam.{PackParam}
-use Rattle.spec_core.proofs.WriteLemmas.{writes_ascend, writes_are_bits, written_differences}
-use Rattle.spec_core.proofs.ChangeLemmas.{params_fit, length-bits_under, idle_conf, change_set, change_steady}
+use Rattle.spec_core.proofs.StoreLemmas.{writes_ascend, writes_are_bits, written_differences}
+use Rattle.spec_core.proofs.SweepLemmas.{params_fit, length-bits_under, idle_conf, change_set, change_steady}
 
 -- the parameters' values at the start
 pub start_params : (pack : PackValue) (values : List Bool) → FitsGraph pack.graph (inits_of pack.params) values → params_in pack values ≡ inits_of pack.params

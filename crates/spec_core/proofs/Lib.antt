@@ -1,10 +1,8 @@
 mod Common
 pub mod MarkLemmas
-mod StoreLemmas
+pub mod StoreLemmas
 mod LeastLemmas
 mod SweepLemmas
 pub mod AssignLemmas
-pub mod WriteLemmas
-mod ChangeLemmas
 mod KeepLemmas
 mod EventsExample

@@ -1,5 +1,5 @@
 -- Where two configurations differ, as the writes that make the second of the first.
-use Rattle.std.specs.Prelude.{ℕ, Bool, false, List, length, map, slice_index_or}
+use Rattle.std.specs.Prelude.{ℕ, Bool, List, length, map}
 use Rattle.std.specs.List.{filter, range_with_len}
 use Rattle.tl_io.specs.declared.Write.{Write}
 use Rattle.aig_core.specs.Value.{xor}

@@ -1,14 +1,33 @@
 -- What a specialiser keeps between events.
-use Rattle.std.specs.Prelude.{◌≡◌, ℕ, ◌≤◌, Bool, false, List, length, take, drop, replicate}
+use Rattle.std.specs.Prelude.{◌≡◌, ℕ, ◌≤◌, Bool, false, List, length, take, drop, replicate, [], ◌∷◌, ◌++◌, map, slice_set}
 use Rattle.tl_io.specs.declared.Assign.{Assign}
 use Rattle.tl_io.specs.Assigns.{assigned}
-use Rattle.tl_io.specs.Writes.{AreAscending, AreBitsOf}
+use Rattle.tl_io.specs.Writes.{AreAscending, AreBitsOf, written}
 use Rattle.aig_core.specs.Aig.{first_and, node_count, AreNormal}
 use Rattle.aig_core.specs.Value.{FitsGraph}
 use Rattle.ppc_pack.specs.declared.pack.TheConstants.{MOST_PACK_BITS}
 use Rattle.ppc_pack.specs.Pack.{PackValue}
-use Rattle.spec_core.specs.Device.{DeviceValue}
 use Rattle.spec_core.specs.Sweep.{EvaluationValue, Progress, IsSwept}
+use Rattle.std.specs.List.{filter, range_with_len}
+use Rattle.tl_io.specs.declared.Write.{Write}
+use Rattle.spec_core.specs.Differences.{write_of}
+
+pub record DeviceValue : Type 0 where
+  pub config : List Bool
+  pub writes : List Write
+
+-- one more write
+abbrev pub with_write : DeviceValue → ℕ → Bool → DeviceValue
+with_write device address bit = record { config = slice_set device.config address bit; writes = device.writes ++ record { address = address; bit = bit } ∷ [] }
+
+-- the bits of a configuration at the addresses that pass a test, ascending
+abbrev pub writes_where : (ℕ → Bool) → List Bool → List Write
+writes_where test to = map (write_of to) (filter test (range_with_len 0 (length to)))
+
+-- the writes are the bits of a configuration at the addresses that pass a test, and were sent
+pub record IsSent (test : ℕ → Bool) (to : List Bool) (old new : DeviceValue) : Type 0 where
+  pub writes : new.writes ≡ writes_where test to
+  pub config : new.config ≡ written old.config new.writes
 
 -- the values of the parameters among those of all nodes: behind that of the constant
 abbrev pub params_in : PackValue → List Bool → List Bool

@@ -5,5 +5,4 @@ pub mod Touched
 pub mod Specialiser
 -- What only bodies are compared with.
 pub mod Sweep
-pub mod Device
 pub mod Keeps

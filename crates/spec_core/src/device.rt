@@ -3,7 +3,7 @@ ghost use Rattle.std.specs.Prelude.{◌≡◌, ◌<◌, ◌≤◌, [], length, r
 ghost use Rattle.dirty_idx.specs.Marks.{is_marked};
 ghost use Rattle.spec_core.specs.Differences.{config_bit, differs_at};
 ghost use Rattle.spec_core.specs.Sweep.{bits_under};
-ghost use Rattle.spec_core.specs.Device.{with_write, IsSent};
+ghost use Rattle.spec_core.specs.Keeps.{with_write, IsSent};
 
 use crate::evaluation::Evaluation;
 use std::alloc::{AllocError, Global};
@@ -19,7 +19,7 @@ pub(crate) struct Device {
 
 impl Model for Device {
     ghost use Rattle.std.specs.Prelude.{◌≤◌, length, vec_capacity};
-    ghost use Rattle.spec_core.specs.Device.{DeviceValue};
+    ghost use Rattle.spec_core.specs.Keeps.{DeviceValue};
 
     ghost Value = { DeviceValue };
 

@@ -7,7 +7,6 @@ use denote.Laws.{Is}
 use denote.Shadow.{makes_shadow}
 use Rattle.tlut_host.specs.contracts.held.Held as held
 
--- a parameter's place in a signature
 abbrev pub slot_at : {n : ℕ} → ℕ → List (Slot n) → Slot n
 slot_at k [] = plain (λ _. unit)
 slot_at zero (s ∷ ss) = s

@@ -18,7 +18,6 @@ pacing_of s b sim rate luts depth keeps = record { right = keeps.right; one = ke
 abbrev pub seen : SpecialiserValue → BacklogValue → ℕ → PacedValue
 seen s b rate = record { pack = s.pack; params = s.state.params; config = b.config; writes = b.writes; rate = rate; looks = s.reads + b.looks }
 
--- values are requested
 pub asked : (assigns : List Assign) (s : SpecialiserValue) (b : BacklogValue) (new : SpecialiserValue) (after : BacklogValue) (rate waiting : ℕ) → IsPacing s b → IsRequest assigns s b new after → waiting ≡ after.waiting
     → IsAsk assigns (seen s b rate) (seen new after rate) waiting
 asked assigns s b new after rate waiting pacing request count =
@@ -48,7 +47,6 @@ none_differs s b pacing e =
 some_differ : (s : SpecialiserValue) (b : BacklogValue) → IsPacing s b → eqb b.waiting 0 ≡ false → 0 < length (differences b.config s.state.config)
 some_differ s b pacing e = (let w : b.waiting ≡ length (differences b.config s.state.config) = pacing.behind.waiting in let n = eqb-false b.waiting 0 e in omega (arith, w, n))
 
--- the clock ticks
 pub ticked : (s : SpecialiserValue) (b after : BacklogValue) (rate : ℕ) (is_right : Bool) → IsPacing s b → IsCatchUp rate s.state.config b after → is_right ≡ eqb b.waiting 0
     → IsTick (seen s b rate) (seen s after rate) is_right
 ticked s b after rate is_right pacing caught is = record {

@@ -1,5 +1,5 @@
-use Rattle.std.proofs.Common.{◌≡◌, ◌^◌, ◌≤◌, length, ap, ◌∙◌, arith}
-use Rattle.dirty_idx.proofs.ReaderLemmas.{length-bit_readings}
+use Rattle.std.proofs.Common.{length, ap, ◌∙◌, arith}
+use Rattle.dirty_idx.proofs.ReadLemmas.{length-bit_readings}
 use Rattle.dirty_idx.proofs.readers.address_lists.Goals as goal
 
 pub make-requires-clause-few : goal.make-requires-clause-few

@@ -1,5 +1,5 @@
 use Rattle.std.proofs.Common.{arith}
-use Rattle.dirty_idx.proofs.ReaderLemmas.{nodes_more}
+use Rattle.dirty_idx.proofs.ReadLemmas.{nodes_more}
 use Rattle.dirty_idx.proofs.readers.node_readings_with.Goals as goal
 
 pub loop-n-preserved : goal.loop-n-preserved

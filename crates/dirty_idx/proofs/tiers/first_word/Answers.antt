@@ -1,7 +1,7 @@
 use Rattle.std.proofs.Common.{◌<◌, get_or, arith}
 use Rattle.std.proofs.lemmas.Nat.{trailing_le}
 use Rattle.dirty_idx.specs.Layers.{upper_words}
-use Rattle.dirty_idx.proofs.FirstLemmas.{first_start, first_down, upper_within}
+use Rattle.dirty_idx.proofs.LayerLemmas.{first_start, first_down, upper_within}
 use Rattle.dirty_idx.proofs.tiers.first_word.Goals as goal
 
 pub loop-layer-init : goal.loop-layer-init

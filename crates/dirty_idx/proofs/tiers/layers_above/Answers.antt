@@ -1,6 +1,6 @@
 use Rattle.std.proofs.Common.{◌+◌, ◌*◌, sym, ap, ◌∙◌, arith}
 use Rattle.dirty_idx.specs.Layers.{upper_words}
-use Rattle.dirty_idx.proofs.FirstLemmas.{upper_more}
+use Rattle.dirty_idx.proofs.LayerLemmas.{upper_more}
 use Rattle.dirty_idx.proofs.tiers.layers_above.Goals as goal
 
 pub loop-base-init : goal.loop-base-init

@@ -1,4 +1,4 @@
-use Rattle.ppc_file.proofs.Common.{◌≡◌, ℕ, List, length, replicate, ap, ◌∙◌, sym, subst, arith, eqb-true, Aig, Parameter, PackParam, Trailing, in_bits, IsPackFile, IsPackFault, StandsAt, nil_from_length}
+use Rattle.ppc_file.proofs.Common.{◌≡◌, ℕ, List, length, replicate, ap, ◌∙◌, sym, subst, eqb-true, Aig, Parameter, PackParam, Trailing, in_bits, IsPackFile, IsPackFault, StandsAt, nil_from_length}
 use Rattle.ppc_file.proofs.ReadLemmas.{is_pack, is_file, trailing}
 use Rattle.ppc_file.proofs.NumberLemmas.{not_zero}
 use Rattle.ppc_file.proofs.decoder.decode.Goals as goal
@@ -16,7 +16,7 @@ pub returns-then-not-is_empty-clause-fault : goal.returns-then-not-is_empty-clau
 returns-then-not-is_empty-clause-fault c =
     let rest = c.in_ok-bits.rest.now in
     subst (λ (at : ℕ). IsPackFault c.args.bytes.now (Trailing at)) (sym c.offset.ensures)
-    (trailing c.args.bytes.now (λ i. omega (arith, c.type_inv.bytes i)) c.in_ok-version.version c.deref-2.result.now c.in_ok-graph.graph.pairs c.in_ok-bits.bits.items rest c.in_ok-bits.ensures.stands
+    (trailing c.args.bytes.now c.in_ok-version.version c.deref-2.result.now c.in_ok-graph.graph.pairs c.in_ok-bits.bits.items rest c.in_ok-bits.ensures.stands
     (not_zero (length rest) (sym c.is_empty.ensures ∙ c.if-not-is_empty.true)))
 
 pub returns-clause-ok : goal.returns-clause-ok

@@ -1,5 +1,5 @@
-use Rattle.ppc_file.proofs.Common.{◌≡◌, ◌<◌, ◌+◌, ℕ, length, ap, ◌∙◌, arith, length-append, [], ◌∷◌}
-use Rattle.ppc_file.proofs.ReadLemmas.{refused_on, bit_read, bit_refused, all_bits}
+use Rattle.ppc_file.proofs.Common.{◌≡◌, ◌<◌, ◌+◌, ℕ, length, ap, ◌∙◌, arith, length-append, [], ◌∷◌, in_bits}
+use Rattle.ppc_file.proofs.ReadLemmas.{refused_on, bit_read, bit_refused, all_read}
 use Rattle.ppc_file.proofs.read_bits.read_each.Goals as goal
 
 pub returns-in_err-literal-clause-fault : goal.returns-in_err-literal-clause-fault
@@ -20,4 +20,4 @@ loop-preserved c =
     }
 
 pub returns-clause-stands : goal.returns-clause-stands
-returns-clause-stands c = all_bits c.args.file.now c.args.version c.args.params.now c.args.graph.now.pairs c.args.count c.loop.counter c.loop.bits.items c.loop.rest.now c.loop.invariant.stands c.loop.invariant.count (omega (arith, c.loop-test.false))
+returns-clause-stands c = all_read c.args.file.now (λ n. in_bits c.args.version c.args.params.now c.args.graph.now.pairs n c.loop.bits.items) c.args.count _ c.loop.counter c.loop.rest.now c.loop.invariant.stands c.loop.invariant.stands.sound.0.within c.loop.invariant.count (omega (arith, c.loop-test.false))

@@ -1,6 +1,6 @@
-use Rattle.ppc_file.proofs.Common.{◌≡◌, ◌<◌, ◌≤◌, List, [], ◌∷◌, ◌++◌, Err, length, replicate, ap, ◌∙◌, sym, arith, length-append, length-replicate, passed_on, OrMemory, Aig, node_count, with_pairs, Parameter, Pair, PackParam, MOST_PACK_NODES, node_at, IsPackFault, refusal_of}
+use Rattle.ppc_file.proofs.Common.{◌≡◌, ◌<◌, ◌≤◌, List, [], ◌∷◌, ◌++◌, Err, length, replicate, ap, ◌∙◌, sym, arith, length-append, length-replicate, passed_on, OrMemory, Aig, node_count, with_pairs, Parameter, Pair, PackParam, MOST_PACK_NODES, node_at, IsPackFault, refusal_of, in_nodes}
 use Rattle.tl_fault.proofs.OrMemoryLemmas.{OrMemory-map}
-use Rattle.ppc_file.proofs.ReadLemmas.{node_read, no_next_node}
+use Rattle.ppc_file.proofs.ReadLemmas.{node_read, no_next_node, all_read}
 use Rattle.ppc_file.proofs.read_nodes.read_each.Goals as goal
 
 -- the graph over some parameters with these nodes
@@ -17,8 +17,7 @@ read_node-requires-clause-few c =
 pub read_node-requires-clause-room : goal.read_node-requires-clause-room
 read_node-requires-clause-room c =
     let most : c.loop.graph.max ≡ MOST_PACK_NODES = ap (λ (g : Aig). g.max) c.loop.invariant.graph in
-    let count : c.args.count ≤ MOST_PACK_NODES = c.loop.invariant.stands.sound.0.few in
-    omega (arith, c.loop.invariant.count, c.loop-test.true)
+    omega (arith, c.loop.invariant.stands.sound.0.few, c.loop.invariant.count, c.loop-test.true)
 
 pub returns-in_err-_pair-clause-fault : goal.returns-in_err-_pair-clause-fault
 returns-in_err-_pair-clause-fault c =
@@ -42,3 +41,6 @@ loop-preserved c =
       graph = c.in_ok-_pair.ensures.graph ∙ ap (λ (h : Aig). with_pairs h (g.pairs ++ p ∷ [])) c.loop.invariant.graph ∙ ap (graph_with c.args.params.now) (sym pairs);
       count = ap length pairs ∙ omega (arith, c.loop.invariant.count, length-append g.pairs (p ∷ []));
     }
+
+pub returns-clause-stands : goal.returns-clause-stands
+returns-clause-stands c = all_read c.args.file.now (λ n. in_nodes c.args.version c.args.params.now n c.loop.graph.pairs) c.args.count _ c.loop.counter c.loop.rest.now c.loop.invariant.stands c.loop.invariant.stands.sound.0.within c.loop.invariant.count (omega (arith, c.loop-test.false))

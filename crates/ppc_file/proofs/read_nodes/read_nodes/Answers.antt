@@ -1,6 +1,6 @@
-use Rattle.ppc_file.proofs.Common.{arith}
+use Rattle.ppc_file.proofs.Common.{arith, in_params, in_nodes, refl, [], le-ltb, length}
 use Rattle.ppc_file.proofs.ReadLemmas.{refused_on}
-use Rattle.ppc_file.proofs.StandLemmas.{stands_node_count, no_node_count}
+use Rattle.ppc_file.proofs.StandLemmas.{stands_node_count, field_refused}
 use Rattle.ppc_file.proofs.read_nodes.read_nodes.Goals as goal
 
 pub graph_over-requires : goal.graph_over-requires
@@ -11,4 +11,5 @@ read_each-requires-clause-stands c = stands_node_count c.args.file.now (λ i. om
 
 pub returns-in_err-count-clause-fault : goal.returns-in_err-count-clause-fault
 returns-in_err-count-clause-fault c = refused_on c.args.file.now c.from_residual.result c.in_err-count.field-0.0 c.from_residual.ensures.1
-    (no_node_count c.args.file.now (λ i. omega (arith, c.type_inv.file i)) c.args.version c.args.params.now c.args.rest.now _ c.requires.stands c.in_err-count.ensures)
+    (field_refused c.args.file.now (in_params c.args.version (length c.args.params.now) c.args.params.now) c.args.rest.now (λ n. in_nodes c.args.version c.args.params.now n []) _ _ c.requires.stands c.in_err-count.ensures
+    (rw (le-ltb (length c.args.params.now) (length c.args.params.now) (omega arith)) refl))

@@ -1,5 +1,5 @@
-use Rattle.ppc_file.proofs.Common.{◌<◌, length, ap, ◌∙◌, arith, length-append, [], ◌∷◌, ◌++◌, List, ℕ, sym, map-append, PackParam, names_of_params}
-use Rattle.ppc_file.proofs.ReadLemmas.{refused_on, param_new, param_read, param_refused, all_params}
+use Rattle.ppc_file.proofs.Common.{◌<◌, length, ap, ◌∙◌, arith, length-append, [], ◌∷◌, ◌++◌, List, ℕ, sym, map-append, PackParam, names_of_params, in_params}
+use Rattle.ppc_file.proofs.ReadLemmas.{refused_on, param_new, param_read, param_refused, all_read}
 use Rattle.ppc_file.proofs.read_params.read_each.Goals as goal
 
 pub push_param-requires : goal.push_param-requires
@@ -27,4 +27,4 @@ loop-preserved c =
     }
 
 pub returns-clause-stands : goal.returns-clause-stands
-returns-clause-stands c = all_params c.args.file.now c.args.version c.args.count c.loop.counter c.loop.params.items c.loop.rest.now c.loop.invariant.stands c.loop.invariant.count (omega (arith, c.loop-test.false))
+returns-clause-stands c = all_read c.args.file.now (λ n. in_params c.args.version n c.loop.params.items) c.args.count _ c.loop.counter c.loop.rest.now c.loop.invariant.stands c.loop.invariant.stands.sound.0.within c.loop.invariant.count (omega (arith, c.loop-test.false))

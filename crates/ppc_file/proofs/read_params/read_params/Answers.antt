@@ -1,6 +1,6 @@
-use Rattle.ppc_file.proofs.Common.{arith}
+use Rattle.ppc_file.proofs.Common.{arith, versioned, in_params, refl, []}
 use Rattle.ppc_file.proofs.ReadLemmas.{refused_on}
-use Rattle.ppc_file.proofs.StandLemmas.{stands_param_count, no_param_count}
+use Rattle.ppc_file.proofs.StandLemmas.{stands_param_count, field_refused}
 use Rattle.ppc_file.proofs.read_params.read_params.Goals as goal
 
 pub read_each-requires-clause-stands : goal.read_each-requires-clause-stands
@@ -8,4 +8,4 @@ read_each-requires-clause-stands c = stands_param_count c.args.file.now (λ i. o
 
 pub returns-in_err-count-clause-fault : goal.returns-in_err-count-clause-fault
 returns-in_err-count-clause-fault c = refused_on c.args.file.now c.from_residual.result c.in_err-count.field-0.0 c.from_residual.ensures.1
-    (no_param_count c.args.file.now (λ i. omega (arith, c.type_inv.file i)) c.args.version c.args.rest.now _ c.requires.stands c.in_err-count.ensures)
+    (field_refused c.args.file.now (versioned c.args.version) c.args.rest.now (λ n. in_params c.args.version n []) _ _ c.requires.stands c.in_err-count.ensures refl)

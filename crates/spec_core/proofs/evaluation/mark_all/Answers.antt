@@ -1,4 +1,4 @@
-use Rattle.spec_core.proofs.Common.{◌<◌, length, get_or, arith, In-get_or}
+use Rattle.spec_core.proofs.Common.{arith, In-get_or}
 use Rattle.spec_core.proofs.evaluation.mark_all.Goals as goal
 
 pub mark-requires : goal.mark-requires

@@ -2,7 +2,7 @@
 use Rattle.dirty_idx.proofs.Common.{◌+◌, [], ◌∷◌, refl, proved}
 use base.Fml.{ftrue, flft}
 use mir.Syntax.{named}
-use mir.Val.{Val, vunit}
+use mir.Val.{vunit}
 use contract.Running.{tables}
 use types.Kit.{‵, ◌⊛◌, ◌$◌, ◌∵◌, !, qed, done, move, keep, split, join, fsplit3, feq_i, suffices, frame, group}
 use types.Run.{enter, of_opd, unit_lit, returns}

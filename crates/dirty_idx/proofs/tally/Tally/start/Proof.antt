@@ -1,13 +1,12 @@
 -- A new number is 0.
-use Rattle.dirty_idx.proofs.Common.{List, [], ◌∷◌, refl, proved}
+use Rattle.dirty_idx.proofs.Common.{[], ◌∷◌, refl, proved}
 use seplogic.Ra.Ura.{Ura}
-use mir.Syntax.{Sym}
 use mir.Val.{Val, vstruct, vcons, vnil}
 use base.Logic.{ent, emp}
 use base.Fml.{ftrue}
 use types.Logic.{Logic, sem}
 use contract.Running.{tables}
-use types.Kit.{‵, raw, ◌⊛◌, ◌$◌, ◌∵◌, !, qed, done, keep, join, fjoin, suffices, frame, group, use0}
+use types.Kit.{‵, raw, ◌$◌, ◌∵◌, !, qed, done, keep, fjoin, suffices, group, use0}
 use types.Run.{enter, no_more, and_then, returns}
 use types.ByLocal.{alloc_all, pass_all, free_all, look_at, get, sets}
 use types.Part.{agg}

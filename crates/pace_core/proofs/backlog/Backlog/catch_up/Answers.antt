@@ -1,5 +1,5 @@
 use Rattle.pace_core.proofs.Common.{length, ap, arith, length-append, differences, BacklogValue}
-use Rattle.pace_core.proofs.BacklogLemmas.{catching_more}
+use Rattle.pace_core.proofs.StallLemmas.{catching_more}
 use Rattle.pace_core.proofs.DifferenceLemmas.{differences_few}
 use Rattle.pace_core.proofs.backlog.Backlog.catch_up.Goals as goal
 

@@ -1,6 +1,6 @@
 use Rattle.pace_core.proofs.Common.{◌≡◌, ◌<◌, ◌-◌, ◌++◌, [], ◌∷◌, length, sym, ap, subst, arith, length-set, BacklogValue, IsBehind, IsCaughtUp}
 use Rattle.late_device.specs.Late.{LateValue}
-use Rattle.pace_core.proofs.BacklogLemmas.{empty_waits, mark_sent}
+use Rattle.pace_core.proofs.StallLemmas.{empty_waits, mark_sent}
 use Rattle.pace_core.proofs.backlog.Backlog.catch_up_once.Goals as goal
 
 pub note-requires : goal.note-requires
@@ -21,24 +21,8 @@ returns-in-Some-clause-caught g c = λ wanted is.
     (subst (λ (d : LateValue). IsCaughtUp wanted b (record { config = d.config; marks = d.marks; waiting = b.waiting - 1; writes = b.writes ++ write ∷ []; looks = d.looks })) (sym c.in-Some.ensures.device)
     (mark_sent b wanted behind write.address c.in-Some.ensures.least write.bit c.in-Some.ensures.bit)))
 
-pub returns-in_default-clause-caught : goal.returns-in_default-clause-caught
-returns-in_default-clause-caught g c = λ wanted is.
-    let b : BacklogValue = record { config = c.self.inside.device.config; marks = c.self.inside.device.marks; waiting = c.self.inside.waiting; writes = c.self.inside.writes.items; looks = c.self.inside.device.looks } in
-    let behind : IsBehind b c.requires.late.wanted = subst (λ (v : BacklogValue). IsBehind v c.requires.late.wanted) (sym c.self.view_is) c.requires.late.behind in
-    let none : b.waiting ≡ 0 = empty_waits b c.requires.late.wanted behind c.in_default.ensures.least in
-    let seen : b.waiting ≡ c.args.self.now.waiting = ap (λ (v : BacklogValue). v.waiting) c.self.view_is in
-    absurd (omega (arith, c.requires.some))
-
-pub returns-in_default-clause-count : goal.returns-in_default-clause-count
-returns-in_default-clause-count g c =
-    let b : BacklogValue = record { config = c.self.inside.device.config; marks = c.self.inside.device.marks; waiting = c.self.inside.waiting; writes = c.self.inside.writes.items; looks = c.self.inside.device.looks } in
-    let behind : IsBehind b c.requires.late.wanted = subst (λ (v : BacklogValue). IsBehind v c.requires.late.wanted) (sym c.self.view_is) c.requires.late.behind in
-    let none : b.waiting ≡ 0 = empty_waits b c.requires.late.wanted behind c.in_default.ensures.least in
-    let seen : b.waiting ≡ c.args.self.now.waiting = ap (λ (v : BacklogValue). v.waiting) c.self.view_is in
-    absurd (omega (arith, c.requires.some))
-
-pub returns-in_default-clause-fewer : goal.returns-in_default-clause-fewer
-returns-in_default-clause-fewer g c =
+pub returns-in_default : goal.returns-in_default
+returns-in_default g c =
     let b : BacklogValue = record { config = c.self.inside.device.config; marks = c.self.inside.device.marks; waiting = c.self.inside.waiting; writes = c.self.inside.writes.items; looks = c.self.inside.device.looks } in
     let behind : IsBehind b c.requires.late.wanted = subst (λ (v : BacklogValue). IsBehind v c.requires.late.wanted) (sym c.self.view_is) c.requires.late.behind in
     let none : b.waiting ≡ 0 = empty_waits b c.requires.late.wanted behind c.in_default.ensures.least in
