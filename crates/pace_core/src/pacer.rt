@@ -1,5 +1,5 @@
 //! The machine at a limited rate.
-ghost use Rattle.std.specs.Prelude.{◌≡◌, ◌+◌, ◌≤◌, ◌<◌, ℕ, Bool, List, false, length, replicate, IfOk};
+ghost use Rattle.std.specs.Prelude.{◌≡◌, ◌+◌, ◌≤◌, ◌<◌, ℕ, Bool, List, [], false, length, replicate, IfOk};
 ghost use Rattle.tl_io.specs.Assigns.{AreAssigned};
 ghost use Rattle.tl_io.specs.Sink.{IsPut};
 ghost use Rattle.ppc_pack.specs.Pack.{IsConf, HasOneConf, inits_of};
@@ -51,6 +51,36 @@ impl Model for Pacer {
     ghost invariant = { λ p. Keeps p.specialiser p.backlog p.sim p.rate p.luts p.depth };
 }
 
+// The pack at the listed values, and a device that has their configuration.
+fn at_inits(alloc: Global, pack: Pack) -> Result<(Changer, Backlog), AllocError>
+    ensures pack { IfOk result (λ made. made.0.pack ≡ pack) }
+    ensures params { IfOk result (λ made. made.0.state.params ≡ inits_of pack.params) }
+    ensures config { IfOk result (λ made. IsConf pack (inits_of pack.params) made.0.state.config) }
+    ensures unread { IfOk result (λ made. made.0.reads ≡ 0) }
+    ensures device { IfOk result (λ made. made.1 ≡ record { config = made.0.state.config; marks = replicate (length made.0.state.config) false; waiting = 0; writes = []; looks = 0 }) }
+    ensures one { (given : List Bool) → length given ≡ length pack.params → HasOneConf pack given }
+{
+    let specialiser = Specialiser::make(alloc, pack)?;
+    let backlog = Backlog::make(alloc, specialiser.image())?;
+    Ok((Changer::over(specialiser), backlog))
+}
+
+// The player of the circuit with its latches at `inits`, and the buffer of its lines.
+fn player(
+    alloc: Global,
+    template: Template,
+    shape: Shape,
+    inits: &[bool],
+) -> Result<(Sim, LineBuf), AllocError>
+    requires playable { IsPlayable template shape }
+    requires inits { length inits.now ≡ shape.latches }
+    ensures { IfOk result (λ made. made.0 ≡ record { template = template; shape = shape; outputs = replicate (length template.outputs) false; states = inits.now }) }
+{
+    let sim = Sim::make(alloc, template, shape, inits)?;
+    let buf = LineBuf::make(alloc)?;
+    Ok((sim, buf))
+}
+
 impl Pacer {
     /// Creates a circuit with its latches at `inits`, the pack at the listed values, and their configuration on the device. The
     /// port takes `rate` bits per tick, at least one.
@@ -81,12 +111,10 @@ impl Pacer {
     {
         let luts = shape.table_count(&template);
         let depth = template.depth;
-        let specialiser = Specialiser::make(alloc, pack)?;
-        let backlog = Backlog::make(alloc, specialiser.image())?;
-        let sim = Sim::make(alloc, template, shape, inits)?;
-        let buf = LineBuf::make(alloc)?;
+        let (specialiser, backlog) = at_inits(alloc, pack)?;
+        let (sim, buf) = player(alloc, template, shape, inits)?;
         Ok(Pacer {
-            specialiser: Changer::over(specialiser),
+            specialiser,
             backlog,
             sim,
             buf,

@@ -4,6 +4,7 @@ ghost use Rattle.tl_io.specs.Assigns.{AreAssigned};
 ghost use Rattle.tl_io.specs.Writes.{AreAscending, AreBitsOf};
 ghost use Rattle.ppc_pack.specs.Pack.{IsConf, HasOneConf, inits_of};
 ghost use Rattle.spec_core.specs.Events.{IsSet, IsUpset, IsScrub};
+ghost use Rattle.spec_core.specs.Sweep.{bits_under};
 ghost use Rattle.spec_core.specs.Touched.{IsWithinTouched};
 
 use crate::device::Device;
@@ -33,6 +34,14 @@ impl Model for Specialiser {
     ghost invariant = { λ s. Keeps s.evaluation s.device };
 }
 
+// A device that has the configuration of an evaluation, and no writes.
+fn device_of(alloc: Global, evaluation: &Evaluation) -> Result<Device, AllocError>
+    ensures { IfOk result (λ d. d ≡ record { config = bits_under evaluation.now.pack evaluation.now.now.values; writes = [] }) }
+{
+    let config = evaluation.config(alloc)?;
+    Device::make(alloc, config)
+}
+
 impl Specialiser {
     /// The pack at its initial values, with their configuration on the device, and no writes.
     ///
@@ -48,8 +57,7 @@ impl Specialiser {
         ensures one { (given : List Bool) → length given ≡ length pack.params → HasOneConf pack given }
     {
         let evaluation = Evaluation::make(alloc, pack)?;
-        let config = evaluation.config(alloc)?;
-        let device = Device::make(alloc, config)?;
+        let device = device_of(alloc, &evaluation)?;
         Ok(Specialiser { evaluation, device })
     }
 
