@@ -1,5 +1,5 @@
 //! A netlist through all stages, from its text to cycles and changes, with what came of each and the time that it took.
-ghost use Rattle.cut_enum.specs.declared.limits.TheConstants.{MOST_LEAVES};
+ghost use Rattle.cut_sets.specs.declared.limits.TheConstants.{MOST_LEAVES};
 ghost use Rattle.std.specs.Prelude.{◌≡◌, ◌≤◌, length, IfOk, IfSome, Some};
 ghost use Rattle.tl_text.specs.declared.logical_lines.TheConstants.{MOST_BYTES};
 ghost use Rattle.param_list.specs.Parameters.{AreNamed};

@@ -9,7 +9,7 @@ ghost use Rattle.netlist.specs.Sound.{IsSound};
 ghost use Rattle.param_list.specs.Parameters.{AreNamed, AreParameters};
 ghost use Rattle.aig_core.specs.Aig.{node_count};
 ghost use Rattle.aig_core.specs.Roots.{AreRoots, roots_of};
-ghost use Rattle.cut_enum.specs.declared.limits.TheConstants.{MOST_LEAVES};
+ghost use Rattle.cut_sets.specs.declared.limits.TheConstants.{MOST_LEAVES};
 ghost use Rattle.cut_enum.specs.Table.{AreRows};
 ghost use Rattle.depth_label.specs.Label.{AreLabelled};
 ghost use Rattle.cover_pick.specs.Mapping.{IsMapping};

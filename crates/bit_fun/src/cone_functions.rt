@@ -4,7 +4,7 @@ ghost use Rattle.list_laws.specs.Members.{In};
 ghost use Rattle.list_laws.specs.Digits.{bit_value};
 ghost use Rattle.aig_core.specs.Aig.{first_and, node_count, AreNormal, IsAnd, IsLit};
 ghost use Rattle.aig_core.specs.And.{and_of, with_pairs};
-ghost use Rattle.cut_enum.specs.declared.limits.TheConstants.{MOST_LEAVES};
+ghost use Rattle.cut_sets.specs.declared.limits.TheConstants.{MOST_LEAVES};
 ghost use Rattle.cover_pick.specs.Work.{IsInner};
 ghost use Rattle.bit_fun.specs.PackOf.{phase_literal};
 ghost use Rattle.bit_fun.specs.ConeFunctions.{lit_of, fan_in, with_leaves, AreLits, IsMadeOver, HaveSourceLits, IsTableIn, IsConeOrder, IsBetween, IsBitMade};

@@ -3,7 +3,7 @@ ghost use Rattle.std.specs.Prelude.{◌≡◌, ◌≤◌, ◌<◌, ◌+◌, ◌^
 ghost use Rattle.std.specs.List.{flat_map};
 ghost use Rattle.tl_piece.specs.Added.{IsAdded};
 ghost use Rattle.list_laws.specs.Digits.{digit};
-ghost use Rattle.cut_enum.specs.declared.limits.TheConstants.{MOST_LEAVES};
+ghost use Rattle.cut_sets.specs.declared.limits.TheConstants.{MOST_LEAVES};
 ghost use Rattle.blif_read.specs.Rows.{cell_character};
 ghost use Rattle.blif_write.specs.PlainNetlist.{row_line, line_text};
 ghost use Rattle.blif_write.specs.Netlists.{digit_cell, digit_cells, chosen_cells, fixed_rows, tunable_rows};

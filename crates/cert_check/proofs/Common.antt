@@ -34,7 +34,7 @@ pub use Rattle.cert_check.specs.CertText.{says_depth, says_claim, SaidLine, path
 pub use Rattle.cert_check.specs.CertificateValue.{PathValue, StepValue, CertificateValue}
 pub use Rattle.cert_check.specs.Faults.{MayStand, IsFault, First, IsAbove, StepFault, StepsFault, DepthFault, HasOneVerdict, NodesFault, PathsFault, IsNext, AreInTurn}
 pub use Rattle.cert_check.specs.LowerBound.{IsLowerBound, AreLowerBounds}
-pub use Rattle.cert_check.specs.Paths.{IsPath, IsFanIn, first, second, Climbs}
+pub use Rattle.cut_sets.specs.Paths.{IsPath, IsFanIn, first, second, Climbs}
 pub use Rattle.cert_check.specs.Refusals.{refusal_of}
 pub use Rattle.cert_check.specs.Stamps.{Clashes, IsFirstClash, AreStamped, IsPathFault, no_path, clash, IsPathTaken}
 pub use Rattle.cert_check.specs.Valid.{claim_of, IsJustified, IsReached, IsValid, node, complemented, SomeNeeds, path_count, Needs}

@@ -1,9 +1,10 @@
--- A valid certificate is a lower bound of the depth of every cover: each of the K + 1 paths to a node meets each of its cuts, no two
--- of them in the same shallow leaf, and a cut has at most K leaves.
-use Rattle.cert_check.proofs.Common.{◌≡◌, ℕ, suc, ◌+◌, ◌/◌, ◌<◌, ◌≤◌, List, [], ◌∷◌, Option, Some, eqb, length, refl, sym, subst, inl, inr, ◌⊎◌, arith, slice_get, eqb-true, cases_lt, Aig, first_and, In, choose, place_in, Blocks, IsCut, PathValue, StepValue, CertificateValue, IsLowerBound, AreLowerBounds, claim_of, path_count, IsJustified, Needs, node, complemented, SomeNeeds, IsValid}
-use Rattle.list_laws.proofs.Apart.{AreApart, apart_short}
+-- A valid certificate is a lower bound of the depth of every cover: the K + 1 paths to a node show that no cut of it is low.
+use Rattle.cert_check.proofs.Common.{◌≡◌, ℕ, suc, ◌+◌, ◌/◌, ◌<◌, ◌≤◌, List, [], ◌∷◌, Option, Some, eqb, length, refl, sym, subst, inl, inr, ◌⊎◌, arith, slice_get, eqb-true, cases_lt, Aig, first_and, In, choose, Blocks, IsCut, IsPath, map, length-map, from_map, mapped_at, PathValue, StepValue, CertificateValue, IsLowerBound, AreLowerBounds, claim_of, path_count, IsJustified, Needs, node, complemented, SomeNeeds, IsValid}
 use Rattle.cut_sets.specs.Covers.{IsCover, HasDepth, source, free, table, RootsWithin}
-use Rattle.cert_check.proofs.PathLemmas.{Meets, path_meets}
+use Rattle.cut_sets.specs.Labels.{height}
+use Rattle.cut_sets.specs.Paths.{ArePathsTo}
+use Rattle.cut_sets.proofs.HeightLemmas.{height_le}
+use Rattle.cut_sets.proofs.PickLemmas.{path_not_free, paths_high}
 
 -- the step that claims this for a node
 record HasStep (steps : List StepValue) (n v : ℕ) : Type 0 where
@@ -28,52 +29,45 @@ path_count-one k claim = choose (λ v. 1 ≤ v) (eqb claim 1) 1 (k + 1) (λ e. o
 pub path_count-more : (k claim : ℕ) → 2 ≤ claim → path_count k claim ≡ k + 1
 path_count-more k claim two = choose (λ v. v ≡ k + 1) (eqb claim 1) 1 (k + 1) (λ e. let one : claim ≡ 1 = eqb-true claim 1 e in absurd (omega arith)) (λ e. refl)
 
--- one leaf of a cut on each of these paths, none twice
-record ArePicked (c : List ℕ) (ps : List PathValue) : Type 0 where
-  nodes : List ℕ
-  count : length nodes ≡ length ps
-  distinct : AreApart nodes
-  in_cut : (x : ℕ) → In nodes x → In c x
-  on_path : (x : ℕ) → In nodes x → (p : PathValue) × In ps p × In p.nodes x
-
--- no two of these paths share a leaf
-SharesNone : List ℕ → List PathValue → Type 0
-SharesNone c ps = (i j x : ℕ) (p q : PathValue) → i < j → slice_get ps i ≡ Some p → slice_get ps j ≡ Some q → In p.nodes x → In q.nodes x → In c x → ⊥
-
-pick : (c : List ℕ) (ps : List PathValue) → SharesNone c ps → ((p : PathValue) → In ps p → Meets c p.nodes) → ArePicked c ps
-unfolding SharesNone
-pick c [] apart meets = record { nodes = []; count = refl; distinct = tt; in_cut = λ x i. absurd i; on_path = λ x i. absurd i }
-pick c (p ∷ ps) apart meets =
-    let one : Meets c p.nodes = meets p (inl refl) in
-    let rest : ArePicked c ps = pick c ps (λ i j x q r l. apart (suc i) (suc j) x q r (omega arith)) (λ q i. meets q (inr i)) in
-    record {
-      nodes = one.at ∷ rest.nodes;
-      count = (let e : length rest.nodes ≡ length ps = rest.count in omega arith);
-      distinct = (
-        (λ i. let at = rest.on_path one.at i in
-            apart 0 (suc (place_in ps at.0 at.1).0) one.at p at.0 (omega arith) refl (place_in ps at.0 at.1).1 one.in_list at.2 one.in_set),
-        rest.distinct,
-      );
-      in_cut = λ x i. elim i [ inl e ↦ subst (λ y. In c y) (sym e) one.in_set | inr j ↦ rest.in_cut x j ];
-      on_path = λ x i. elim i [ inl e ↦ (p, inl refl, subst (λ y. In p.nodes y) (sym e) one.in_list) | inr j ↦ (let at = rest.on_path x j in (at.0, inr at.1, at.2)) ];
-    }
-
 some_path : (ps : List PathValue) → 1 ≤ length ps → (p : PathValue) × In ps p
 some_path [] l = absurd (omega arith)
 some_path (p ∷ ps) l = (p, inl refl)
 
+-- the lists of nodes of a step's paths
+nodes_of : List PathValue → List (List ℕ)
+nodes_of ps = map (λ p. p.nodes) ps
+
+-- a list of nodes is that of a path
+nodes_at : (ps : List PathValue) (i : ℕ) (l : List ℕ) → slice_get (nodes_of ps) i ≡ Some l → (p : PathValue) × (slice_get ps i ≡ Some p) × (l ≡ p.nodes)
+unfolding nodes_of
+nodes_at ps i l at = mapped_at (λ p. p.nodes) ps i l at
+
 module _ (g : Aig) (k : ℕ) (claim : ℕ → ℕ) (s : StepValue) (just : IsJustified g k claim s) where
   -- the empty set does not block its node
   not_free : Blocks g [] s.node → ⊥
-  not_free b = grind (arith, some_path, path_count-one, path_meets)
+  not_free b = let p = some_path s.paths (let e : length s.paths ≡ path_count k s.claim = just.count in let m : 1 ≤ path_count k s.claim = path_count-one k s.claim in omega arith) in
+      path_not_free g s.node p.0.nodes (just.paths p.0 p.1) b
+
+  shown : ArePathsTo g s.node s.claim claim (nodes_of s.paths)
+  unfolding nodes_of
+  shown = record {
+    paths = λ l i. let p = from_map (λ (q : PathValue). q.nodes) s.paths l i in subst (λ ns. IsPath g s.node ns) (sym p.2) (just.paths p.0 p.1);
+    apart = λ i j m l r less at next a b other.
+        let p = nodes_at s.paths i l at in
+        let q = nodes_at s.paths j r next in
+        just.apart i j m p.0 q.0 less p.1 q.1 (subst (λ ns. In ns m) p.2 a) (subst (λ ns. In ns m) q.2 b) other;
+  }
 
   -- a cut of its node has a leaf whose claim is at least one less
   not_shallow : (c : List ℕ) (d : ℕ) → IsCut g k s.node c → ((m : ℕ) → In c m → claim m ≤ d) → suc d < s.claim → ⊥
-  unfolding SharesNone
+  unfolding nodes_of
   not_shallow c d cut low deep =
-      let r : ArePicked c s.paths = grind (arith, pick, path_meets) in
-      let l : length r.nodes ≤ length c = apart_short r.nodes c r.distinct r.in_cut in
-      absurd (omega (arith, path_count-more k s.claim (omega arith), cut.few))
+      let e : length s.paths ≡ path_count k s.claim = just.count in
+      let f : path_count k s.claim ≡ k + 1 = path_count-more k s.claim (omega arith) in
+      let l : length (nodes_of s.paths) ≡ length s.paths = length-map s.paths (λ q. q.nodes) in
+      let h : s.claim ≤ height claim c = paths_high g k s.node s.claim claim (nodes_of s.paths) shown (omega arith) c cut in
+      let u : height claim c ≤ suc d = height_le claim c d low in
+      absurd (omega arith)
 
 module _ (g : Aig) (k : ℕ) (roots : List ℕ) (cert : CertificateValue) (valid : IsValid g roots k cert) (cover_roots : List ℕ) (cover : ℕ → Option (List ℕ)) (is : IsCover g k cover_roots cover) where
   -- a claim that is 0 is no deeper than anything

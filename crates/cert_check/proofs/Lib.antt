@@ -1,5 +1,4 @@
 mod Common
-pub mod PathLemmas
 mod StampLemmas
 mod StepLemmas
 mod InTurnLemmas

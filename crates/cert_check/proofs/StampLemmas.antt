@@ -1,5 +1,5 @@
 -- Stamps of nodes, and what a clash with them means for the paths of a step.
-use Rattle.cert_check.proofs.Common.{◌≡◌, ℕ, ◌+◌, ◌-◌, ◌<◌, ◌≤◌, List, [], ◌∷◌, ◌++◌, take, set, length, get_or, get_or-set_same, get_or-set_other, length-set, Some, None, sym, ap, ◌∙◌, subst, inl, inr, arith, cases_eq, cases_lt, take_more, none-some, same_Some, Aig, In, In-push, In-pushed, In-left, In-get_or, PathValue, StepValue, IsPath, MayStand, NodesFault, PathsFault, Clashes, IsFirstClash, AreStamped, IsPathFault, no_path, clash, CertErr, Shared, rules}
+use Rattle.cert_check.proofs.Common.{◌≡◌, ℕ, ◌+◌, ◌<◌, ◌≤◌, List, [], ◌∷◌, ◌++◌, take, set, length, get_or, get_or-set_same, get_or-set_other, length-set, Some, None, sym, ap, ◌∙◌, subst, inl, inr, arith, cases_eq, cases_lt, take_more, none-some, same_Some, Aig, In, In-push, In-pushed, In-left, In-get_or, PathValue, StepValue, IsPath, MayStand, NodesFault, PathsFault, Clashes, IsFirstClash, AreStamped, IsPathFault, no_path, clash, CertErr, Shared, rules}
 
 -- one more node is stamped
 pub stamped_more : (old : List ℕ) (n : ℕ) (nodes : List ℕ) (i : ℕ) (stamps : List ℕ) → ((m : ℕ) → In nodes m → m < length old) → i < length nodes → AreStamped old n (take i nodes) stamps

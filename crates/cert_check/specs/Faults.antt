@@ -5,7 +5,7 @@ use Rattle.std.specs.Prelude.{◌≡◌, ℕ, ◌+◌, ◌<◌, ◌≤◌, ◌�
 use Rattle.aig_core.specs.Aig.{Aig, IsAnd}
 use Rattle.list_laws.specs.Members.{In}
 use Rattle.cert_check.specs.CertificateValue.{PathValue, StepValue, CertificateValue}
-use Rattle.cert_check.specs.Paths.{IsPath}
+use Rattle.cut_sets.specs.Paths.{IsPath}
 use Rattle.cert_check.specs.Valid.{claim_of, path_count, IsReached, IsValid, IsJustified}
 use Rattle.cert_check.specs.declared.cert_err.CertErr.{CertErr}
 use Rattle.cert_check.specs.declared.cert_err.CertErr.TheVariants.{BadClaim, BadPath, PathCount, Shared, NotReached}

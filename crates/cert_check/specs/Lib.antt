@@ -1,6 +1,5 @@
 -- What public clauses say.
 pub mod CertificateValue
-pub mod Paths
 pub mod Valid
 pub mod Faults
 pub mod LowerBound

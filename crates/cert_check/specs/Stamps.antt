@@ -3,7 +3,7 @@ use Rattle.std.specs.Prelude.{◌≡◌, ℕ, ◌-◌, ◌<◌, ◌≢◌, List,
 use Rattle.aig_core.specs.Aig.{Aig}
 use Rattle.list_laws.specs.Members.{In}
 use Rattle.cert_check.specs.CertificateValue.{PathValue, StepValue}
-use Rattle.cert_check.specs.Paths.{IsPath}
+use Rattle.cut_sets.specs.Paths.{IsPath}
 use Rattle.cert_check.specs.declared.cert_err.CertErr.{CertErr}
 use Rattle.cert_check.specs.declared.cert_err.CertErr.TheVariants.{BadPath, Shared}
 

@@ -5,7 +5,7 @@ use Rattle.aig_core.specs.declared.lit.Kind.TheVariants.{Regular}
 use Rattle.list_laws.specs.Members.{In}
 use Rattle.list_laws.specs.Order.{IsAscending}
 use Rattle.cert_check.specs.CertificateValue.{PathValue, StepValue, CertificateValue}
-use Rattle.cert_check.specs.Paths.{IsPath}
+use Rattle.cut_sets.specs.Paths.{IsPath}
 
 -- the claim of a node: that of its step, and 0 without one
 abbrev pub claim_of : List StepValue → ℕ → ℕ

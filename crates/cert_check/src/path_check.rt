@@ -3,7 +3,7 @@ ghost use Rattle.std.specs.Prelude.{◌≡◌, ◌<◌, ◌≤◌, ℕ, true, fa
 ghost use Rattle.aig_core.specs.Aig.{first_and, node_count, IsAnd, IsSource, AreNormal};
 ghost use Rattle.aig_core.specs.declared.lit.Kind.TheVariants.{Regular};
 ghost use Rattle.list_laws.specs.Members.{In};
-ghost use Rattle.cert_check.specs.Paths.{IsFanIn, IsPath};
+ghost use Rattle.cut_sets.specs.Paths.{IsFanIn, IsPath};
 
 use aig_core::{Graph, Kind};
 

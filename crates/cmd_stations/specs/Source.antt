@@ -1,6 +1,6 @@
 -- The source circuit: the words that name it, what files hold of it, and its LUTs: the walk through NETLIST, PARAMS and what a command makes of them; and that each file says one thing, or is refused for one reason.
 use Rattle.std.specs.Prelude.{ℕ, ◌≤◌, ◌+◌, ◌-◌, ◌&&◌, nat_le, if◌then◌else◌, List, [], ◌∷◌, Option, Some, None, ◌≡◌, true}
-use Rattle.cut_enum.specs.declared.limits.TheConstants.{MOST_LEAVES}
+use Rattle.cut_sets.specs.declared.limits.TheConstants.{MOST_LEAVES}
 use Rattle.cover_pick.specs.declared.rule.Rule.{Rule}
 use Rattle.cmd_stations.specs.declared.words.SourceWords.{SourceWords as SourceWordsRead}
 use Rattle.tl_fault.specs.RefusalValue.{RefusalValue}

@@ -1,7 +1,7 @@
 //! A mapped source circuit that is ready to be written.
 ghost use Rattle.std.specs.Prelude.{◌≡◌, ◌≤◌, false, IfOk, IfErr, OnOk};
 ghost use Rattle.tl_text.specs.declared.logical_lines.TheConstants.{MOST_BYTES};
-ghost use Rattle.cut_enum.specs.declared.limits.TheConstants.{MOST_LEAVES};
+ghost use Rattle.cut_sets.specs.declared.limits.TheConstants.{MOST_LEAVES};
 ghost use Rattle.blif_write.specs.Writable.{CanBeNamed};
 ghost use Rattle.cmd_base.specs.Walk.{Told, Explains, KeepsFiles};
 ghost use Rattle.cmd_stations.specs.Source.{source_seen, source_reading};

@@ -7,7 +7,7 @@ ghost use Rattle.aig_build.specs.declared.TheConstants.{MOST_NODES};
 ghost use Rattle.aig_build.specs.NetlistGraph.{IsGraphOf, HasTooManyNodes, HasOneGraph, source_kinds};
 ghost use Rattle.aig_build.specs.NetlistCycle.{HasSourceCycles};
 ghost use Rattle.aig_build.specs.Refusals.{refusal_of};
-ghost use Rattle.cut_enum.specs.declared.limits.TheConstants.{MOST_LEAVES};
+ghost use Rattle.cut_sets.specs.declared.limits.TheConstants.{MOST_LEAVES};
 ghost use Rattle.cover_pick.specs.Template.{TemplateValue};
 ghost use Rattle.lut_sim.specs.Playable.{IsPlayable};
 ghost use Rattle.cmd_stations.specs.Stops.{Stops};

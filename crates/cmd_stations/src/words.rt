@@ -1,7 +1,7 @@
 //! The arguments that name a source circuit.
 ghost use Rattle.std.specs.Prelude.{◌≡◌, ◌≤◌, IfSome};
 ghost use Rattle.std.specs.Option.{option_map};
-ghost use Rattle.cut_enum.specs.declared.limits.TheConstants.{MOST_LEAVES};
+ghost use Rattle.cut_sets.specs.declared.limits.TheConstants.{MOST_LEAVES};
 ghost use Rattle.cmd_stations.specs.Source.{source_word, k_of, source_words, source_seen, IsTableSize};
 
 use cmd_base::File;

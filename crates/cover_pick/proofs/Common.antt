@@ -12,7 +12,7 @@ pub use Rattle.cover_pick.specs.Words.{Aig, AreNormal, IsAnd, IsNode, IsNormal, 
 pub use Rattle.std.specs.List.{slice_get, sum_by, AllByRecursion, list_any, IsDistinct}
 pub use Rattle.aig_core.proofs.NodeLemmas.{node_normal, source_below}
 pub use Rattle.cut_enum.proofs.Examples.{last_cuts, mux, mux_normal, mux_rows, pair}
-pub use Rattle.cut_enum.specs.declared.limits.TheConstants.{MOST_LEAVES}
+pub use Rattle.cut_sets.specs.declared.limits.TheConstants.{MOST_LEAVES}
 pub use Rattle.cut_sets.proofs.OrderLemmas.{before-same, before_trans, lex-same, lex_trans}
 pub use Rattle.depth_label.specs.Fold.{or_empty}
 pub use Rattle.list_laws.proofs.Choice.{choose, choose_both, choose_one, none_then, same_test, some_then}

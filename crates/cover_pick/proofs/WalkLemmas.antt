@@ -1,6 +1,9 @@
 -- The walk of required depths: what it keeps, and that its cuts are a cover of the least depth.
 use Rattle.cover_pick.proofs.Common.{◌≡◌, ℕ, zero, suc, ◌+◌, ◌-◌, ◌/◌, ◌<◌, ◌≤◌, min, ltb, List, [], ◌∷◌, length, Option, Some, None, IsSome, refl, sym, ap, ◌∙◌, subst, inl, inr, ◌⊎◌, arith, get_or-set_same, get_or-set_other, replicate, length-replicate, get_or-replicate, get_or_past, length-set, same_Some, none-some, cases_lt, cases_eq, ltb-true, ltb-false, Aig, first_and, node_count, IsAnd, AreNormal, Regular, source_below, In, IsCut, AreMinimal, IsCover, HasDepth, source, free, table, RootsWithin, greatest, height, AreLabels, choose, source_level, root_level, target, need, least_of, require, require_each, visit, walk, require_root, require_roots, roots_required, required, chosen, cover_of, AtMost, FromRoot, Chooses, IsWalked, rules, ◌%◌, IsSource, walk_by, met_at}
-use Rattle.depth_label.proofs.DepthLemmas.{greatest_le, label_le_depth, greatest_in}
+use Rattle.cut_sets.specs.Labels.{AreLeastHeights}
+use Rattle.cut_sets.proofs.HeightLemmas.{greatest_le, greatest_in}
+use Rattle.cut_sets.proofs.LeastHeightLemmas.{label_le_depth}
+use Rattle.depth_label.proofs.DepthLemmas.{labels_least_heights}
 use Rattle.cover_pick.specs.Sharing.{IsNeededAbove, root, leaf}
 
 pub level_complemented : (g : Aig) (l : ℕ) → IsSource g Regular (l / 2) → l % 2 ≡ 1 → source_level g l ≡ 1
@@ -272,7 +275,9 @@ module _ (g : Aig) (k : ℕ) (roots : List ℕ) (cuts : ℕ → List (List ℕ))
 
   -- and the target at most the depth of any cover.
   pub target_least : AreNormal (first_and g) g.pairs → AreLabels g cuts label → (cover : ℕ → Option (List ℕ)) (d : ℕ) → IsCover g k roots cover → RootsWithin g cover roots d → target g label roots ≤ d
-  target_least normal labels cover d is within = grind (arith, greatest_le, ltb, level_within, ltb-false, label_le_depth)
+  target_least normal labels cover d is within =
+      let are : AreLeastHeights g k label = labels_least_heights g normal k cuts label minimal labels in
+      grind (arith, greatest_le, ltb, level_within, ltb-false, label_le_depth g k label are roots cover is)
 
 -- a node is taken in the same way by two choices that are the same there
 pub visit_same : (choice other : ℕ → ℕ → List ℕ) (n : ℕ) (o : Option ℕ) (reqs : List (Option ℕ)) → ((r : ℕ) → choice n r ≡ other n r) → visit choice n o reqs ≡ visit other n o reqs

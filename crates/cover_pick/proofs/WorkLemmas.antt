@@ -1,6 +1,6 @@
 -- The cone of a node, as a list, is what is reached from it.
 use Rattle.cover_pick.proofs.Common.{◌≡◌, ℕ, zero, suc, ◌-◌, ◌/◌, ◌<◌, ◌≤◌, true, false, ltb, eqb, List, [], ◌∷◌, Option, Some, None, refl, sym, length, subst, inl, inr, ◌⊎◌, arith, slice_get_within, cases_Bool, or_cases, or_parts, cases_lt, ltb-true, ltb-false, both_ways, lt-ltb, Aig, first_and, node_count, pair_of, IsNode, IsNormal, AreNormal, Pair, node_normal, In, choose, IsDescending, put_down, is_stop, put_fan_ins, cone, cone_of, IsInner, Path, here, left, right, IsCone, rules}
-use Rattle.cut_enum.proofs.SetLemmas.{has_true, has_from}
+use Rattle.cut_sets.proofs.SetLemmas.{has_true, has_from}
 
 -- what does not end the way down is an AND node that is no leaf
 pub stop_inner : (g : Aig) (c : List ℕ) (n : ℕ) → n < node_count g → is_stop g c n ≡ false → IsInner g c n

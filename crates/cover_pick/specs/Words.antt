@@ -5,11 +5,13 @@ pub use Rattle.aig_core.specs.declared.lit.Kind.{Kind}
 pub use Rattle.aig_core.specs.declared.lit.Kind.TheVariants.{Regular, Parameter}
 pub use Rattle.aig_core.specs.declared.lit.Lit.{Lit}
 pub use Rattle.aig_core.specs.declared.lit.Pair.{Pair}
-pub use Rattle.cut_enum.specs.Table.{row_at, AreRows}
+pub use Rattle.cut_sets.specs.Rows.{row_at}
+pub use Rattle.cut_enum.specs.Table.{AreRows}
 pub use Rattle.cut_sets.specs.Covers.{IsCover, RootsWithin, IsLeastDepth, HasDepth, free, free as no_leaves, source, table}
 pub use Rattle.cut_sets.specs.Cuts.{IsCut, AreMinimal}
 pub use Rattle.cut_sets.specs.Sets.{lex, before, IsOrdered, before as comes_before}
-pub use Rattle.depth_label.specs.Label.{height, greatest, AreLabels, IsCutTable, label_at, label_of}
+pub use Rattle.cut_sets.specs.Labels.{height, greatest, label_at}
+pub use Rattle.depth_label.specs.Label.{AreLabels, IsCutTable, label_of}
 pub use Rattle.list_laws.specs.Members.{In}
 pub use Rattle.list_laws.specs.Order.{IsAscending, IsDescending}
 pub use Rattle.cover_pick.specs.declared.limits.TheConstants.{MOST_FLOW, TABLE_PRICE, MOST_WORK}

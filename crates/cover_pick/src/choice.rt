@@ -1,8 +1,9 @@
 //! The rule of the fewest leaves: the choice of a cut for a node with a required depth.
 ghost use Rattle.std.specs.Prelude.{◌≡◌, ℕ, ◌<◌, ◌≤◌, true, List, [], length, Option, Some, None, slice_index_or};
 ghost use Rattle.cut_sets.specs.Sets.{IsOrdered};
-ghost use Rattle.cut_enum.specs.Table.{row_at};
-ghost use Rattle.depth_label.specs.Label.{height, label_of};
+ghost use Rattle.cut_sets.specs.Rows.{row_at};
+ghost use Rattle.cut_sets.specs.Labels.{height};
+ghost use Rattle.depth_label.specs.Label.{label_of};
 ghost use Rattle.cover_pick.specs.Ruled.{IsAt, IsShorter, better as the_better, fewest as the_fewest, found_in, AreCapped};
 ghost use Rattle.cover_pick.specs.Places.{cut_of};
 

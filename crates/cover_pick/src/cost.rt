@@ -1,8 +1,9 @@
 //! The rule of the least cost: what a cut costs if some nodes are needed already, and the cheapest cut.
 ghost use Rattle.std.specs.Prelude.{◌≡◌, ℕ, ◌+◌, ◌*◌, ◌<◌, ◌≤◌, ◌^◌, List, [], length, Option, Some, None, sum_by, slice_index_or};
-ghost use Rattle.cut_enum.specs.declared.limits.TheConstants.{MOST_LEAVES};
-ghost use Rattle.cut_enum.specs.Table.{row_at};
-ghost use Rattle.depth_label.specs.Label.{height, label_of};
+ghost use Rattle.cut_sets.specs.declared.limits.TheConstants.{MOST_LEAVES};
+ghost use Rattle.cut_sets.specs.Rows.{row_at};
+ghost use Rattle.cut_sets.specs.Labels.{height};
+ghost use Rattle.depth_label.specs.Label.{label_of};
 ghost use Rattle.cover_pick.specs.declared.limits.TheConstants.{MOST_FLOW};
 ghost use Rattle.cover_pick.specs.Flow.{flow_at};
 ghost use Rattle.cover_pick.specs.Required.{need as need_of};

@@ -1,7 +1,7 @@
 //! The flows of the nodes over some counts of their readers, for the rule of the least cost.
 ghost use Rattle.std.specs.Prelude.{◌≡◌, ℕ, ◌<◌, ◌≤◌, ◌+◌, ◌*◌, ◌/◌, ◌^◌, [], length, slice_index_or, IfOk};
 ghost use Rattle.aig_core.specs.Aig.{first_and, node_count};
-ghost use Rattle.cut_enum.specs.Table.{row_at};
+ghost use Rattle.cut_sets.specs.Rows.{row_at};
 ghost use Rattle.depth_label.specs.Label.{label_of};
 ghost use Rattle.cover_pick.specs.declared.limits.TheConstants.{MOST_FLOW};
 ghost use Rattle.cover_pick.specs.Flow.{cut_flow as the_cut_flow, least_flow as the_least_flow, node_flow as the_node_flow, allowed, allowed_row, allowed_flow as the_allowed_flow, flows_by as the_flows_by};

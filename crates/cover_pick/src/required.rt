@@ -2,7 +2,7 @@
 ghost use Rattle.std.specs.Prelude.{◌≡◌, ℕ, ◌+◌, ◌-◌, ◌/◌, ◌<◌, ◌≤◌, length, Option, Some, None, IfOk, slice_index_or};
 ghost use Rattle.aig_core.specs.Aig.{first_and, node_count, AreNormal, IsAnd};
 ghost use Rattle.aig_core.specs.Roots.{lits_of, AreRoots};
-ghost use Rattle.cut_enum.specs.Table.{row_at};
+ghost use Rattle.cut_sets.specs.Rows.{row_at};
 ghost use Rattle.depth_label.specs.Label.{label_of, IsCutTable, AreLabelled};
 ghost use Rattle.cover_pick.specs.Ruled.{AreCapped, found_in, found_from, found_of, choice_by};
 ghost use Rattle.cover_pick.specs.Required.{need, least_of as the_least, require as with_required, require_each as with_each_required, visit as visited, walk_by as walked, require_root as with_root, require_roots as with_roots};

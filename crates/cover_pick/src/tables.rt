@@ -3,7 +3,7 @@ ghost use Rattle.std.specs.Prelude.{◌≡◌, ℕ, List, ◌+◌, ◌*◌, ◌/
 ghost use Rattle.aig_core.specs.Aig.{first_and, node_count, AreNormal};
 ghost use Rattle.aig_core.specs.Roots.{lits_of, AreRoots};
 ghost use Rattle.list_laws.specs.Members.{In};
-ghost use Rattle.cut_enum.specs.declared.limits.TheConstants.{MOST_LEAVES};
+ghost use Rattle.cut_sets.specs.declared.limits.TheConstants.{MOST_LEAVES};
 ghost use Rattle.tl_fault.specs.OrMemory.{OrMemory};
 ghost use Rattle.cover_pick.specs.Refusals.{refusal_of};
 ghost use Rattle.cover_pick.specs.Cone.{stamp_at};

@@ -24,10 +24,13 @@ pub use Rattle.list_laws.specs.Order.{IsAscending}
 pub use Rattle.tl_fault.specs.OrMemory.{OrMemory}
 pub use Rattle.cut_enum.specs.Keeps.{NoneClear, listed, AreListed, AllHave, AreShared}
 pub use Rattle.cut_enum.specs.Limits.{Reaches, IsLimit}
-pub use Rattle.cut_enum.specs.Merging.{AreApart, union, merged, starts_empty, with_own, IsRow, subset, put, AreClear, add, add_holders, leading, holders, unions_at, unions_below, place, add_holder, add_union, add_unions, add_pairs, IsPlaceOf, IsAround, IsTooMany, front_of, source_front, unions_of}
+pub use Rattle.cut_enum.specs.Merging.{AreApart, merged, starts_empty, with_own, IsRow, AreClear, add, add_holders, leading, holders, unions_at, unions_below, place, add_holder, add_union, add_unions, add_pairs, IsPlaceOf, IsAround, IsTooMany, front_of, source_front, unions_of}
+pub use Rattle.cut_sets.specs.Unions.{union, subset, put}
 pub use Rattle.cut_enum.specs.Refusals.{refusal_of}
-pub use Rattle.cut_enum.specs.Signature.{signature_of, leaf_bit}
-pub use Rattle.cut_enum.specs.Table.{AreRows, row_at}
-pub use Rattle.cut_enum.specs.declared.limits.TheConstants.{GROUP, MOST_OF_A_NODE, MOST_OF_A_TABLE, MOST_LEAVES}
+pub use Rattle.cut_sets.specs.Signature.{signature_of, leaf_bit}
+pub use Rattle.cut_enum.specs.Table.{AreRows}
+pub use Rattle.cut_sets.specs.Rows.{row_at}
+pub use Rattle.cut_enum.specs.declared.limits.TheConstants.{GROUP, MOST_OF_A_NODE, MOST_OF_A_TABLE}
+pub use Rattle.cut_sets.specs.declared.limits.TheConstants.{MOST_LEAVES}
 pub use Rattle.cut_enum.specs.declared.table.CutErr.{CutErr}
 pub use Rattle.cut_enum.specs.declared.table.CutErr.TheVariants.{NodeCuts, TotalCuts, Memory}

@@ -1,5 +1,5 @@
 -- The place of a set in a list in order, and the halves in which it is looked for.
-use Rattle.cut_enum.proofs.Common.{◌≡◌, ℕ, zero, suc, ◌+◌, ◌-◌, ◌<◌, ◌≤◌, true, false, List, [], ◌∷◌, ◌++◌, length, get_or, map, take, drop, refl, sym, ap, ◌∙◌, subst, inl, inr, arith, length-append, length-drop, get_or_append_left, get_or_push, get_or-map, take-map, drop-map, map-append, take-append-drop, length-take-le, In, listed, AreListed, insert, false≢true, both_ways, cases_Bool, cases_lt, In-get_or, In-left, In-right, In-append, map_agree, before, IsOrdered, place, IsPlaceOf, IsAround, before_trans, before-same, get_or_read, length-map, rules}
+use Rattle.cut_enum.proofs.Common.{◌≡◌, ℕ, zero, suc, ◌+◌, ◌<◌, ◌≤◌, true, false, List, [], ◌∷◌, ◌++◌, length, get_or, map, take, drop, refl, sym, ap, ◌∙◌, subst, inl, inr, arith, length-append, length-drop, get_or_append_left, get_or_push, get_or-map, take-map, drop-map, map-append, take-append-drop, length-take-le, In, listed, AreListed, insert, false≢true, both_ways, cases_Bool, cases_lt, In-get_or, In-left, In-right, In-append, map_agree, before, IsOrdered, place, IsPlaceOf, IsAround, before_trans, before-same, get_or_read, length-map, rules}
 use Rattle.cut_enum.proofs.LevelLemmas.{place_at, IsOrdered-place}
 
 -- of two sets not both are before the other

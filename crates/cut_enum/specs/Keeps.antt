@@ -1,11 +1,12 @@
 -- What the fields of a cut and of lists of cuts keep.
-use Rattle.std.specs.Prelude.{◌≡◌, ℕ, ◌+◌, ◌*◌, ◌<◌, ◌≤◌, List, [], length, map, take, bit_or, slice_index_or}
+use Rattle.std.specs.Prelude.{◌≡◌, ℕ, ◌+◌, ◌*◌, ◌<◌, ◌≤◌, List, [], length, map, bit_or, slice_index_or}
 use Rattle.std.specs.Int.Bits.{bit_and}
 use Rattle.list_laws.specs.Members.{In}
 use Rattle.list_laws.specs.Order.{IsAscending}
 use Rattle.cut_sets.specs.Sets.{IsOrdered}
-use Rattle.cut_enum.specs.declared.limits.TheConstants.{MOST_LEAVES, GROUP}
-use Rattle.cut_enum.specs.Signature.{signature_of}
+use Rattle.cut_sets.specs.declared.limits.TheConstants.{MOST_LEAVES}
+use Rattle.cut_enum.specs.declared.limits.TheConstants.{GROUP}
+use Rattle.cut_sets.specs.Signature.{signature_of}
 
 -- the leaves ascend and lie in the inline places, and the signature is theirs
 pub record IsCutLeaves (leaves : List ℕ) (capacity signature : ℕ) : Type 0 where
@@ -13,12 +14,6 @@ pub record IsCutLeaves (leaves : List ℕ) (capacity signature : ℕ) : Type 0 w
   pub few : length leaves ≤ MOST_LEAVES
   pub inline : capacity ≡ MOST_LEAVES
   pub signed : signature ≡ signature_of leaves
-
--- the first len of the numbers are leaves, ascend, and have this signature
-pub record IsFlatCut (leaves : List ℕ) (len signature : ℕ) : Type 0 where
-  pub few : len ≤ MOST_LEAVES
-  pub ascending : IsAscending (take len leaves)
-  pub signed : signature ≡ signature_of (take len leaves)
 
 -- each of some words has one of these bits
 abbrev pub NoneClear : ℕ → List ℕ → Type 0

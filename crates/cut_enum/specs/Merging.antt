@@ -1,6 +1,6 @@
 -- The lists that the code makes on its way to the minimal cuts.
 use Rattle.std.specs.Prelude.{◌≡◌, ◌<◌, ◌≤◌, ℕ, zero, suc, ◌+◌, ◌-◌, ◌/◌, Bool, true, false, if◌then◌else◌, ◌==◌, nat_lt, List, [], ◌∷◌, ◌++◌, length, Option, Some, None, slice_get, slice_index_or}
-use Rattle.std.specs.List.{list_any, list_all}
+use Rattle.std.specs.List.{list_any}
 use Rattle.aig_core.specs.Aig.{Aig, first_and, IsAnd}
 use Rattle.aig_core.specs.declared.lit.Kind.{Kind}
 use Rattle.aig_core.specs.declared.lit.Kind.TheVariants.{Regular, Parameter}
@@ -12,21 +12,8 @@ use Rattle.cut_sets.specs.Cuts.{AreMinimal}
 use Rattle.list_laws.specs.Members.{In, Within}
 use Rattle.list_laws.specs.Order.{IsAscending}
 use Rattle.cut_sets.specs.Sets.{before}
-use Rattle.cut_enum.specs.Table.{row_at}
-
--- an ascending list with one more element
-abbrev pub put : ℕ → List ℕ → List ℕ
-put x [] = x ∷ []
-put x (y ∷ ys) = if nat_lt x y then x ∷ y ∷ ys else if x == y then y ∷ ys else y ∷ put x ys
-
--- the elements of both
-abbrev pub union : List ℕ → List ℕ → List ℕ
-union [] b = b
-union (x ∷ xs) b = union xs (put x b)
-
--- is every element of a one of b
-abbrev pub subset : List ℕ → List ℕ → Bool
-subset a b = list_all (λ x. list_any (λ y. y == x) b) a
+use Rattle.cut_sets.specs.Unions.{union, subset}
+use Rattle.cut_sets.specs.Rows.{row_at}
 
 -- a list in order, with one more at its place, unless it stands there
 abbrev pub place : List ℕ → List (List ℕ) → List (List ℕ)

@@ -2,12 +2,10 @@
 ghost use Rattle.std.specs.Prelude.{◌≡◌, ℕ, ◌<◌, ◌≤◌, ◌↔◌, false, List, [], ◌∷◌, length, MatchOption, IsTrue, IfSome, IfNone, IfOk, IfErr, insert};
 ghost use Rattle.list_laws.specs.Members.{Within};
 ghost use Rattle.list_laws.specs.Order.{IsAscending};
-ghost use Rattle.cut_enum.specs.Merging.{put, union, subset};
-ghost use Rattle.cut_enum.specs.Unions.{IsUnion};
+ghost use Rattle.cut_sets.specs.Unions.{put, union, subset};
+ghost use Rattle.cut_sets.specs.Unions.{IsUnion};
 
-use crate::flat::is_subset;
-use crate::limits::MOST_LEAVES;
-use crate::signature::{leaf_bit, signature};
+use cut_sets::{MOST_LEAVES, is_subset, leaf_bit, signature};
 use smallvec::SmallVec;
 use std::alloc::Global;
 use std::marker::Model;

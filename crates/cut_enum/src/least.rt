@@ -13,13 +13,14 @@ ghost use Rattle.std.specs.Prelude.{◌≡◌, ℕ, ◌+◌, ◌<◌, ◌≤◌,
 ghost use Rattle.std.specs.List.{list_any};
 ghost use Rattle.tl_fault.specs.OrMemory.{OrMemory};
 ghost use Rattle.cut_enum.specs.Refusals.{refusal_of};
-ghost use Rattle.cut_enum.specs.Merging.{AreApart, AreClear, IsTooMany, subset, add as with_cut, add_holder as with_holder, add_holders as with_holders, add_union as with_union, add_unions as with_unions, add_pairs as with_pairs, unions_at, unions_below, merged as all_merged};
+ghost use Rattle.cut_enum.specs.Merging.{AreApart, AreClear, IsTooMany, add as with_cut, add_holder as with_holder, add_holders as with_holders, add_union as with_union, add_unions as with_unions, add_pairs as with_pairs, unions_at, unions_below, merged as all_merged};
+ghost use Rattle.cut_sets.specs.Unions.{subset};
 
-use crate::flat::{FlatCut, joined};
 use crate::level::Level;
-use crate::limits::{MOST_LEAVES, MOST_OF_A_NODE};
+use crate::limits::MOST_OF_A_NODE;
 use crate::signed::{Signed, SignedPart, has_part};
 use crate::table::CutErr;
+use cut_sets::{FlatCut, MOST_LEAVES, joined};
 use std::alloc::Global;
 
 // Refuses a node that has too many cuts.

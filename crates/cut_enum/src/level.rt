@@ -5,9 +5,9 @@ ghost use Rattle.std.specs.Prelude.{◌≡◌, ℕ, ◌-◌, ◌<◌, ◌≤◌,
 ghost use Rattle.cut_sets.specs.Sets.{IsOrdered};
 ghost use Rattle.cut_enum.specs.Merging.{IsPlaceOf, IsAround, place, add as with_cut};
 
-use crate::flat::{FlatCut, before};
 use crate::limits::MOST_OF_A_NODE;
 use crate::signed::{SignedPart, has_part};
+use cut_sets::{FlatCut, before};
 use std::alloc::{AllocError, Global};
 use std::marker::Model;
 

@@ -38,8 +38,8 @@
 //! eight have, or if each of the eight has a bit that it lacks.
 //!
 //! # Table
-//! All cuts are in one vector, first those of the first node. The cuts of a node are sorted by the number of leaves and
-//! then lexicographically. Each cut is its leaves, their number and their signature (`flat.rt`). A node has at most
+//! All leaves are in one vector, first those of the first node's first cut (`CutRows` of `cut_sets`). The cuts of a node are
+//! sorted by the number of leaves and then lexicographically. Each cut has its place in the vector and its signature. A node has at most
 //! `MOST_OF_A_NODE` cuts and the table at most `MOST_OF_A_TABLE`. A graph that has more is refused at the first node
 //! that exceeds a limit. A graph either has a table or exceeds a limit, and only one limit is reported.
 //!
@@ -50,15 +50,13 @@
 #![tactic(auto)]
 
 mod cut;
-mod flat;
 mod least;
 mod level;
 mod limits;
 mod row;
-mod signature;
 mod signed;
 mod table;
 
 pub use cut::{Cut, merge, within};
-pub use limits::MOST_LEAVES;
+pub use cut_sets::MOST_LEAVES;
 pub use table::{CutErr, CutTable, enumerate};

@@ -1,7 +1,4 @@
-//! How many leaves a cut may have, how many cuts there may be, and how many signatures are tested together.
-
-/// The most leaves of a cut.
-pub const MOST_LEAVES: usize = 6;
+//! How many cuts there may be, and how many signatures are tested together.
 
 /// The most minimal cuts that a node may have.
 pub const MOST_OF_A_NODE: usize = 4_096;

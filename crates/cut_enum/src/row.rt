@@ -6,49 +6,47 @@ ghost use Rattle.cut_enum.specs.Refusals.{refusal_of};
 ghost use Rattle.cut_enum.specs.Limits.{IsLimit};
 ghost use Rattle.cut_enum.specs.Merging.{IsRow, IsTooMany, starts_empty, with_own, source_front, front_of, unions_of};
 ghost use Rattle.cut_enum.specs.Table.{AreRows};
+ghost use Rattle.cut_sets.specs.Rows.{row_at};
 
-use crate::flat::FlatCut;
 use crate::least::merged;
 use crate::level::Level;
-use crate::limits::{MOST_LEAVES, MOST_OF_A_NODE};
+use crate::limits::MOST_OF_A_NODE;
 use crate::signed::Signed;
 use crate::table::{CutErr, CutTable};
 use aig_core::{Graph, Kind, Pair, Steps};
+use cut_sets::{CutRows, FlatCut, MOST_LEAVES};
 use std::alloc::{AllocError, Global};
 use std::sync::ledger::Ledger;
 
-// Adds these cuts again.
-fn push_all(cuts: &mut Vec<FlatCut>, row: &[FlatCut]) -> Result<(), AllocError>
-    ensures { OnOk result (cuts.new.items ≡ cuts.old.items ++ row.now) }
+// Appends a node's cuts.
+fn push_all(cuts: &mut Vec<FlatCut>, rows: &CutRows, m: u32) -> Result<(), AllocError>
+    ensures { OnOk result (cuts.new.items ≡ cuts.old.items ++ row_at rows.now m) }
 {
-    for cut in row {
-        cuts.push(cut.copy())?;
+    for i in 0..rows.count(m) {
+        cuts.push(rows.cut(m, i))?;
     }
     Ok(())
 }
 
-// Is the first cut empty?
-fn is_free(row: &[FlatCut]) -> bool
-    ensures { result ≡ starts_empty row.now }
+// Is a node's first cut empty?
+fn is_free(rows: &CutRows, m: u32) -> bool
+    ensures { result ≡ starts_empty (row_at rows.now m) }
 {
-    match row {
-        [] => false,
-        [first, ..] => first.len() == 0,
-    }
+    rows.count(m) > 0 && rows.leaves(m, 0).is_empty()
 }
 
 // The cut of an AND node alone and its own cuts, or these alone where the empty one is one of them.
-fn own_cuts(alloc: Global, row: &[FlatCut], m: u32) -> Result<Vec<FlatCut>, AllocError>
-    ensures { IfOk result (λ v. v.items ≡ with_own m row.now) }
+fn own_cuts(alloc: Global, rows: &CutRows, m: u32) -> Result<Vec<FlatCut>, AllocError>
+    ensures { IfOk result (λ v. v.items ≡ with_own m (row_at rows.now m)) }
 {
     let mut cuts = Vec::new(alloc);
-    cuts.reserve(row.len() + 1)?;
-    if is_free(row) {
-        push_all(&mut cuts, row)?;
+    cuts.reserve(rows.count(m) as usize + 1)?;
+    if is_free(rows, m) {
+        push_all(&mut cuts, rows, m)?;
         return Ok(cuts);
     }
     cuts.push(FlatCut::one(m))?;
-    push_all(&mut cuts, row)?;
+    push_all(&mut cuts, rows, m)?;
     Ok(cuts)
 }
 
@@ -67,9 +65,9 @@ fn source_cut(graph: &Graph, m: u32) -> FlatCut
 }
 
 // What a node hands to its readers: itself and its own cuts, or the empty cut where it costs nothing.
-fn front(alloc: Global, graph: &Graph, row: &[FlatCut], m: u32) -> Result<Signed, AllocError>
+fn front(alloc: Global, graph: &Graph, rows: &CutRows, m: u32) -> Result<Signed, AllocError>
     requires { m < node_count graph.now }
-    ensures { IfOk result (λ v. v ≡ front_of graph.now m row.now) }
+    ensures { IfOk result (λ v. v ≡ front_of graph.now m (row_at rows.now m)) }
 {
     if m <= graph.sources() {
         let mut cuts = Vec::new(alloc);
@@ -77,7 +75,7 @@ fn front(alloc: Global, graph: &Graph, row: &[FlatCut], m: u32) -> Result<Signed
         let signed = Signed::of(alloc, cuts)?;
         return Ok(signed);
     }
-    let cuts = own_cuts(alloc, row, m)?;
+    let cuts = own_cuts(alloc, rows, m)?;
     let signed = Signed::of(alloc, cuts)?;
     Ok(signed)
 }
@@ -105,8 +103,8 @@ fn node_row(
 {
     let x = pair.x.0 / 2;
     let y = pair.y.0 / 2;
-    let xs = front(alloc, graph, table.cuts_of(x), x)?;
-    let ys = front(alloc, graph, table.cuts_of(y), y)?;
+    let xs = front(alloc, graph, table.rows(), x)?;
+    let ys = front(alloc, graph, table.rows(), y)?;
     merged(alloc, n, k, &xs, &ys, level)
 }
 

@@ -13,12 +13,13 @@
 ghost use Rattle.std.specs.Prelude.{◌≡◌, ◌+◌, ◌-◌, ◌^◌, ◌++◌, ◌≤◌, [], false, length, take, map, OnOk, IfOk};
 ghost use Rattle.std.specs.List.{list_any};
 ghost use Rattle.cut_enum.specs.Keeps.{AllHave, AreShared, NoneClear};
-ghost use Rattle.cut_enum.specs.Merging.{leading, subset};
-ghost use Rattle.cut_enum.specs.Signature.{signature_of};
+ghost use Rattle.cut_enum.specs.Merging.{leading};
+ghost use Rattle.cut_sets.specs.Unions.{subset};
+ghost use Rattle.cut_sets.specs.Signature.{signature_of};
 
-use crate::flat::{FlatCut, is_part};
 use crate::level::Level;
 use crate::limits::{FEWEST_GROUPED, GROUP};
+use cut_sets::{FlatCut, is_part};
 use std::alloc::{AllocError, Global};
 use std::marker::Model;
 

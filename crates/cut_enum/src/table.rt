@@ -5,28 +5,32 @@ ghost use Rattle.cut_sets.specs.Cuts.{EachContainsOne};
 ghost use Rattle.tl_fault.specs.OrMemory.{OrMemory};
 ghost use Rattle.cut_enum.specs.Refusals.{refusal_of};
 ghost use Rattle.cut_enum.specs.Limits.{IsLimit};
-ghost use Rattle.cut_enum.specs.Table.{row_at, AreRows};
+ghost use Rattle.cut_sets.specs.Rows.{row_at};
+ghost use Rattle.cut_enum.specs.Table.{AreRows};
 ghost use Rattle.cut_enum.specs.declared.table.CutErr.{CutErr};
 
 use crate::cut::Cut;
-use crate::flat::FlatCut;
 use crate::level::Level;
-use crate::limits::{MOST_LEAVES, MOST_OF_A_TABLE};
+use crate::limits::MOST_OF_A_TABLE;
 use crate::row::row_of;
 use aig_core::{Graph, Steps};
+use cut_sets::{CutRows, FlatCut, MOST_LEAVES};
 use std::alloc::{AllocError, Global};
 use std::marker::{Brand, Model};
 use std::sync::ledger::{Blank, Ledger};
 use tl_fault::{Details, OutOfMemory, Refusal, Reported};
 
 /// Why `enumerate` returns no table.
-#[derive(Debug, PartialEq, Eq, Drop)]
+#[derive(Debug, PartialEq, Eq, Drop, thiserror::Error)]
 pub enum CutErr {
     /// The first node that has more than `MOST_OF_A_NODE` minimal cuts.
+    #[error("too many cuts of node {0}")]
     NodeCuts(u32),
     /// The first node at which the table has more than `MOST_OF_A_TABLE` cuts.
+    #[error("too many cuts at node {0}")]
     TotalCuts(u32),
     /// Memory ran out.
+    #[error("out of memory")]
     Memory,
 }
 
@@ -56,41 +60,21 @@ impl<E: OutOfMemory> From<E> for CutErr {
 }
 
 /// The minimal cuts of each AND node. A source has none.
-///
-/// All cuts are in one vector, one node's after another's, each with its signature. `starts` has the index of each
-/// node's first cut, and at its end the number of all cuts.
 #[derive(Drop)]
 pub struct CutTable {
-    cuts: Vec<FlatCut>,
-    starts: Vec<u32>,
+    rows: CutRows,
+    alloc: Global,
 }
 
 impl Model for CutTable {
-    ghost use Rattle.std.specs.Prelude.{ℕ, List};
-    ghost use Rattle.cut_enum.specs.Spans.{parts_of, IsFlat};
+    ghost use Rattle.std.specs.Prelude.{ℕ, List, ◌≤◌, length, sum_by};
+    ghost use Rattle.cut_enum.specs.declared.limits.TheConstants.{MOST_OF_A_TABLE};
 
     ghost Value = { List (List (List ℕ)) };
 
-    ghost view = { λ t. parts_of t.starts.items t.cuts.items };
+    ghost view = { λ t. t.rows };
 
-    ghost invariant = { λ t. IsFlat t.starts.items t.cuts.items };
-}
-
-// The cuts between two places.
-fn part(cuts: &[FlatCut], start: usize, end: usize) -> &[FlatCut]
-    requires ordered { start ≤ end }
-    requires inside { end ≤ length cuts.now }
-    ensures { result.now ≡ slice_range cuts.now start end }
-{
-    &cuts[start..end]
-}
-
-// One more place, where there is room for it.
-fn push_place(starts: &mut Vec<u32>, place: u32)
-    requires { vec_len starts.old < vec_capacity starts.old }
-    ensures { starts.new.items ≡ starts.old.items ++ place ∷ [] }
-{
-    let _done = starts.push(place);
+    ghost invariant = { λ t. sum_by length t.rows ≤ MOST_OF_A_TABLE };
 }
 
 // The table, read with this counter of steps.
@@ -117,7 +101,7 @@ fn enumerate_with<L: Ledger>(
         if row.len() > MOST_OF_A_TABLE - table.total() {
             return Err(CutErr::TotalCuts(n));
         }
-        table.push_row(row)?;
+        table = table.with_row(&row)?;
     }
     Ok(table)
 }
@@ -161,12 +145,8 @@ impl CutTable {
     fn new(alloc: Global) -> Result<CutTable, AllocError>
         ensures { IfOk result (λ t. t ≡ []) }
     {
-        let mut starts = Vec::new(alloc);
-        starts.push(0)?;
-        Ok(CutTable {
-            cuts: Vec::new(alloc),
-            starts,
-        })
+        let rows = CutRows::new(alloc)?;
+        Ok(CutTable { rows, alloc })
     }
 
     // How many cuts there are.
@@ -174,41 +154,31 @@ impl CutTable {
         ensures sum { result ≡ sum_by length self.now }
         ensures most { result ≤ MOST_OF_A_TABLE }
     {
-        self.cuts.len()
+        self.rows.total()
     }
 
     // One more node, with these cuts.
-    fn push_row(&mut self, row: Vec<FlatCut>) -> Result<(), AllocError>
-        requires { sum_by length self.old + length row.items ≤ MOST_OF_A_TABLE }
-        ensures { OnOk result (self.new ≡ self.old ++ row.items ∷ []) }
+    fn with_row(self, row: &[FlatCut]) -> Result<CutTable, AllocError>
+        requires { sum_by length self + length row.now ≤ MOST_OF_A_TABLE }
+        ensures { IfOk result (λ t. t ≡ self ++ row.now ∷ []) }
     {
-        let mut row = row;
-        let end = self.cuts.len() + row.len();
-        self.starts.reserve(1)?;
-        self.cuts.append(&mut row)?;
-        push_place(&mut self.starts, end as u32);
-        Ok(())
+        let CutTable { rows, alloc } = self;
+        let rows = rows.with_row(row)?;
+        Ok(CutTable { rows, alloc })
     }
 
-    // The cuts of a node, in the table's order: none of a source, or of a node that the table does not have.
-    pub(crate) fn cuts_of(&self, n: u32) -> &[FlatCut]
-        ensures row { result.now ≡ row_at self.now n }
-        ensures small { length result.now ≤ MOST_OF_A_TABLE }
+    /// The rows of cuts, one for each node.
+    pub fn rows(&self) -> &CutRows
+        ensures { result.now ≡ self.now }
     {
-        let n = n as usize;
-        if n + 1 >= self.starts.len() {
-            return &[];
-        }
-        let start = self.starts[n] as usize;
-        let end = self.starts[n + 1] as usize;
-        part(&self.cuts, start, end)
+        &self.rows
     }
 
     /// The number of a node's cuts.
     pub fn count(&self, n: u32) -> u32
         ensures { result ≡ length (row_at self.now n) }
     {
-        self.cuts_of(n).len() as u32
+        self.rows.count(n)
     }
 
     /// The cut at index `i` of a node's cuts.
@@ -216,8 +186,7 @@ impl CutTable {
         requires { i < length (row_at self.now n) }
         ensures { slice_get (row_at self.now n) i ≡ Some result }
     {
-        let row = self.cuts_of(n);
-        Cut::of(*self.cuts.allocator(), row[i as usize].leaves())
+        Cut::of(self.alloc, self.rows.leaves(n, i))
     }
 
     /// The number of leaves of a cut.
@@ -226,8 +195,7 @@ impl CutTable {
         ensures count { result ≡ length (slice_index_or (row_at self.now n) i []) }
         ensures few { result ≤ MOST_LEAVES }
     {
-        let row = self.cuts_of(n);
-        row[i as usize].len()
+        self.rows.leaves(n, i).len()
     }
 
     /// The leaves of a cut, in ascending order, without a copy.
@@ -235,7 +203,6 @@ impl CutTable {
         requires { i < length (row_at self.now n) }
         ensures { slice_get (row_at self.now n) i ≡ Some result.now }
     {
-        let row = self.cuts_of(n);
-        row[i as usize].leaves()
+        self.rows.leaves(n, i)
     }
 }

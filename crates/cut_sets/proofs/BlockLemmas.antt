@@ -228,16 +228,21 @@ module _ (g : Aig) (normal : AreNormal (first_and g) g.pairs) where
         let b : p.x.0 / 2 < p.y.0 / 2 = (node_normal g m p normal is).ordered in
         fan_ins p is (leaves_block c d are out (omega arith) x) (leaves_block c d are out (omega arith) y)
 
-    -- Each list that blocks an AND node has the node itself, or one of the minimal cuts within it.
+    -- Each ascending list of at most k nodes that blocks an AND node has the node itself, or a cut of the node within it.
+    pub cut_within : (c : List ℕ) → IsAnd g n → IsAscending c → length c ≤ k → Blocks g c n → In c n ⊎ ((d : List ℕ) × IsCut g k n d × Within d c)
+    cut_within c and up few b = elim (in_or c n) [
+      | inl i ↦ inl i
+      | inr out ↦ (
+          let s = leaves_of and.1 c up in
+          let short : length s.0 ≤ length c = length_within c s.0 up s.1.ascending s.1.within in
+          inr (s.0, record { ascending = s.1.ascending; few = omega arith; below = s.1.below; blocks = leaves_block c s.0 s.1 out (omega arith) b }, s.1.within))
+    ]
+
+    -- So it has the node itself, or one of the minimal cuts within it.
     pub contains_one : (cs : List (List ℕ)) → IsAnd g n → AreMinimal g k n cs → EachContainsOne g k n cs
     contains_one cs and are = record {
-      each = λ c up few b. elim (in_or c n) [
+      each = λ c up few b. elim (cut_within c and up few b) [
         | inl i ↦ inl i
-        | inr out ↦ (
-            let s = leaves_of and.1 c up in
-            let short : length s.0 ≤ length c = length_within c s.0 up s.1.ascending s.1.within in
-            let cut : IsCut g k n s.0 = record { ascending = s.1.ascending; few = omega arith; below = s.1.below; blocks = leaves_block c s.0 s.1 out (omega arith) b } in
-            let r = minimal_within s.0 cut in
-            inr (record { by = r.0; in' = are.all r.0 r.1; part = λ m i. s.1.within m (r.2 m i) }))
+        | inr s ↦ (let r = minimal_within s.0 s.1 in inr (record { by = r.0; in' = are.all r.0 r.1; part = λ m i. s.2 m (r.2 m i) }))
       ];
     }

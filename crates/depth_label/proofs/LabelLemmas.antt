@@ -1,25 +1,11 @@
 -- The labels of the nodes are the least heights of their cuts, node by node.
-use Rattle.depth_label.proofs.Common.{◌≡◌, ℕ, ◌+◌, ◌-◌, ◌/◌, ◌<◌, ◌≤◌, List, [], ◌∷◌, ◌++◌, length, Some, None, refl, sym, ap, ◌∙◌, subst, inl, inr, ◌⊎◌, arith, get_or, length-append, get_or_push, get_or_past, slice_get-get_or, cases_lt, cases_order, Aig, first_and, node_count, IsAnd, IsNormal, AreNormal, IsNode, In, AreMinimal, member, fan_ins, Covers, AreRows, row_at, contains_one, greatest, height, LabelsValue, label_at, label_of, best_of, IsCutTable, IsBestCut, AreLabelled, AreLeastDepths, lowest, lowest_cut, AreLabelledTo}
+use Rattle.depth_label.proofs.Common.{◌≡◌, ℕ, ◌+◌, ◌-◌, ◌/◌, ◌<◌, ◌≤◌, List, [], ◌∷◌, ◌++◌, length, Some, None, refl, sym, ap, ◌∙◌, subst, inl, inr, ◌⊎◌, arith, get_or, length-append, get_or_push, get_or_past, slice_get-get_or, cases_lt, cases_order, Aig, first_and, node_count, IsAnd, IsNormal, AreNormal, IsNode, In, AreMinimal, member, fan_ins, Covers, AreRows, row_at, contains_one, height, height_same, height_bound, LabelsValue, label_at, label_of, best_of, IsCutTable, IsBestCut, AreLabelled, AreLeastDepths, AreLeastHeights, lowest, lowest_cut, AreLabelledTo}
 use Rattle.std.specs.List.{slice_get}
 use Rattle.std.proofs.Math.ListN.{get_or-append}
 use Rattle.aig_core.specs.declared.lit.Pair.{Pair}
-use Rattle.depth_label.proofs.DepthLemmas.{label_le_depth}
+use Rattle.cut_sets.proofs.LeastHeightLemmas.{least_depths}
+use Rattle.depth_label.proofs.DepthLemmas.{rows_least_heights}
 use Rattle.depth_label.proofs.LowestLemmas.{lowest_best, good_low, lowest_cut_same, lowest_leaf}
-
--- labels that agree on the leaves give the same height
-pub greatest_same : (f h : ℕ → ℕ) (c : List ℕ) → ((m : ℕ) → In c m → f m ≡ h m) → greatest f c ≡ greatest h c
-greatest_same f h [] s = refl
-greatest_same f h (x ∷ xs) s = let a : f x ≡ h x = s x (inl refl) in let b : greatest f xs ≡ greatest h xs = greatest_same f h xs (λ m i. s m (inr i)) in omega arith
-
-pub height_same : (f h : ℕ → ℕ) (c : List ℕ) → ((m : ℕ) → In c m → f m ≡ h m) → height f c ≡ height h c
-height_same f h [] s = refl
-height_same f h (x ∷ xs) s = let a : greatest f (x ∷ xs) ≡ greatest h (x ∷ xs) = greatest_same f h (x ∷ xs) s in omega arith
-
--- leaves below a node have a height of at most the node
-pub height_bound : (label : ℕ → ℕ) (c : List ℕ) (n : ℕ) → ((m : ℕ) → In c m → m < n) → ((m : ℕ) → label m ≤ m) → height label c ≤ n
-height_bound label [] n s low = omega arith
-height_bound label (x ∷ []) n s low = let a : x < n = s x (inl refl) in let b : label x ≤ x = low x in omega arith
-height_bound label (x ∷ y ∷ xs) n s low = let a : x < n = s x (inl refl) in let b : label x ≤ x = low x in let d : height label (y ∷ xs) ≤ n = height_bound label (y ∷ xs) n (λ m i. s m (inr i)) low in omega arith
 
 -- a node with a pair has a cut
 some_cut : (g : Aig) (k n : ℕ) (p : Pair) (cs : List (List ℕ)) → AreNormal (first_and g) g.pairs → IsAnd g n → 2 ≤ k → IsNode g p n → IsNormal n p → AreMinimal g k n cs → Covers cs (p.x.0 / 2 ∷ p.y.0 / 2 ∷ [])
@@ -91,6 +77,11 @@ old_leaf : (g : Aig) (cuts : ℕ → List (List ℕ)) (n : ℕ) (v : LabelsValue
     → AreLabelledTo g cuts n v → (m : ℕ) → m < n → (i : ℕ) → In (best_of v m) i → i < m
 old_leaf g cuts n v inside below w m l = next_leaf g cuts m v.labels (best_of v m) (omega arith) below (record { at_source = w.at_sources m l; at_node = w.at_nodes m l })
 
+-- no label is above its node
+pub next_low : (g : Aig) (cuts : ℕ → List (List ℕ)) (n : ℕ) (v : LabelsValue) (b : List ℕ) → n < node_count g → ((m : ℕ) → IsAnd g m → (c : List ℕ) (i : ℕ) → In (cuts m) c → In c i → i < m)
+    → AreLabelledTo g cuts n v → (n < first_and g → b ≡ []) → (IsAnd g n → b ≡ lowest_cut (label_of v) (cuts n)) → height (label_of v) b ≤ n
+next_low g cuts n v b inside below w at_source at_node = height_bound (label_of v) b n (next_leaf g cuts n v.labels b inside below (record { at_source = at_source; at_node = at_node })) w.low
+
 pub labels_push : (g : Aig) (cuts : ℕ → List (List ℕ)) (n : ℕ) (labels : List ℕ) (best : List (List ℕ)) (b : List ℕ) → n < node_count g → ((m : ℕ) → IsAnd g m → (c : List ℕ) (i : ℕ) → In (cuts m) c → In c i → i < m)
     → AreLabelledTo g cuts n (record { labels = labels; best = best }) → (n < first_and g → b ≡ []) → (IsAnd g n → b ≡ lowest_cut (label_at labels) (cuts n))
     → AreLabelledTo g cuts (n + 1) (record { labels = labels ++ height (label_at labels) b ∷ []; best = best ++ b ∷ [] })
@@ -141,8 +132,10 @@ labels_all g rows v t normal w =
       met = met;
     }
 
+-- A label is the least height of the node's cuts.
+pub labels_heights : (g : Aig) (rows : List (List (List ℕ))) (v : LabelsValue) (k : ℕ) → AreNormal (first_and g) g.pairs → AreLabelled g rows v → AreRows g k (node_count g) rows → AreLeastHeights g k (label_of v)
+labels_heights g rows v k normal w are = rows_least_heights g normal k rows (label_of v) are w.labels
+
 -- A node's label is at most its depth in every cover that has it.
 pub labels_least : (g : Aig) (rows : List (List (List ℕ))) (v : LabelsValue) (k : ℕ) → AreNormal (first_and g) g.pairs → AreLabelled g rows v → AreRows g k (node_count g) rows → AreLeastDepths g k (label_of v)
-labels_least g rows v k normal w are = record {
-  least = λ roots cover n d is depth. label_le_depth g normal k roots cover (row_at rows) (label_of v) is (λ m and. are.each m and.1 and) w.labels depth;
-}
+labels_least g rows v k normal w are = least_depths g k (label_of v) (labels_heights g rows v k normal w are)

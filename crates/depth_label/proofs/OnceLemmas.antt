@@ -1,8 +1,8 @@
 -- A graph with a table of its cuts has one label and one best cut a node.
-use Rattle.depth_label.proofs.Common.{◌≡◌, ℕ, zero, suc, ◌<◌, List, sym, ◌∙◌, subst, inl, inr, arith, cases_lt, false≢true, Aig, first_and, node_count, IsAnd, In, row_at, height, label_of, best_of, AreLabels, IsCutTable, IsAsGood, lower, tie, IsBestCut, HasOneLabelling}
+use Rattle.depth_label.proofs.Common.{◌≡◌, ℕ, zero, suc, ◌<◌, List, sym, ◌∙◌, subst, inl, inr, arith, cases_lt, false≢true, Aig, first_and, node_count, IsAnd, In, row_at, height, height_same, label_of, best_of, AreLabels, IsCutTable, IsAsGood, lower, tie, IsBestCut, HasOneLabelling}
 use Rattle.std.proofs.Math.Path.{fun_ext}
 use Rattle.cut_sets.proofs.OrderLemmas.{before_trans, before-same}
-use Rattle.depth_label.proofs.LabelLemmas.{height_same, leaves_below}
+use Rattle.depth_label.proofs.LabelLemmas.{leaves_below}
 
 module _ (g : Aig) (rows : List (List (List ℕ))) (table : IsCutTable g rows) (f h : ℕ → ℕ) (a : AreLabels g (row_at rows) f) (b : AreLabels g (row_at rows) h) where
   -- node by node, since leaves stand below their node

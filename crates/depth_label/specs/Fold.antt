@@ -1,8 +1,9 @@
 -- How the best cut of an ordered list is found: the first of the lowest ones.
-use Rattle.std.specs.Prelude.{◌≡◌, ℕ, ◌+◌, ◌^◌, ◌<◌, ◌≤◌, if◌then◌else◌, nat_lt, List, [], ◌∷◌, length, Option, Some, None, slice_index_or}
+use Rattle.std.specs.Prelude.{◌≡◌, ℕ, ◌<◌, ◌≤◌, if◌then◌else◌, nat_lt, List, [], ◌∷◌, length, Option, Some, None, slice_index_or}
 use Rattle.aig_core.specs.Aig.{Aig, first_and, IsAnd}
 use Rattle.depth_label.specs.declared.labelling.Low.{Low}
-use Rattle.depth_label.specs.Label.{height, LabelsValue, label_at, label_of, best_of}
+use Rattle.cut_sets.specs.Labels.{height}
+use Rattle.depth_label.specs.Label.{LabelsValue, label_of, best_of}
 
 -- the lower of two cuts, the first where they are as low
 abbrev pub lower_of : (ℕ → ℕ) → Option (List ℕ) → List ℕ → Option (List ℕ)
@@ -36,7 +37,3 @@ pub record AreLabelledTo (g : Aig) (cuts : ℕ → List (List ℕ)) (n : ℕ) (v
   pub at_sources : (m : ℕ) → m < n → m < first_and g → best_of v m ≡ []
   pub at_nodes : (m : ℕ) → m < n → IsAnd g m → best_of v m ≡ lowest_cut (label_of v) (cuts m)
   pub low : (m : ℕ) → label_of v m ≤ m
-
--- one more than each label fits a word
-abbrev pub AreSmall : List ℕ → Type 0
-AreSmall labels = (n : ℕ) → 1 + label_at labels n < 2 ^ 32

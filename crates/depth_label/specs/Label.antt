@@ -1,19 +1,11 @@
 -- Labels and best cuts: the least depth at which each node can stand, and a cut that reaches it.
-use Rattle.std.specs.Prelude.{◌≡◌, ℕ, ◌+◌, ◌<◌, ◌≤◌, max, true, List, [], ◌∷◌, Option, slice_index_or, ◌⊎◌}
+use Rattle.std.specs.Prelude.{◌≡◌, ℕ, ◌<◌, ◌≤◌, true, List, [], slice_index_or, ◌⊎◌}
 use Rattle.aig_core.specs.Aig.{Aig, first_and, node_count, IsAnd}
 use Rattle.list_laws.specs.Members.{In}
 use Rattle.cut_sets.specs.Sets.{before}
-use Rattle.cut_sets.specs.Covers.{IsCover, HasDepth}
-use Rattle.cut_enum.specs.Table.{AreRows, row_at}
-
--- the greatest label of a list of nodes
-abbrev pub greatest : (ℕ → ℕ) → List ℕ → ℕ
-greatest label [] = 0
-greatest label (m ∷ ms) = max (label m) (greatest label ms)
-
-abbrev pub height : (ℕ → ℕ) → List ℕ → ℕ
-height label [] = 0
-height label (m ∷ ms) = 1 + greatest label (m ∷ ms)
+use Rattle.cut_sets.specs.Labels.{height, label_at}
+use Rattle.cut_enum.specs.Table.{AreRows}
+use Rattle.cut_sets.specs.Rows.{row_at}
 
 -- a label is 0 at a source and past the last node, and the least height of an AND node's minimal cuts
 pub record AreLabels (g : Aig) (cuts : ℕ → List (List ℕ)) (label : ℕ → ℕ) : Type 0 where
@@ -28,9 +20,6 @@ pub record LabelsValue : Type 0 where
   pub best : List (List ℕ)
 
 -- the label of a node, 0 past the last one
-abbrev pub label_at : List ℕ → ℕ → ℕ
-label_at labels n = slice_index_or labels n 0
-
 abbrev pub label_of : LabelsValue → ℕ → ℕ
 label_of v n = label_at v.labels n
 
@@ -64,7 +53,3 @@ pub record AreLabelled (g : Aig) (rows : List (List (List ℕ))) (v : LabelsValu
 pub record HasOneLabelling (g : Aig) (rows : List (List (List ℕ))) : Type 0 where
   pub once : (v w : LabelsValue) → AreLabelled g rows v → AreLabelled g rows w → (n : ℕ) → label_of v n ≡ label_of w n
   pub best_once : (v w : LabelsValue) → AreLabelled g rows v → AreLabelled g rows w → (n : ℕ) → IsAnd g n → best_of v n ≡ best_of w n
-
--- no cover of the graph, whatever its cuts, has a node at a lower depth than the node's label
-pub record AreLeastDepths (g : Aig) (k : ℕ) (label : ℕ → ℕ) : Type 0 where
-  pub least : (roots : List ℕ) (cover : ℕ → Option (List ℕ)) (n d : ℕ) → IsCover g k roots cover → HasDepth g cover n d → label n ≤ d

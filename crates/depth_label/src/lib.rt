@@ -27,7 +27,6 @@
 //! those with fewer leaves first, so the first of the lowest cuts is the best one.
 #![tactic(auto)]
 
-mod height;
 mod labelling;
 mod node_labels;
 

@@ -1,40 +1,42 @@
 //! The labels of a graph's nodes.
 ghost use Rattle.std.specs.Prelude.{◌≡◌, ◌+◌, ◌<◌, ◌^◌, [], length, slice_index_or};
-ghost use Rattle.depth_label.specs.Label.{height as height_of};
-ghost use Rattle.cut_enum.specs.Table.{row_at};
+ghost use Rattle.cut_sets.specs.Labels.{height as height_of};
+ghost use Rattle.cut_sets.specs.Rows.{row_at};
 
-use crate::height::{cut_height, label_in};
 use cut_enum::{Cut, CutTable};
+use cut_sets::NodeLabels;
 use std::marker::Model;
 
 /// The label and the best cut of each node.
 #[derive(Drop)]
 pub struct Labels {
-    labels: Vec<u32>,
+    labels: NodeLabels,
     best: Vec<Cut>,
 }
 
 impl Model for Labels {
     ghost use Rattle.depth_label.specs.Label.{LabelsValue};
-    ghost use Rattle.depth_label.specs.Fold.{AreSmall};
 
     ghost Value = { LabelsValue };
 
-    ghost view = { λ a. record { labels = a.labels.items; best = a.best.items } };
-
-    ghost invariant = { λ a. AreSmall a.labels.items };
+    ghost view = { λ a. record { labels = a.labels; best = a.best.items } };
 }
 
 impl Labels {
     ghost use Rattle.depth_label.specs.Label.{LabelsValue, label_of, best_of};
-    ghost use Rattle.depth_label.specs.Fold.{AreSmall};
 
     // The labels and the best cuts of these nodes.
-    pub(crate) fn make(labels: Vec<u32>, best: Vec<Cut>) -> Labels
-        requires { AreSmall labels.items }
-        ensures { result ≡ record { labels = labels.items; best = best.items } }
+    pub(crate) fn make(labels: NodeLabels, best: Vec<Cut>) -> Labels
+        ensures { result ≡ record { labels = labels; best = best.items } }
     {
         Labels { labels, best }
+    }
+
+    /// The labels alone.
+    pub fn node_labels(&self) -> &NodeLabels
+        ensures { result.now ≡ self.now.labels }
+    {
+        &self.labels
     }
 
     /// The label of a node: 0 for a source, otherwise the least height of its minimal cuts. Past the last node it is 0.
@@ -44,7 +46,7 @@ impl Labels {
         ensures value { result ≡ label_of self.now n }
         ensures small { 1 + result < 2 ^ 32 }
     {
-        label_in(&self.labels, n)
+        self.labels.label(n)
     }
 
     /// The best cut of an AND node: the least height; among these the fewest leaves; among these the lexicographically least.
@@ -53,7 +55,7 @@ impl Labels {
         ensures { result ≡ best_of self.now n }
     {
         match self.best.get(n as usize) {
-            None => Cut::empty(*self.labels.allocator()),
+            None => Cut::empty(*self.best.allocator()),
             Some(cut) => cut.copy(),
         }
     }
@@ -62,7 +64,7 @@ impl Labels {
     pub fn cut_height(&self, cut: &Cut) -> u32
         ensures { result ≡ height_of (label_of self.now) cut.now }
     {
-        cut_height(&self.labels, cut.leaves())
+        self.labels.cut_height(cut.leaves())
     }
 
     /// The height of cut `i` of node `n` in the table of cuts.
@@ -70,6 +72,6 @@ impl Labels {
         requires { i < length (row_at table.now n) }
         ensures { result ≡ height_of (label_of self.now) (slice_index_or (row_at table.now n) i []) }
     {
-        cut_height(&self.labels, table.leaves(n, i))
+        self.labels.cut_height(table.leaves(n, i))
     }
 }

@@ -8,8 +8,8 @@ use Rattle.std.specs.List.{list_any}
 use Rattle.std.specs.Prelude.{filter}
 use Rattle.list_laws.proofs.Apart.{filtered_apart}
 use Rattle.list_laws.proofs.Members.{In-filter, in_filter}
-use Rattle.cut_enum.specs.Merging.{union}
-use Rattle.cut_enum.proofs.SetLemmas.{has_true, has_from, In-union, union_left, IsAscending-union}
+use Rattle.cut_sets.specs.Unions.{union}
+use Rattle.cut_sets.proofs.SetLemmas.{has_true, has_from, In-union, union_left, IsAscending-union}
 use Rattle.flow_cert.proofs.OnceLemmas.{ascending_apart}
 use Rattle.flow_cert.proofs.GraphLemmas.{blocks_by_leaves, fan_in_below, leaf_pos}
 use Rattle.flow_cert.proofs.LinkLemmas.{inner_pos}

@@ -12,11 +12,12 @@ pub use Rattle.aig_core.specs.Roots.{lits_of, roots_of}
 pub use Rattle.aig_core.specs.declared.lit.Kind.TheVariants.{Parameter, Regular}
 pub use Rattle.aig_core.specs.declared.lit.Pair.{Pair}
 pub use Rattle.cert_check.specs.CertificateValue.{CertificateValue, PathValue, StepValue}
-pub use Rattle.cert_check.specs.Paths.{Climbs, IsFanIn, IsPath, first, second}
+pub use Rattle.cut_sets.specs.Paths.{Climbs, IsFanIn, IsPath, first, second}
 pub use Rattle.cert_check.specs.Valid.{IsJustified, IsReached, IsValid, Needs, SomeNeeds, claim_of, complemented, node, path_count}
 pub use Rattle.cert_check.specs.WrittenText.{IsWritable, bare, bare_path, bare_step}
 pub use Rattle.cut_sets.specs.Cuts.{Blocks, CanBeLeaf, IsCut, constant, fan_ins, member, parameter}
-pub use Rattle.depth_label.specs.Label.{AreLabelled, LabelsValue, best_of, greatest, height, label_at, label_of}
+pub use Rattle.cut_sets.specs.Labels.{greatest, height, label_at}
+pub use Rattle.depth_label.specs.Label.{AreLabelled, LabelsValue, best_of, label_of}
 pub use Rattle.list_laws.proofs.Apart.{AreApart, apart_once, apart_short, joined_apart, pushed_apart}
 pub use Rattle.list_laws.proofs.Choice.{choose, choose_both}
 pub use Rattle.list_laws.proofs.Members.{In-append, In-get, In-get_or, In-left, In-map, In-place, In-push, In-right, from_map, place_in}

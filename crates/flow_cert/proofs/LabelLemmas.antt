@@ -1,25 +1,9 @@
 -- Labels do not fall on the way up, and a node has no cut that is lower than its label.
 use Rattle.flow_cert.proofs.Common.{◌≡◌, ℕ, suc, ◌+◌, ◌-◌, ◌<◌, ◌≤◌, List, [], ◌∷◌, length, refl, subst, inl, inr, ◌⊎◌, arith, cases_lt, Aig, first_and, node_count, IsAnd, AreNormal, Regular, source_below, In, Within, IsAscending, Blocks, CanBeLeaf, greatest, height, IsFanIn, AreRight, rules, ◌/◌, ◌++◌, reverse, ap, ◌∙◌, reverse-append, IsNode, IsNormal, Pair, fan_ins, IsWayDown, IsDownTo}
 use Rattle.cut_sets.proofs.BlockLemmas.{contains_one}
-use Rattle.depth_label.proofs.DepthLemmas.{greatest_le, greatest_in}
 use Rattle.flow_cert.proofs.GraphLemmas.{free_or_leaf, source_not_and}
-pub use Rattle.depth_label.proofs.DepthLemmas.{height_le}
+pub use Rattle.cut_sets.proofs.HeightLemmas.{height_le, height_member, height_within, height_none}
 use Rattle.flow_cert.proofs.GraphLemmas.{reader_and, blocked_below}
-
-pub height_member : (label : ℕ → ℕ) (c : List ℕ) (m : ℕ) → In c m → label m + 1 ≤ height label c
-height_member label [] m i = absurd i
-height_member label (x ∷ xs) m i = let a : label m ≤ greatest label (x ∷ xs) = greatest_in label (x ∷ xs) m i in omega arith
-
-height_within : (label : ℕ → ℕ) (a b : List ℕ) → Within a b → height label a ≤ height label b
-height_within label [] b w = omega arith
-height_within label (x ∷ xs) [] w = absurd (w x (inl refl))
-height_within label (x ∷ xs) (y ∷ ys) w =
-    let a : greatest label (x ∷ xs) ≤ greatest label (y ∷ ys) = greatest_le label (x ∷ xs) (greatest label (y ∷ ys)) (λ m i. greatest_in label (y ∷ ys) m (w m i)) in omega arith
-
--- only the empty cut has height 0
-height_none : (label : ℕ → ℕ) (c : List ℕ) → height label c ≡ 0 → c ≡ []
-height_none label [] e = refl
-height_none label (x ∷ xs) e = absurd (omega arith)
 
 module _ (g : Aig) (k : ℕ) (label : ℕ → ℕ) (normal : AreNormal (first_and g) g.pairs) (right : AreRight g k label) where
   -- a list that blocks a node is at least as high as the node's label, or has the node

@@ -9,7 +9,7 @@ use Rattle.aig_core.specs.declared.lit.Kind.TheVariants.{Regular}
 use Rattle.list_laws.specs.Apart.{AreApart}
 use Rattle.list_laws.specs.Members.{In}
 use Rattle.cut_sets.specs.Cuts.{CanBeLeaf}
-use Rattle.cert_check.specs.Paths.{IsFanIn, IsPath}
+use Rattle.cut_sets.specs.Paths.{IsFanIn, IsPath}
 use Rattle.flow_cert.specs.Net.{Net, SiteValue, net_of, is_inner, IsInner, IsEnd, IsLow, IsUpper}
 use Rattle.cert_check.specs.CertificateValue.{PathValue}
 

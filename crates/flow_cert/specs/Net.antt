@@ -8,7 +8,7 @@ use Rattle.list_laws.specs.Apart.{AreApart}
 use Rattle.list_laws.specs.Members.{In}
 use Rattle.cut_sets.specs.Cuts.{CanBeLeaf, AreMinimal}
 use Rattle.depth_label.specs.Label.{AreLabels, LabelsValue, label_of}
-use Rattle.cert_check.specs.Paths.{IsFanIn}
+use Rattle.cut_sets.specs.Paths.{IsFanIn}
 
 -- The node, its label as `height`, and the readers: for each node that the walk down from it through deep nodes met, the node
 -- from which it was met first, and 0 for the others.

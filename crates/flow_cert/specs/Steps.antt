@@ -7,7 +7,7 @@ use Rattle.cert_check.specs.CertificateValue.{StepValue, PathValue}
 use Rattle.flow_cert.specs.Marks.{mark}
 use Rattle.flow_cert.specs.Needed.{IsShared, HasStep}
 use Rattle.cut_sets.specs.Cuts.{CanBeLeaf}
-use Rattle.cert_check.specs.Paths.{Climbs, IsPath}
+use Rattle.cut_sets.specs.Paths.{Climbs, IsPath}
 use Rattle.cert_check.specs.Valid.{IsJustified}
 
 -- a path comes to m: it is a regular source, or an AND node with a label of at least 1

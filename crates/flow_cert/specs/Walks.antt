@@ -4,7 +4,7 @@ use Rattle.aig_core.specs.Aig.{Aig, IsAnd}
 use Rattle.list_laws.specs.Apart.{AreApart}
 use Rattle.list_laws.specs.Members.{In}
 use Rattle.cut_sets.specs.Cuts.{CanBeLeaf}
-use Rattle.cert_check.specs.Paths.{IsFanIn}
+use Rattle.cut_sets.specs.Paths.{IsFanIn}
 use Rattle.flow_cert.specs.Net.{Net, IsUpper, IsMet, AreEnds}
 
 -- m is read by v: it may have been met before or be no leaf, and else it is one more upper node or one more end

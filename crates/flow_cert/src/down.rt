@@ -1,7 +1,7 @@
 //! One path to a node with a label of at least 1.
 ghost use Rattle.std.specs.Prelude.{◌≡◌, ℕ, ◌<◌, ◌≤◌, IfOk, true, false};
 ghost use Rattle.aig_core.specs.Aig.{IsAnd, node_count};
-ghost use Rattle.cert_check.specs.Paths.{IsPath, IsFanIn};
+ghost use Rattle.cut_sets.specs.Paths.{IsPath, IsFanIn};
 ghost use Rattle.depth_label.specs.Label.{label_of};
 ghost use Rattle.flow_cert.specs.Net.{AreRight};
 ghost use Rattle.flow_cert.specs.Steps.{IsWayDown};

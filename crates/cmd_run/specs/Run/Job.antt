@@ -1,7 +1,7 @@
 -- The job of `run`: its arguments, its ports, and what its files hold and are refused for: a mapped source circuit with a script that is run.
 use Rattle.std.specs.Prelude.{ℕ, ◌+◌, ◌≤◌, nat_le, if◌then◌else◌, List, [], ◌∷◌, codes, bytes_eq, Option, Some, None, take, drop}
 use Rattle.tl_text.specs.Decimal.{decimal_of}
-use Rattle.cut_enum.specs.declared.limits.TheConstants.{MOST_LEAVES}
+use Rattle.cut_sets.specs.declared.limits.TheConstants.{MOST_LEAVES}
 use Rattle.run_text.specs.declared.event.Forms.TheVariants.{Run}
 use Rattle.cover_pick.specs.declared.rule.Rule.{Rule}
 use Rattle.cmd_run.specs.declared.run.words.PortCounts.{PortCounts}

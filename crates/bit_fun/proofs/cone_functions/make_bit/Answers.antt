@@ -1,5 +1,5 @@
 use Rattle.bit_fun.proofs.Common.{◌≡◌, ◌∙◌, ◌≤◌, ℕ, List, length, subst, sym, ap, In, with_leaves, AreLits}
-use Rattle.cut_enum.specs.declared.limits.TheConstants.{MOST_LEAVES}
+use Rattle.cut_sets.specs.declared.limits.TheConstants.{MOST_LEAVES}
 use Rattle.list_laws.proofs.Reversed.{in_reversed}
 use Rattle.bit_fun.proofs.ConeFunctionLemmas.{lits_stay, leaf_inside, bit_made}
 use Rattle.bit_fun.proofs.cone_functions.make_bit.Goals as goal

@@ -1,6 +1,6 @@
 use Rattle.blif_write.proofs.Common.{arith, ◌≤◌, ◌^◌}
 use Rattle.std.proofs.Math.Pow.{pow_mono}
-use Rattle.cut_enum.specs.declared.limits.TheConstants.{MOST_LEAVES}
+use Rattle.cut_sets.specs.declared.limits.TheConstants.{MOST_LEAVES}
 use Rattle.blif_write.proofs.rows.bit_count.Goals as goal
 
 pub returns-clause-few : goal.returns-clause-few

@@ -1,4 +1,4 @@
-use Rattle.cut_enum.proofs.SignatureLemmas.{subset-signature}
+use Rattle.cut_sets.proofs.SignatureLemmas.{subset-signature}
 use Rattle.cut_enum.proofs.cut.is_part.Goals as goal
 
 pub returns-then-a-b : goal.returns-then-a-b

@@ -1,5 +1,5 @@
 use Rattle.cut_enum.proofs.Common.{subst, IsAscending}
-use Rattle.cut_enum.proofs.UnionLemmas.{merge_some, merge_none}
+use Rattle.cut_sets.proofs.UnionLemmas.{merge_some, merge_none}
 use Rattle.cut_enum.proofs.cut.merge.Goals as goal
 
 pub returns-clause-some : goal.returns-clause-some

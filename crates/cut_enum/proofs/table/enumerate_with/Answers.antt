@@ -4,7 +4,7 @@ use Rattle.cut_enum.proofs.table.enumerate_with.Goals as goal
 
 pub loop-n-preserved : goal.loop-n-preserved
 loop-n-preserved g c =
-    rw c.in_ok-push_row.ensures (AreRows-push c.args.graph.now c.args.k c.loop-n.n c.loop-n.table c.in_ok-row.row.items c.loop-n.invariant c.in_ok-row.ensures.ok c.in_ok-row.ensures.few (omega arith))
+    rw (c.in_ok-table-2.ensures, c.deref.ensures.value) (AreRows-push c.args.graph.now c.args.k c.loop-n.n c.loop-n.table c.in_ok-row.row.items c.loop-n.invariant c.in_ok-row.ensures.ok c.in_ok-row.ensures.few (omega arith))
 
 pub returns-clause-contains : goal.returns-clause-contains
 returns-clause-contains g c n and =

@@ -1,5 +1,0 @@
-use Rattle.std.proofs.Common.{length}
-use Rattle.cut_enum.proofs.flat.+is_subset.Given as goal
-
-abbrev pub decreases-is_subset : goal.decreases-is_subset
-decreases-is_subset l = length l.ys.now

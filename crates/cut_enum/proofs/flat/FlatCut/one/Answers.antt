@@ -1,6 +1,0 @@
-use Rattle.std.proofs.Common.{arith, ◌∙◌}
-use Rattle.cut_enum.proofs.SignatureLemmas.{signature-one}
-use Rattle.cut_enum.proofs.flat.FlatCut.one.Goals as goal
-
-pub invariant_of-result : goal.invariant_of-result
-invariant_of-result c = record { few = omega arith; ascending = ((λ n i. absurd i), tt); signed = c.leaf_bit-signature.ensures ∙ signature-one c.args.leaf }

@@ -1,0 +1,125 @@
+-- Rows of cuts in a few lists: reading a cut, and putting one more cut or row at the end.
+use Rattle.cut_sets.proofs.Common.{◌≡◌, ℕ, zero, suc, ◌+◌, ◌-◌, ◌*◌, ◌^◌, ◌<◌, ◌≤◌, List, [], ◌∷◌, ◌++◌, length, get_or, map, take, drop, slice_range, sum_by, refl, sym, ap, ◌∙◌, subst, inl, inr, arith, cases_lt, length-append, length-map, length-drop, length-take-le, get_or-take, get_or-drop, get_or-map, map-append, append-nil, append_assoc, take_all, sum_by_push, In, In-append, In-get_or, IsAscending, signature_of, parts_from, parts_of, RisesTo, StartsTo, IsShort, AreFlatCuts, AreFlatRows, MOST_LEAVES, MOST_CUTS}
+use Rattle.cut_sets.proofs.SpanLemmas.{rises_le, parts_of-count, parts_of-at, parts_of-past, parts_of-push, starts_push, starts-bounds}
+
+slice_length : {A : Type 0} (items : List A) (a b : ℕ) → b ≤ length items → length (slice_range items a b) ≡ b - a
+slice_length items a b l = length-take-le (b - a) (drop a items) (omega (arith, length-drop a items))
+
+-- cuts of few leaves have few leaves together
+few_from : (most start : ℕ) (ends items : List ℕ) → RisesTo (length items) start ends → ((c : List ℕ) → In (parts_from start ends items) c → length c ≤ most)
+    → length items ≤ start + most * length (parts_from start ends items)
+few_from most start [] items r few = let e : start ≡ length items = r in omega arith
+few_from most start (e ∷ ends) items r few =
+    let l : e ≤ length items = rises_le (length items) e ends r.1 in
+    let s : length (slice_range items start e) ≡ e - start = slice_length items start e l in
+    let h : length (slice_range items start e) ≤ most = few (slice_range items start e) (inl refl) in
+    let rest : length items ≤ e + most * length (parts_from e ends items) = few_from most e ends items r.1 (λ c i. few c (inr i)) in
+    let m : most * suc (length (parts_from e ends items)) ≡ most + most * length (parts_from e ends items) = omega arith in
+    omega arith
+
+pub few_leaves : (leaves starts signatures : List ℕ) → AreFlatCuts leaves starts signatures → length leaves ≤ MOST_LEAVES * length (parts_of starts leaves)
+few_leaves leaves [] signatures flat = absurd flat.starts_to
+few_leaves leaves (s ∷ ends) signatures flat = let z : s ≡ 0 = flat.first in let h : length leaves ≤ s + MOST_LEAVES * length (parts_from s ends leaves) = few_from MOST_LEAVES s ends leaves flat.starts_to (λ c i. (flat.short c i).few) in omega arith
+
+-- one more cut
+pub pushed_parts : (leaves starts signatures cut : List ℕ) (b : ℕ) → AreFlatCuts leaves starts signatures → b ≡ length (leaves ++ cut)
+    → parts_of (starts ++ b ∷ []) (leaves ++ cut) ≡ parts_of starts leaves ++ cut ∷ []
+pushed_parts leaves starts signatures cut b flat e = parts_of-push starts leaves cut b flat.starts_to (e ∙ length-append leaves cut)
+
+first_push : (starts : List ℕ) (last b : ℕ) → StartsTo last starts → get_or starts 0 0 ≡ 0 → get_or (starts ++ b ∷ []) 0 0 ≡ 0
+first_push [] last b s e = absurd s
+first_push (x ∷ xs) last b s e = e
+
+pub flat_push : (leaves starts signatures cut : List ℕ) (b s : ℕ) → AreFlatCuts leaves starts signatures → IsShort cut → b ≡ length (leaves ++ cut) → s ≡ signature_of cut
+    → AreFlatCuts (leaves ++ cut) (starts ++ b ∷ []) (signatures ++ s ∷ [])
+flat_push leaves starts signatures cut b s flat short e f =
+    let p : parts_of (starts ++ b ∷ []) (leaves ++ cut) ≡ parts_of starts leaves ++ cut ∷ [] = pushed_parts leaves starts signatures cut b flat e in
+    let l : length leaves ≤ b = omega (arith, length-append leaves cut) in
+    record {
+      first = first_push starts (length leaves) b flat.starts_to flat.first;
+      starts_to = subst (λ n. StartsTo n (starts ++ b ∷ [])) e (starts_push (length leaves) starts b flat.starts_to l);
+      short = λ c i. elim (In-append (parts_of starts leaves) (cut ∷ []) c (subst (λ (t : List (List ℕ)). In t c) p i)) [
+        | inl j ↦ flat.short c j
+        | inr j ↦ elim j [ inl q ↦ subst IsShort (sym q) short | inr z ↦ absurd z ]
+      ];
+      signed = ap (λ t. signatures ++ t ∷ []) f ∙ ap (λ t. t ++ signature_of cut ∷ []) flat.signed ∙ sym (map-append signature_of (parts_of starts leaves) (cut ∷ [])) ∙ ap (λ (t : List (List ℕ)). map signature_of t) (sym p);
+    }
+
+-- one more row
+pub row_push : (leaves starts signatures rows : List ℕ) (leaves' starts' signatures' : List ℕ) (cuts : List (List ℕ)) (b : ℕ) → AreFlatRows leaves starts signatures rows → AreFlatCuts leaves' starts' signatures'
+    → parts_of starts' leaves' ≡ parts_of starts leaves ++ cuts → b ≡ length signatures' → length (parts_of starts leaves) + length cuts ≤ MOST_CUTS → AreFlatRows leaves' starts' signatures' (rows ++ b ∷ [])
+row_push leaves starts signatures rows leaves' starts' signatures' cuts b flat new p e most =
+    let n : length (parts_of starts' leaves') ≡ length (parts_of starts leaves) + length cuts = ap length p ∙ length-append (parts_of starts leaves) cuts in
+    let s : length signatures' ≡ length (parts_of starts' leaves') = ap length new.signed ∙ length-map (parts_of starts' leaves') signature_of in
+    let q : b ≡ length (parts_of starts leaves) + length cuts = omega arith in
+    let v : parts_of (rows ++ b ∷ []) (parts_of starts' leaves') ≡ parts_of rows (parts_of starts leaves) ++ cuts ∷ [] = ap (λ (t : List (List ℕ)). parts_of (rows ++ b ∷ []) t) p ∙ parts_of-push rows (parts_of starts leaves) cuts b flat.rows_to q in
+    record {
+      cuts = new;
+      rows_to = subst (λ m. StartsTo m (rows ++ b ∷ [])) (e ∙ s) (starts_push (length (parts_of starts leaves)) rows b flat.rows_to (omega arith));
+      sum = ap (λ (t : List (List (List ℕ))). sum_by length t) v ∙ (sum_by_push length (parts_of rows (parts_of starts leaves)) cuts ∙ (ap (λ m. m + length cuts) flat.sum ∙ sym n));
+      most = omega arith;
+    }
+
+pub row_view : (leaves starts signatures rows : List ℕ) (leaves' starts' signatures' : List ℕ) (cuts : List (List ℕ)) (b : ℕ) → AreFlatRows leaves starts signatures rows → AreFlatCuts leaves' starts' signatures'
+    → parts_of starts' leaves' ≡ parts_of starts leaves ++ cuts → b ≡ length signatures' → parts_of (rows ++ b ∷ []) (parts_of starts' leaves') ≡ parts_of rows (parts_of starts leaves) ++ cuts ∷ []
+row_view leaves starts signatures rows leaves' starts' signatures' cuts b flat new p e =
+    let n : length (parts_of starts' leaves') ≡ length (parts_of starts leaves) + length cuts = ap length p ∙ length-append (parts_of starts leaves) cuts in
+    let s : length signatures' ≡ length (parts_of starts' leaves') = ap length new.signed ∙ length-map (parts_of starts' leaves') signature_of in
+    ap (λ (t : List (List ℕ)). parts_of (rows ++ b ∷ []) t) p ∙ parts_of-push rows (parts_of starts leaves) cuts b flat.rows_to (omega arith)
+
+-- a node that has a cut has a row
+pub row_inside : (rows : List ℕ) (cuts : List (List ℕ)) (n i : ℕ) → i < length (get_or (parts_of rows cuts) n []) → n + 1 < length rows
+row_inside rows cuts n i l = elim (cases_lt (n + 1) (length rows)) [
+  | inl h ↦ h
+  | inr h ↦ (let e : length (get_or (parts_of rows cuts) n []) ≡ 0 = ap length (parts_of-past rows cuts n h) in absurd (omega arith))
+]
+
+pub row_length : (rows : List ℕ) (cuts : List (List ℕ)) (n : ℕ) → StartsTo (length cuts) rows → n + 1 < length rows → length (get_or (parts_of rows cuts) n []) ≡ get_or rows (n + 1) 0 - get_or rows n 0
+row_length rows cuts n s l = ap length (parts_of-at rows cuts n l) ∙ slice_length cuts (get_or rows n 0) (get_or rows (n + 1) 0) (starts-bounds (length cuts) rows n s l).1
+
+-- where a cut is: at its place among all cuts
+pub record IsCutAt (rows : List ℕ) (cuts : List (List ℕ)) (n i : ℕ) : Type 0 where
+  pub row : n + 1 < length rows
+  pub inside : get_or rows n 0 + i < length cuts
+  pub is : get_or cuts (get_or rows n 0 + i) [] ≡ get_or (get_or (parts_of rows cuts) n []) i []
+
+pub cut_at : (rows : List ℕ) (cuts : List (List ℕ)) (n i : ℕ) → StartsTo (length cuts) rows → i < length (get_or (parts_of rows cuts) n []) → IsCutAt rows cuts n i
+cut_at rows cuts n i s l =
+    let r : n + 1 < length rows = row_inside rows cuts n i l in
+    let h = starts-bounds (length cuts) rows n s r in
+    let e : length (get_or (parts_of rows cuts) n []) ≡ get_or rows (n + 1) 0 - get_or rows n 0 = row_length rows cuts n s r in
+    let a : i < get_or rows (n + 1) 0 - get_or rows n 0 = omega arith in
+    let order : get_or rows n 0 ≤ get_or rows (n + 1) 0 = h.0 in
+    let end : get_or rows (n + 1) 0 ≤ length cuts = h.1 in
+    record {
+      row = r;
+      inside = omega arith;
+      is = sym (ap (λ (t : List (List ℕ)). get_or t i []) (parts_of-at rows cuts n r) ∙ (get_or-take (get_or rows (n + 1) 0 - get_or rows n 0) (drop (get_or rows n 0) cuts) i [] a ∙ get_or-drop (get_or rows n 0) cuts i []));
+    }
+
+-- what reading a cut comes to: the places are inside, and what lies there is the cut with its signature
+pub record IsRead (leaves starts signatures rows : List ℕ) (row : List (List ℕ)) (n i : ℕ) : Type 0 where
+  pub row_in : n + 1 < length rows
+  pub start_in : get_or rows n 0 + i + 1 < length starts
+  pub signature_in : get_or rows n 0 + i < length signatures
+  pub leaves_are : get_or (parts_of starts leaves) (get_or rows n 0 + i) [] ≡ get_or row i []
+  pub signature_is : get_or signatures (get_or rows n 0 + i) 0 ≡ signature_of (get_or row i [])
+  pub short : IsShort (get_or row i [])
+
+pub cut_read : (leaves starts signatures rows : List ℕ) (view : List (List (List ℕ))) (n i : ℕ) → AreFlatRows leaves starts signatures rows → parts_of rows (parts_of starts leaves) ≡ view → i < length (get_or view n [])
+    → IsRead leaves starts signatures rows (get_or view n []) n i
+cut_read leaves starts signatures rows view n i flat e l0 =
+    let l : i < length (get_or (parts_of rows (parts_of starts leaves)) n []) = subst (λ (t : List (List (List ℕ))). i < length (get_or t n [])) (sym e) l0 in
+    let at : IsCutAt rows (parts_of starts leaves) n i = cut_at rows (parts_of starts leaves) n i flat.rows_to l in
+    let is : get_or (parts_of starts leaves) (get_or rows n 0 + i) [] ≡ get_or (get_or view n []) i [] = at.is ∙ ap (λ (t : List (List (List ℕ))). get_or (get_or t n []) i []) e in
+    let count : length (parts_of starts leaves) + 1 ≡ length starts = parts_of-count (length leaves) starts leaves flat.cuts.starts_to in
+    let many : length signatures ≡ length (parts_of starts leaves) = ap length flat.cuts.signed ∙ length-map (parts_of starts leaves) signature_of in
+    let inside : get_or rows n 0 + i < length (parts_of starts leaves) = at.inside in
+    record {
+      row_in = at.row;
+      start_in = omega arith;
+      signature_in = omega arith;
+      leaves_are = is;
+      signature_is = ap (λ t. get_or t (get_or rows n 0 + i) 0) flat.cuts.signed ∙ (get_or-map signature_of (parts_of starts leaves) (get_or rows n 0 + i) [] 0 inside ∙ ap signature_of is);
+      short = subst IsShort is (flat.cuts.short (get_or (parts_of starts leaves) (get_or rows n 0 + i) []) (In-get_or (parts_of starts leaves) (get_or rows n 0 + i) [] inside));
+    }
