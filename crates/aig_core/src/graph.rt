@@ -10,9 +10,13 @@ use std::marker::Model;
 use std::sync::ledger::Ledger;
 
 /// Why a node was not added.
-#[derive(Debug, PartialEq, Eq, Drop)]
+#[derive(Debug, PartialEq, Eq, Drop, thiserror::Error)]
 pub enum AigErr {
+    /// The graph holds as many AND nodes as it can.
+    #[error("full")]
     Full,
+    /// Memory ran out.
+    #[error("out of memory")]
     Memory,
 }
 

@@ -1,17 +1,17 @@
-//! The texts of a run: its script, and its output, line by line. `params` reads the parameter list; its names are exported
-//! here.
+//! The texts of a run: its script, and its output, line by line. The parameter list is read by `param_list`, whose names are
+//! exported here.
 //!
 //! [`read_script`] reads a script, one line for each [`Event`], or returns the first refusal of the text
-//! (`specs/ScriptText.antt`). `specs/Sayings.antt` has what a line says by its words; the [`Names`] of the run decide whether
-//! it is allowed. Each event that is returned fits these names (`specs/Fits.antt`).
+//! (`specs/ScriptText.antt`). `specs/Sayings.antt` defines what a line says by its words. The [`Names`] of the run decide
+//! whether it is allowed, and each event that is returned fits these names (`specs/Fits.antt`).
 //!
 //! - `setting.rt` reads the words of a `set`, `assigns.rt` finds their parameters, and `cycle_values.rt` reads a cycle's
 //!   values.
 //! - `script_line.rt` reads one line, and `script_lines.rt` all lines of a text.
 //!
 //! Each line of output is one definition in `specs/Lines.antt` and one call here, which writes the bytes of the line to a
-//! sink through a [`LineBuf`], in pieces of 4,096 bytes. A line is a list of parts, such as a word, a number, a string of
-//! bits or a list of writes, and ends with a line feed. `Piece` of `tl_piece` has the bytes that still wait.
+//! sink through a [`LineBuf`], in pieces of 4,096 bytes. A line is a list of parts (`part.rt`), such as a word, a number, a
+//! string of bits or a list of writes, and ends with a line feed. `Piece` of `tl_piece` holds the bytes that still wait.
 #![tactic(auto)]
 
 mod assigns;
