@@ -43,7 +43,17 @@ static int is_failing(void) {
     count += 1;
     return count == failing;
 }
+static char events[65536];
+static size_t used, last;
 static void tell(const char *kind, const char *name) { snprintf(told, sizeof told, "%s %s", kind, name); }
+static void note(const char *kind, int file) {
+    char line[300];
+    size_t size = snprintf(line, sizeof line, "%s %s\n", kind, names[file]);
+    if (used + size >= sizeof events || !strcmp(events + last, line)) return;
+    last = used;
+    memcpy(events + used, line, size + 1);
+    used += size;
+}
 static int fail(void) { errno = EIO; return -1; }
 int open(const char *name, int flags, ...) {
     static int (*next)(const char *, int, ...);
@@ -79,7 +89,17 @@ ssize_t write(int file, const void *bytes, size_t size) {
         broken = file;
         return next(file, bytes, size / 2);
     }
+    note("write", file);
     return next(file, bytes, size);
+}
+int ftruncate(int file, off_t size) {
+    static int (*next)(int, off_t);
+    if (!next) next = dlsym(RTLD_NEXT, "ftruncate");
+    if (is_failing()) {
+        tell("write", names[file]);
+        return fail();
+    }
+    return next(file, size);
 }
 int fdatasync(int file) {
     static int (*next)(int);
@@ -88,12 +108,13 @@ int fdatasync(int file) {
         tell("sync", names[file]);
         return fail();
     }
+    note("sync", file);
     return next(file);
 }
 __attribute__((destructor)) static void end(void) {
     const char *path = getenv("TOLD");
     FILE *file = path ? fopen(path, "w") : NULL;
-    if (file) { fprintf(file, "%ld %s", count, told); fclose(file); }
+    if (file) { fprintf(file, "%ld %s\n%s", count, told, events); fclose(file); }
 }
 """
 
@@ -149,9 +170,15 @@ class Left:
                 with open(f"{folder}/{name}", "rb") as file:
                     self.files[name] = file.read()
             with open(told, encoding="utf-8") as file:
-                count, *what = file.read().split(" ")
+                first, *self.events = file.read().splitlines()
             os.remove(told)
+            count, *what = first.split(" ")
             self.count, self.kind, self.name = int(count), what[0], what[-1]
+
+    def has_synced(self, outputs: list[str]) -> bool:
+        """Whether each file of these was synced once, after its last byte, and nothing else was."""
+        syncs = [event[5:] for event in self.events if event.startswith("sync ")]
+        return syncs == outputs and all(f"write {name}" not in self.events[self.events.index(f"sync {name}") :] for name in outputs)
 
     def ends(self, status: int, out: bytes, err: bytes) -> bool:
         """Whether the call ended so."""
@@ -194,6 +221,8 @@ def has_ports(left: Left, whole: Left, spares: int) -> bool:
 
 def is_right(left: Left, whole: Left, outputs: list[str], spares: int) -> bool:
     """Whether what is left is what has to be, after what failed."""
+    if left.status == 0 and not left.has_synced(outputs):
+        return False
     if left.name == "err":
         return left.status == whole.status and whole.err.startswith(left.err) and left.out == whole.out and left.files == whole.files
     if left.name == "out":
@@ -213,6 +242,9 @@ def try_call(program: str, shim: str, words: str, outputs: list[str], spares: in
     """Fails each call of one command in turn. Returns how many runs left what they have to, and how many did not."""
     passed = failed = 0
     whole = Left(program, shim, words, 0, False)
+    if not whole.has_synced(outputs if whole.status == 0 else []):
+        failed += 1
+        print(f"{words}: the files {outputs} aren't each synced once, after their last byte: {whole.events}")
     for failing in range(1, whole.count + 1):
         for is_half in (False, True):
             left = Left(program, shim, words, failing, is_half)

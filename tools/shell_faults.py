@@ -3,9 +3,10 @@
 
     python3 tools/shell_faults.py [PROGRAM ..]
 
-By default it runs both programs; call `./tlut` once before, to build them. It tries a pipe that nobody reads, a full disk, closed streams,
-an output that is a file which the command writes, a folder instead of a file, a file without rights, a FIFO, and arguments that aren't
-UTF-8. The last line is `N passed, M failed`, and the exit status is 1 if M isn't 0.
+By default it runs both programs; call `./tlut` once before, to build them. It tries a pipe that nobody reads, a full disk, a limit of a
+file's size, closed streams, an output or an error stream that is a file which the command writes, also where there is no /proc, one file
+by two names, a folder instead of a file, a file without rights, a FIFO, and arguments that aren't UTF-8. The last line is
+`N passed, M failed`, and the exit status is 1 if M isn't 0.
 """
 
 from __future__ import annotations
@@ -13,6 +14,7 @@ from __future__ import annotations
 import os
 import resource
 import shutil
+import signal
 import subprocess
 import sys
 import tempfile
@@ -51,6 +53,8 @@ COMMANDS: list[tuple[list[str], str, dict[str, bytes]]] = [
 ]
 FAILED = "tlut: write failed\n"
 NOBODY = 65534
+# Begins a command with an empty folder as its /proc.
+WITHOUT_PROC = ["unshare", "-m", "sh", "-c", 'mount -t tmpfs none /proc && exec "$@"', "sh"]
 # The title of each call, and whether it ended as it has to.
 Outcomes = Iterator[tuple[str, bool]]
 
@@ -60,8 +64,9 @@ class Ran:
 
     program = shared.PROGRAM
 
-    def __init__(self, words: Sequence[Union[str, bytes]], prepare: Optional[Callable[[str], object]] = None, stdout: Union[int, TextIO] = subprocess.PIPE, small_stack: bool = False, as_nobody: bool = False, closed: tuple[int, ...] = (), onto: Optional[str] = None) -> None:
-        """`closed` has the descriptors of streams that are closed, and `onto` the file that standard output is."""
+    def __init__(self, words: Sequence[Union[str, bytes]], prepare: Optional[Callable[[str], object]] = None, stdout: Union[int, TextIO] = subprocess.PIPE, small_stack: bool = False, as_nobody: bool = False, closed: tuple[int, ...] = (), onto: Optional[str] = None, errors_onto: Optional[str] = None, has_limit: bool = False, has_proc: bool = True) -> None:
+        """`closed` has the descriptors of streams that are closed, `onto` the file that standard output is, and `errors_onto` that of standard
+        error. With `has_limit` no file may grow, and the signal that tells so is ignored."""
         with tempfile.TemporaryDirectory() as folder:
             os.chmod(folder, 0o777)
             program = shutil.copy(self.program, f"{folder}/tlut")
@@ -75,15 +80,19 @@ class Ran:
             def limits() -> None:
                 if small_stack:
                     resource.setrlimit(resource.RLIMIT_STACK, (256 * 1024, 256 * 1024))
-                if onto:
-                    os.dup2(os.open(f"{folder}/{onto}", os.O_WRONLY | os.O_CREAT | os.O_TRUNC, 0o666), 1)
+                if has_limit:
+                    signal.signal(signal.SIGXFSZ, signal.SIG_IGN)
+                    resource.setrlimit(resource.RLIMIT_FSIZE, (0, 0))
+                for name, stream in ((onto, 1), (errors_onto, 2)):
+                    if name:
+                        os.dup2(os.open(f"{folder}/{name}", os.O_WRONLY | os.O_CREAT | os.O_TRUNC, 0o666), stream)
                 for stream in closed:
                     os.close(stream)
                 if as_nobody:
                     os.setuid(NOBODY)
 
             done = subprocess.run(
-                [program, *words], cwd=folder, stdin=subprocess.DEVNULL, stdout=stdout, stderr=subprocess.PIPE, timeout=60, preexec_fn=limits, check=False
+                [*([] if has_proc else WITHOUT_PROC), program, *words], cwd=folder, stdin=subprocess.DEVNULL, stdout=stdout, stderr=subprocess.PIPE, timeout=60, preexec_fn=limits, check=False
             )
             self.status, self.out, self.err = done.returncode, (done.stdout or b"").decode(), done.stderr.decode()
             self.files = {name: self.bytes_of(f"{folder}/{name}") for name in os.listdir(folder) if name != "tlut"}
@@ -155,6 +164,9 @@ def single_calls() -> Outcomes:
     if os.getuid() == 0:
         locked = Ran(RUN, lambda folder: os.chmod(f"{folder}/mux.blif", 0), as_nobody=True)
         yield "a NETLIST without rights", locked.is_so(5, "", "tlut: mux.blif: read failed\n")
+    ports = Ran([*RUN[:5], "2", "0"])
+    sent = {"port0.bits": b"0=0\n1=0\n1=1\n", "port1.bits": b"2=1\n3=1\n2=0\n"}
+    yield "the files of two ports", ports.is_so(0, HEADER + "set 2 1=1 2=0\n", "") and ports.files == {**FILES, **sent}
     port = Ran([*RUN[:5], "1", "0"], folder_at("port0.bits"))
     yield "a folder as a port", port.is_so(7, HEADER, "tlut: port failed\n")
 
@@ -194,6 +206,8 @@ def stream_calls() -> Outcomes:
         for name in written:
             ran = Ran(words, onto=name)
             yield f"{title}: the output is {name}", ran.is_so(6, "", FAILED) and ran.files == {**FILES, name: b""}
+            ran = Ran(words, errors_onto=name)
+            yield f"{title}: the error stream is {name}", ran.is_so(6, "", "") and ran.files == {**FILES, name: FAILED.encode()}
 
 
 def shared_calls() -> Outcomes:
@@ -202,21 +216,88 @@ def shared_calls() -> Outcomes:
     ran = Ran([*spec, "/dev/stdout"], onto="new.blif")
     yield "OUT is /dev/stdout, and a file", ran.is_so(6, "", FAILED) and ran.files == {**FILES, "new.blif": b""}
     yield "OUT is /dev/stdout, and a pipe", Ran([*spec, "/dev/stdout"]).is_so(0, SPEC + HEADER, "")
-    linked = Ran([*spec, "new.blif"], lambda folder: os.symlink("other.blif", f"{folder}/new.blif"), onto="other.blif")
-    yield "OUT is a link to the output", linked.is_so(6, "", FAILED)
+    ran = Ran([*spec, "new.blif"], lambda folder: os.symlink("other.blif", f"{folder}/new.blif"), onto="other.blif")
+    yield "OUT is a link to the output", ran.is_so(6, "", FAILED)
     ports = Ran([*RUN[:5], "1", "0"], onto="port0.bits")
     yield "a port's file is the output", ports.is_so(6, "", FAILED) and ports.files["port0.bits"] == b""
+    printed = (HEADER + "set 2 1=1 2=0\n").encode()
     ran = Ran(RUN, onto="port0.bits")
-    yield "no port serves, and the output is named as one", ran.is_so(0, "", "") and ran.files["port0.bits"] == (HEADER + "set 2 1=1 2=0\n").encode()
+    yield "no port serves, and the output is named as one", ran.is_so(0, "", "") and ran.files["port0.bits"] == printed
+    ran = Ran([*RUN[:5], "1", "0"], onto="port3.bits")
+    yield "the output is named as a port that isn't used", ran.is_so(0, "", "") and ran.files["port3.bits"] == printed
+    ran = Ran([*RUN[:5], "1", "1"], onto="port1.bits")
+    yield "the output is a spare's file", ran.is_so(6, "", FAILED) and ran.files == {**FILES, "port1.bits": b""}
+    ran = Ran([*RUN[:5], "1", "0"], errors_onto="port0.bits")
+    yield "the error stream is a port's file", ran.is_so(6, "", "") and ran.files == {**FILES, "port0.bits": FAILED.encode()}
+    ran = Ran([*RUN[:5], "9", "0"], onto="port3.bits")
+    yield "more ports than there are, and the output is named as one", ran.status == 2 and ran.err.startswith("tlut: usage: ") and ran.files == {**FILES, "port3.bits": b""}
+    ran = Ran([*spec, "new.blif"], stdout=open("/dev/full", "w", encoding="utf-8"), errors_onto="new.blif")
+    yield "the error stream is OUT, and the output is full", ran.is_so(6, "", "") and ran.files == {**FILES, "new.blif": FAILED.encode()}
     ran = Ran(["spec", "2", "mux.blif", "mux.scr", "new.blif"], closed=(2,))
     yield "a fault line goes into no file", ran.is_so(3, "", "") and ran.is_as_before()
+
+
+def linked(make: Callable[[str, str], object], name: str, other: str, content: Optional[bytes] = None) -> Callable[[str], None]:
+    """Makes `other` a link to a file, which is there with this content, or isn't."""
+
+    def put(folder: str) -> None:
+        if content is not None:
+            with open(f"{folder}/{name}", "wb") as file:
+                file.write(content)
+        make(f"{folder}/{name}", f"{folder}/{other}")
+
+    return put
+
+
+def twice_named_calls() -> Outcomes:
+    """The title and the outcome of calls that write one file by two names."""
+    template = Ran(["map", "2", "mux.blif", "mux.par", "t", "m"]).files["t"]
+    links: list[tuple[str, str, Optional[Callable[[str], None]]]] = [
+        ("another name", "./t", None),
+        ("a symbolic link", "u", linked(os.symlink, "t", "u")),
+        ("a hard link", "u", linked(os.link, "t", "u", b"old")),
+    ]
+    for title, pack, prepare in links:
+        ran = Ran(["map", "2", "mux.blif", "mux.par", "t", pack], prepare)
+        yield f"PACK is TEMPLATE by {title}", ran.is_so(6, "", FAILED) and ran.files["t"] == template
+    ran = Ran(["map", "2", "mux.blif", "mux.par", "/dev/null", "/dev/../dev/null"])
+    yield "TEMPLATE and PACK are the null device", ran.is_so(0, HEADER, "") and ran.is_as_before()
+    for make, content in ((os.symlink, None), (os.link, b"old")):
+        ports = linked(make, "port0.bits", "port1.bits", content)
+        ran = Ran([*RUN[:5], "2", "0"], ports)
+        yield "two ports share a file", ran.is_so(7, HEADER, "tlut: port failed\n") and ran.files["port0.bits"] == b"0=0\n1=0\n"
+        ran = Ran([*RUN[:5], "2", "1"], ports)
+        whole = {"port0.bits": b"0=0\n1=0\n1=1\n", "port2.bits": b"2=1\n3=1\n2=0\n"}
+        yield "two ports share a file, and a spare stands by", ran.is_so(0, HEADER + "set 2 1=1 2=0\n", "") and ran.has(whole)
+
+
+def limited_calls() -> Outcomes:
+    """The title and the outcome of calls with a limit of a file's size, and of calls where there is no /proc."""
+    for words, _, written in COMMANDS:
+        ran = Ran(words, has_limit=True)
+        if written:
+            yield f"{' '.join(words)}: no file may grow", ran.is_so(6, "", FAILED) and all(not ran.files[name] for name in ran.files if name not in FILES)
+    port = Ran([*RUN[:5], "1", "0"], has_limit=True)
+    yield "no file of a port may grow", port.is_so(7, HEADER, "tlut: port failed\n")
+    if subprocess.run([*WITHOUT_PROC, "true"], capture_output=True, check=False).returncode != 0:
+        print("left out: calls without /proc, since it can't be hidden here")
+        return
+    for words, out, written in COMMANDS:
+        title = f"{' '.join(words)}: no /proc"
+        yield title, Ran(words, has_proc=False).is_so(0, out, "")
+        yield f"{title}, and another file is the output", Ran(words, onto="other", has_proc=False).is_so(0, "", "")
+        for name in written:
+            ran = Ran(words, onto=name, has_proc=False)
+            yield f"{title}, and the output is {name}", ran.is_so(6, "", FAILED) and ran.files == {**FILES, name: b""}
+            ran = Ran(words, errors_onto=name, has_proc=False)
+            yield f"{title}, and the error stream is {name}", ran.is_so(6, "", "") and ran.files == {**FILES, name: FAILED.encode()}
 
 
 def main() -> int:
     passed = failed = 0
     for program in shared.some_programs(__doc__, shared.PROGRAMS):
         Ran.program = program
-        for calls in (single_calls, stream_calls, shared_calls):
+        for calls in (single_calls, stream_calls, shared_calls, twice_named_calls, limited_calls):
             for title, outcome in calls():
                 if not outcome:
                     print(f"{os.path.basename(program)}: {title}: NO")

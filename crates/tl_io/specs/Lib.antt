@@ -14,6 +14,7 @@ pub mod Store
 pub mod ShelfValue
 pub mod MemFiles
 pub mod ShelfCounts
+pub mod Written
 pub mod DiskValue
 pub mod StdSinkValue
 pub mod Writes

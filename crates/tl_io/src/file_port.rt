@@ -5,19 +5,23 @@ ghost use Rattle.tl_io.specs.Counts.{count_of};
 ghost use Rattle.tl_io.specs.Port.{PortSeen, new_port};
 ghost use Rattle.tl_io.specs.PortLine.{port_line};
 
+use crate::file_id::{FileId, emptied, opened};
 use crate::inner_write::write_whole;
 use crate::told_name::{NAME_ROOM, ToldName};
 use crate::{ConfigPort, Failed, Write};
 use itoa::Buffer;
-use std::fs;
 use std::fs::OpenFile;
 use std::marker::Model;
 use std::rt::Files;
+
+/// The files of the configuration ports of a program, in their order.
+pub const PORT_FILES: &[&str] = &["port0.bits", "port1.bits", "port2.bits", "port3.bits"];
 
 /// A port that writes each bit to a file as a line `ADDRESS=BIT`. Its clauses say nothing about the file.
 #[derive(Drop)]
 pub struct FilePort<R: Files + Drop> {
     rt: R,
+    before: usize,
     name: ToldName,
     is_name_whole: bool,
     file: Option<R::File>,
@@ -37,10 +41,19 @@ impl<R: Files + Drop> FilePort<R> {
     pub fn make(rt: R, name: &'static str) -> FilePort<R>
         ensures { result ≡ new_port }
     {
+        FilePort::beside(rt, name, 0)
+    }
+
+    /// Creates a port as `make` does. If its file is also that of one of the first `before` ports of `PORT_FILES`, by whatever
+    /// name, every write fails.
+    pub fn beside(rt: R, name: &'static str, before: usize) -> FilePort<R>
+        ensures { result ≡ new_port }
+    {
         let mut told = ToldName::new();
         told.set(name.as_bytes());
         FilePort {
             rt,
+            before,
             name: told,
             is_name_whole: name.len() <= NAME_ROOM,
             file: None,
@@ -50,15 +63,26 @@ impl<R: Files + Drop> FilePort<R> {
     }
 }
 
-// Creates the file of this name, or empties it.
-fn created<R: Files>(rt: &R, name: &[u8]) -> Result<R::File, Failed> {
+// Creates the file of this name, or empties it, unless it is that of one of the first ports.
+fn created<R: Files>(rt: &R, name: &[u8], before: usize) -> Result<R::File, Failed> {
     let Ok(name) = std::str::from_utf8(name) else {
         return Err(Failed);
     };
-    match fs::create(rt, name) {
-        Ok(file) => Ok(file),
-        Err(_) => Err(Failed),
+    let file = opened(rt, name)?;
+    let Ok(metadata) = file.metadata() else {
+        return Err(Failed);
+    };
+    if let Some(id) = FileId::of(&metadata) {
+        if PORT_FILES
+            .iter()
+            .take(before)
+            .any(|other| FileId::at(rt, other) == Some(id))
+        {
+            return Err(Failed);
+        }
     }
+    emptied(&file, &metadata)?;
+    Ok(file)
 }
 
 // The length of the longest line: the 10 digits of an address, `=`, a bit and a line feed.
@@ -81,12 +105,13 @@ fn write_line<W: std::io::Write>(writer: &mut W, address: u32, bit: bool) -> Res
 fn send<R: Files>(
     rt: &R,
     name: &[u8],
+    before: usize,
     file: &mut Option<R::File>,
     address: u32,
     bit: bool,
 ) -> Result<(), Failed> {
     if file.is_none() {
-        *file = Some(created(rt, name)?);
+        *file = Some(created(rt, name, before)?);
     }
     match file {
         Some(file) => write_line(file, address, bit),
@@ -103,7 +128,15 @@ impl<R: Files + Drop> ConfigPort for FilePort<R> {
 
     fn write(&mut self, address: u32, bit: bool) -> Result<(), Failed> {
         if self.is_name_whole
-            && send(&self.rt, self.name.bytes(), &mut self.file, address, bit).is_ok()
+            && send(
+                &self.rt,
+                self.name.bytes(),
+                self.before,
+                &mut self.file,
+                address,
+                bit,
+            )
+            .is_ok()
         {
             self.accepted = self.accepted.saturating_add(1);
             return Ok(());

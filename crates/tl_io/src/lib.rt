@@ -28,6 +28,8 @@
 mod boxed_port;
 mod disk_shelf;
 mod fault_plan;
+mod file_id;
+mod file_ids;
 mod file_port;
 mod file_sink;
 mod inner_write;
@@ -42,11 +44,13 @@ mod shelf;
 mod shelf_counts;
 mod sink;
 mod std_sink;
+mod sync_counts;
 mod told_name;
 mod whole_file;
 
 pub use disk_shelf::DiskShelf;
-pub use file_port::FilePort;
+pub use file_id::FileId;
+pub use file_port::{FilePort, PORT_FILES};
 pub use file_sink::FileSink;
 pub use mem_port::MemPort;
 pub use mem_shelf::MemShelf;

@@ -1,5 +1,7 @@
 -- What public clauses say: the forms and the walk of each command,
 pub mod Commands
+-- what each one writes,
+pub mod Outputs
 -- how a call ends, whatever the command,
 pub mod Call
 -- what one command writes and another plays,

@@ -6,15 +6,19 @@
 //!
 //! - `call.rt` has both calls, and the choice of a command's job.
 //! - `command.rt` parses the arguments of all commands, and writes the fault line.
+//! - `outputs.rt` says which files a call writes, and how many ports it uses.
 //!
-//! `specs/Commands.antt` has the forms and the walk of each command, and `specs/Call.antt` the meaning of each status. A new
-//! command adds an entry to `command.rt`, to `specs/Commands.antt`, and to the choice in `call.rt` with its answer.
+//! `specs/Commands.antt` has the forms and the walk of each command, `specs/Outputs.antt` what each one writes, and
+//! `specs/Call.antt` the meaning of each status. A new
+//! command adds an entry to `command.rt`, to `outputs.rt` and to their `specs/`, and to the choice in `call.rt` with its answer.
 #![tactic(auto)]
 
 mod call;
 mod command;
+mod outputs;
 
 pub use call::{tlut, tlut_by};
 pub use cmd_base::{File, Outcome, Status};
 pub use command::report;
 pub use cover_pick::Rule;
+pub use outputs::{Outputs, outputs_of};

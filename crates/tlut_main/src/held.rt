@@ -1,6 +1,7 @@
 //! What a call waits for before it is done: its files are on their device, and nothing is left in the output's buffer.
 ghost use Rattle.std.specs.Prelude.{◌≡◌, ◌⊎◌, [], IfOk};
 ghost use Rattle.std.specs.Io.Buffered.{writer_buffer};
+ghost use Rattle.tl_io.specs.DiskValue.{all_synced};
 
 use std::alloc::{AllocError, Global};
 use std::io::{BufWriter, Write};
@@ -35,14 +36,14 @@ pub fn let_go<W: Write + Drop, E: Sink>(
     Status::WriteFault
 }
 
-/// Waits until the device has the files that a call wrote. If the device refuses them, a call that was done ends with a write
-/// fault instead. So if a call is done, its files have had no fault.
+/// Waits until the devices have the files that a call wrote. If a device refuses bytes, a call that was done ends with a write
+/// fault instead. So if a call is done, its files have had no fault, and the devices have all bytes of each one.
 pub fn settle<R: Files + Drop, E: Sink>(
     shelf: &mut DiskShelf<R>,
     status: Status,
     err: &mut E,
 ) -> Status
-    ensures whole { result ≡ Status.Done → shelf.new ≡ shelf.old }
+    ensures whole { result ≡ Status.Done → shelf.new ≡ all_synced shelf.old }
     ensures kept { (result ≡ status) ⊎ ((status ≡ Status.Done) × (result ≡ Status.WriteFault)) }
 {
     if status != Status::Done || shelf.settle().is_ok() {

@@ -1,20 +1,24 @@
 //! Checks of the standard streams before the program opens any file.
 //!
 //! A file that is opened gets the lowest free descriptor. If a standard stream is closed, this is the stream's descriptor,
-//! and output for the stream would go into the file.
+//! and output for the stream would go into the file. If a stream is a file that the command writes, its lines would spoil the
+//! file's text.
 
-use crate::is_portless;
-use std::fs::{File, Metadata};
+use std::fs::File;
+use std::io::IsTerminal;
 use std::os::fd::AsFd;
-use std::os::unix::fs::MetadataExt;
 use std::rt::Files;
 use std::{fs, io};
+use tl_io::FileId;
+use tlut_cli::Outputs;
 
 // The null device.
 const NULL: &str = "/dev/null";
 
-// Stdout as a file.
-const OUTPUT: &str = "/dev/stdout";
+// The open files behind stdout and stderr. `/dev/stdout` could be a file of its own.
+const OUTPUT: &str = "/proc/self/fd/1";
+
+const ERRORS: &str = "/proc/self/fd/2";
 
 // Returns whether a stream is open: the descriptor of a closed one can't be duplicated.
 fn is_open<S: AsFd>(stream: &S) -> bool {
@@ -55,37 +59,66 @@ pub fn fill_closed<R: Files, I: AsFd, E: AsFd>(
     })
 }
 
-// Returns whether a name is that of this file.
-fn is_same<R: Files>(rt: &R, name: &str, file: &Metadata) -> bool {
-    match fs::metadata(rt, name) {
-        Ok(named) => named.dev() == file.dev() && named.ino() == file.ino(),
-        Err(_) => false,
+// The plain file that a stream is, as far as the system tells it.
+#[derive(Clone, Copy)]
+enum Stream {
+    File(FileId),
+    // A terminal, a pipe or a device: no plain file.
+    Other,
+    // The system doesn't tell.
+    Untold,
+}
+
+// Which file the stream with this descriptor is.
+fn stream_of<R: Files, S: IsTerminal>(rt: &R, stream: &S, descriptor: &str) -> Stream {
+    if stream.is_terminal() {
+        return Stream::Other;
+    }
+    match fs::metadata(rt, descriptor) {
+        Ok(metadata) => match FileId::of(&metadata) {
+            Some(file) => Stream::File(file),
+            None => Stream::Other,
+        },
+        Err(_) => Stream::Untold,
     }
 }
 
-// Returns whether a command writes this file: one of its last arguments names it, or it is one of the ports.
-fn writes<R: Files>(rt: &R, words: &[String], ports: &[&str], file: &Metadata) -> bool {
-    if !is_portless(words) {
-        return ports.iter().any(|port| is_same(rt, port, file));
-    }
-    let Some(command) = words.first() else {
+// Returns whether a name may lead to the file that a stream is. A name that leads to no plain file doesn't.
+fn may_lead_to<R: Files>(rt: &R, name: &str, stream: Stream) -> bool {
+    let Some(file) = FileId::at(rt, name) else {
         return false;
     };
-    let (count, first) = match command.as_str() {
-        "spec" | "prove" => (5, 4),
-        "map" => (6, 4),
-        "graph" => (4, 3),
-        "repack" => (3, 2),
-        _ => return false,
-    };
-    words.len() == count && words.iter().skip(first).any(|name| is_same(rt, name, file))
+    match stream {
+        Stream::File(own) => own == file,
+        Stream::Other => false,
+        Stream::Untold => true,
+    }
 }
 
-/// Returns whether stdout is a plain file that the command given by these arguments writes, or one of the ports of `run`.
-/// Printed output would spoil such a file.
-pub fn writes_its_output<R: Files>(rt: &R, words: &[String], ports: &[&str]) -> bool {
-    match fs::metadata(rt, OUTPUT) {
-        Ok(output) if output.is_file() => writes(rt, words, ports, &output),
-        _ => false,
+// Returns whether a call may write the file that a stream is. The first names of `ports` are those of its ports.
+fn may_write<R: Files>(rt: &R, outputs: Outputs, ports: &[&str], stream: Stream) -> bool {
+    match outputs {
+        Outputs::Nothing => false,
+        Outputs::File(name) => may_lead_to(rt, name, stream),
+        Outputs::Files(first, second) => {
+            may_lead_to(rt, first, stream) || may_lead_to(rt, second, stream)
+        }
+        Outputs::Ports(count) => ports
+            .iter()
+            .take(count)
+            .any(|port| may_lead_to(rt, port, stream)),
     }
+}
+
+/// Returns whether stdout or stderr may be a plain file that a call writes, or a file of one of its ports, which have the
+/// first of these names. A line that is printed would spoil such a file.
+pub fn may_spoil_files<R: Files, O: IsTerminal, E: IsTerminal>(
+    rt: &R,
+    outputs: Outputs,
+    ports: &[&str],
+    output: &O,
+    errors: &E,
+) -> bool {
+    may_write(rt, outputs, ports, stream_of(rt, output, OUTPUT))
+        || may_write(rt, outputs, ports, stream_of(rt, errors, ERRORS))
 }

@@ -1,0 +1,35 @@
+//! Plays what no contract says of the stages below the commands, and prints what came of it.
+//!
+//! - `pairs.rt` makes each pair of 1,500 sources twice. A graph that searched its nodes for a pair one by one would compare
+//!   some 10^12 pairs, and wouldn't end in the time that a program has.
+//! - `small.rt` lists the cuts of two small graphs, which were found by hand, and the values of one of them.
+//! - `changes.rt` makes 4,000,000 changes of a pack with 60,000 nodes, each of which reads one of them. Reading all of them at
+//!   each change wouldn't end in that time either.
+#![tactic(auto)]
+
+mod changes;
+mod pairs;
+mod small;
+mod stop;
+
+use crate::changes::play_changes;
+use crate::pairs::make_pairs;
+use crate::small::{list_cuts, list_values};
+use crate::stop::Stop;
+use std::process::ExitCode;
+
+fn play(rt: &HostRuntime) -> Result<(), Stop> {
+    make_pairs(rt)?;
+    list_cuts(rt)?;
+    list_values(rt)?;
+    play_changes(rt)
+}
+
+fn main(rt: HostRuntime) -> ExitCode {
+    match play(&rt) {
+        Ok(()) => ExitCode::from(0),
+        Err(Stop::Refused) => ExitCode::from(3),
+        Err(Stop::Outside) => ExitCode::from(6),
+        Err(Stop::Memory) => ExitCode::from(8),
+    }
+}

@@ -1,0 +1,42 @@
+//! What a call writes besides its output.
+ghost use Rattle.std.specs.Prelude.{◌≡◌, map, string_bytes};
+ghost use Rattle.tlut_cli.specs.Commands.{command_of};
+ghost use Rattle.tlut_cli.specs.Outputs.{written_by, outputs_seen};
+
+use crate::command::{Command, read_command};
+use cover_pick::Rule;
+
+/// What a call writes besides its output.
+#[derive(Clone, Copy)]
+pub enum Outputs<'a> {
+    /// Nothing.
+    Nothing,
+    /// The file of this name.
+    File(&'a str),
+    /// The files of these names, one after the other.
+    Files(&'a str, &'a str),
+    /// This many ports: those that serve and those that are spares.
+    Ports(usize),
+}
+
+/// Returns what the command given by the arguments writes, with the rule that chooses cuts and the number of ports passed in.
+/// It is nothing if no command has this form.
+pub fn outputs_of(rule: Rule, ports: usize, words: &[String]) -> Outputs<'_>
+    ensures { outputs_seen result ≡ written_by (command_of rule ports (map string_bytes words.now)) }
+{
+    match read_command(rule, ports, words) {
+        None => Outputs::Nothing,
+        Some(command) => match command {
+            Command::Run(words) => Outputs::Ports(words.ports.serving + words.ports.spares),
+            Command::Spec(words) => Outputs::File(words.out),
+            Command::Map(words) => Outputs::Files(words.template, words.pack),
+            Command::Repack(words) => Outputs::File(words.new),
+            Command::Prove(words) => Outputs::File(words.cert),
+            Command::Graph(words) => Outputs::File(words.out),
+            Command::Bits(_) => Outputs::Nothing,
+            Command::Gen(_) => Outputs::Nothing,
+            Command::Audit(_) => Outputs::Nothing,
+            Command::Pace(_) => Outputs::Nothing,
+        },
+    }
+}
