@@ -12,7 +12,8 @@
         while not device.tick():                        # until the circuit may be clocked again
             print(device.writes)
 
-The library works with numbers; buses are found here from the names that it reports. What can't be done raises `Fault`.
+The library works with numbers; buses are found here from the names that it reports. What can't be done raises `Fault`. A host that
+isn't closed is freed when Python collects it.
 """
 
 from __future__ import annotations
@@ -22,7 +23,8 @@ from types import TracebackType
 from typing import Optional
 
 from tlutflow.buses import assigned, buses_of
-from tlutflow.host_calls import LIBRARY, RANGE, Calls, Writes, check, settings_of
+from tlutflow.faults import Fault
+from tlutflow.host_calls import LIBRARY, MOST_RATE, RANGE, Calls, Writes, check, settings_of
 from tlutflow.text import ENCODING, read_bytes
 
 
@@ -32,7 +34,7 @@ class Host:
     def __init__(self, path: str, library: str = LIBRARY):
         """Opens a pack file at the initial values of its parameters."""
         self._calls = Calls(library)
-        self._calls.open("tlut_open", path, read_bytes(path))
+        self._calls.open("tlut_open", "tlut_close", path, read_bytes(path))
         parameters, bits = ctypes.c_size_t(0), ctypes.c_size_t(0)
         self._calls.done("tlut_counts", ctypes.byref(parameters), ctypes.byref(bits))
         self.bits = bits.value
@@ -104,11 +106,12 @@ class PacedHost:
 
     def __init__(self, path: str, rate: int, library: str = LIBRARY):
         """Opens a pack file at the initial values of its parameters, with their configuration on the device."""
+        if not 0 < rate <= MOST_RATE:
+            raise Fault(f"rate {rate}: a tick writes 1 to {MOST_RATE} bits")
         with Host(path, library) as host:
             self.bits, self.parameters, self.buses = host.bits, host.parameters, host.buses
         self._calls = Calls(library)
-        check(RANGE if not 0 < rate < 2**32 else 0)
-        self._calls.open("tlut_paced_open", path, read_bytes(path), ctypes.c_uint32(rate))
+        self._calls.open("tlut_paced_open", "tlut_paced_close", path, read_bytes(path), ctypes.c_uint32(rate))
         self._writes = Writes(self.bits)
 
     def ask(self, *words: str, **values: object) -> int:

@@ -1,59 +1,56 @@
 /*
- * Opens a pack while each allocation from one on fails, for each one in turn (some are tried again with less): the call
- * answers that memory ran out, the handle stays closed, and nothing is lost. After the opening no call allocates.
- *
- *     cc -g -fsanitize=address,undefined -Iinclude -Wl,--wrap=malloc,--wrap=realloc include/tests/no_memory.c \
- *         include/build/libtlut_host.a -o no_memory
- *     ./no_memory tlutflow/tests/data/coder.ppc
+ * Opens a pack while each allocation from one on fails, for each one in turn: the call returns TLUT_MEMORY, the handle stays closed,
+ * and each block is freed again. First by tlut_open, then by tlut_paced_open.
  */
-#include <stdio.h>
-#include <stdlib.h>
-
+#include "counted.h"
 #include "tlut_host.h"
 
-void *__real_malloc(size_t size);
-void *__real_realloc(void *block, size_t size);
+static const uint8_t *pack;
+static size_t length;
 
-static unsigned long calls, failing;
-
-void *__wrap_malloc(size_t size)
+/* Opens and closes a handle, and returns the status of the first call. *is_well is false if the second answers anything unexpected. */
+static tlut_status opened(bool *is_well)
 {
-    return ++calls >= failing ? NULL : __real_malloc(size);
+    tlut_host host = TLUT_HOST_CLOSED;
+    tlut_refusal refusal = {0, 0};
+    tlut_status status = tlut_open(pack, length, &host, &refusal);
+    *is_well = host.is_open == (status == TLUT_DONE) && tlut_close(&host) == (status == TLUT_DONE ? TLUT_DONE : TLUT_CLOSED);
+    return status;
 }
 
-void *__wrap_realloc(void *block, size_t size)
+static tlut_status paced_opened(bool *is_well)
 {
-    return ++calls >= failing ? NULL : __real_realloc(block, size);
+    tlut_paced device = TLUT_HOST_CLOSED;
+    tlut_refusal refusal = {0, 0};
+    tlut_status status = tlut_paced_open(pack, length, 5, &device, &refusal);
+    *is_well = device.is_open == (status == TLUT_DONE) && tlut_paced_close(&device) == (status == TLUT_DONE ? TLUT_DONE : TLUT_CLOSED);
+    return status;
+}
+
+/* Whether each failing allocation is answered as it should be. */
+static bool is_answered(const char *name, tlut_status (*call)(bool *))
+{
+    unsigned long held = blocks;
+    for (unsigned long number = 1;; number++) {
+        bool is_well = false;
+        allocations = 0;
+        failing = number;
+        tlut_status status = call(&is_well);
+        failing = 0;
+        if (status == TLUT_DONE && allocations < number && is_well && blocks == held) {
+            printf("%s: %lu allocations, each was refused\n", name, allocations);
+            return allocations > 0;
+        }
+        if (status != TLUT_MEMORY || !is_well || blocks != held) {
+            printf("%s: allocation %lu: status %u, %lu blocks lost\n", name, number, (unsigned)status, blocks - held);
+            return false;
+        }
+    }
 }
 
 int main(int argc, char **argv)
 {
-    static uint8_t bytes[1 << 20];
-    FILE *file = argc == 2 ? fopen(argv[1], "rb") : NULL;
-    if (file == NULL) {
-        fprintf(stderr, "usage: no_memory PACK\n");
-        return 2;
-    }
-    size_t length = fread(bytes, 1, sizeof bytes, file);
-    fclose(file);
-    for (failing = 1;; failing++) {
-        tlut_host host = TLUT_HOST_CLOSED;
-        tlut_refusal refusal = {0, 0};
-        calls = 0;
-        tlut_status status = tlut_open(bytes, length, &host, &refusal);
-        if (status == TLUT_DONE && calls < failing) {
-            unsigned long before = calls;
-            static tlut_write writes[1 << 16];
-            tlut_setting setting = {0, true};
-            size_t count = 0;
-            int wrong = tlut_set(&host, &setting, 1) != TLUT_DONE || tlut_upset(&host, 0) != TLUT_DONE || tlut_scrub(&host) != TLUT_DONE ||
-                        tlut_writes(&host, writes, 1 << 16, &count) != TLUT_DONE || calls != before || tlut_close(&host) != TLUT_DONE;
-            printf("%lu allocations, %lu after the opening, %d wrong\n", before, calls - before, wrong);
-            return wrong;
-        }
-        if (status != TLUT_MEMORY || host.is_open || tlut_close(&host) != TLUT_CLOSED) {
-            printf("allocation %lu: status %u\n", failing, (unsigned)status);
-            return 1;
-        }
-    }
+    pack = read_argument(argc, argv, &length);
+    bool is_first = is_answered("tlut_open", opened), is_second = is_answered("tlut_paced_open", paced_opened);
+    return !(is_first && is_second);
 }

@@ -1,12 +1,13 @@
 //! What C calls. Each function tests what C can get wrong, and asks only for memory that is there.
-ghost use Rattle.std.specs.Prelude.{◌≡◌, ◌≢◌, true, Option, Some, None, is_some, length, if◌then◌else◌};
+ghost use Rattle.std.specs.Prelude.{◌≡◌, ◌≢◌, ◌<◌, true, false, Option, Some, None, is_some, length, if◌then◌else◌};
+ghost use Rattle.tl_text.specs.declared.limits.TheConstants.{MOST_PACK_BYTES};
 ghost use Rattle.tlut_host.specs.Copied.{copied_plain};
 ghost use Rattle.tlut_host.specs.Kept.{param_names};
 ghost use Rattle.tlut_host.specs.Opened.{IsOpened, IsTold, HoldsOne};
 ghost use Rattle.tlut_host.specs.Calls.{IsCall, IsTellingCall, IsSetCall, IsUpsetCall, IsScrubCall, IsValueCall, IsNameCall, IsNumberCall, AreHanded};
 
 use crate::copy::{copy_bits, copy_writes, value_at};
-use crate::handle::{Handle, take};
+use crate::handle::{Handle, put, take};
 use crate::names::{tell_name, tell_number};
 use crate::opened::open;
 use crate::setting::{BitWrite, CLOSED, DONE, OPEN, Refusal, Setting};
@@ -27,13 +28,14 @@ pub extern "C" fn tlut_open(
     ensures quiet { result ≡ 0 → refusal.new ≡ refusal.old }
     ensures quiet_open { result ≡ 5 → refusal.new ≡ refusal.old }
     ensures told { result ≢ 0 → result ≢ 5 → IsTold pack.now result refusal.new }
+    ensures limit { is_some handle.old.held.value ≡ false → MOST_PACK_BYTES < length pack.now → result ≡ 2 }
 {
     if handle.is_open {
         return OPEN;
     }
     match open(alloc, pack) {
         Ok(host) => {
-            *handle = Handle::of(host);
+            put(handle, host);
             DONE
         }
         Err(error) => {
@@ -45,11 +47,11 @@ pub extern "C" fn tlut_open(
 
 /// Frees what a handle is to. `DONE`, or `CLOSED` if it isn't open.
 #[unsafe(no_mangle)]
-pub extern "C" fn tlut_close(alloc: Global, handle: &mut Handle) -> u32
+pub extern "C" fn tlut_close(handle: &mut Handle) -> u32
     ensures closed { handle.new.held.value ≡ None }
     ensures status { result ≡ (if is_some handle.old.held.value then 0 else 4) }
 {
-    match take(alloc, handle) {
+    match take(handle) {
         None => CLOSED,
         Some(_) => DONE,
     }
@@ -57,138 +59,116 @@ pub extern "C" fn tlut_close(alloc: Global, handle: &mut Handle) -> u32
 
 /// Gives new values to parameters in ascending order, each at most once.
 #[unsafe(no_mangle)]
-pub extern "C" fn tlut_set(alloc: Global, handle: &mut Handle, settings: &[Setting]) -> u32
+pub extern "C" fn tlut_set(handle: &mut Handle, settings: &[Setting]) -> u32
     ensures { IsCall handle.old.held.value handle.new.held.value result (λ old new. IsSetCall settings.now old new result) }
 {
-    let Some(mut host) = take(alloc, handle) else {
+    let Some(mut host) = take(handle) else {
         return CLOSED;
     };
     let status = host.set(settings);
-    *handle = Handle::of(host);
+    put(handle, host);
     status
 }
 
 /// Flips the configuration bit at an address, as a fault does.
 #[unsafe(no_mangle)]
-pub extern "C" fn tlut_upset(alloc: Global, handle: &mut Handle, address: u32) -> u32
+pub extern "C" fn tlut_upset(handle: &mut Handle, address: u32) -> u32
     ensures { IsCall handle.old.held.value handle.new.held.value result (λ old new. IsUpsetCall address old new result) }
 {
-    let Some(mut host) = take(alloc, handle) else {
+    let Some(mut host) = take(handle) else {
         return CLOSED;
     };
     let status = host.upset(address);
-    *handle = Handle::of(host);
+    put(handle, host);
     status
 }
 
 /// Sets every upset bit right.
 #[unsafe(no_mangle)]
-pub extern "C" fn tlut_scrub(alloc: Global, handle: &mut Handle) -> u32
+pub extern "C" fn tlut_scrub(handle: &mut Handle) -> u32
     ensures { IsCall handle.old.held.value handle.new.held.value result (λ old new. IsScrubCall old new result) }
 {
-    let Some(mut host) = take(alloc, handle) else {
+    let Some(mut host) = take(handle) else {
         return CLOSED;
     };
     host.scrub();
-    *handle = Handle::of(host);
+    put(handle, host);
     DONE
 }
 
 /// Copies the writes of the last event as far as there is room, and tells how many there are.
 #[unsafe(no_mangle)]
 pub extern "C" fn tlut_writes(
-    alloc: Global,
     handle: &mut Handle,
     writes: &mut [BitWrite],
     count: &mut usize,
 ) -> u32
     ensures { IsTellingCall handle.old.held.value handle.new.held.value result ((writes.new ≡ writes.old) × (count.new ≡ count.old)) (λ old new. (result ≡ 0) × (new ≡ old) × AreHanded old writes.old writes.new count.new) }
 {
-    let Some(host) = take(alloc, handle) else {
+    let Some(host) = take(handle) else {
         return CLOSED;
     };
     *count = copy_writes(host.writes(), writes);
-    *handle = Handle::of(host);
+    put(handle, host);
     DONE
 }
 
 /// Copies the configuration of the device as far as there is room, and tells how many bits there are.
 #[unsafe(no_mangle)]
-pub extern "C" fn tlut_image(
-    alloc: Global,
-    handle: &mut Handle,
-    bits: &mut [bool],
-    count: &mut usize,
-) -> u32
+pub extern "C" fn tlut_image(handle: &mut Handle, bits: &mut [bool], count: &mut usize) -> u32
     ensures { IsTellingCall handle.old.held.value handle.new.held.value result ((bits.new ≡ bits.old) × (count.new ≡ count.old)) (λ old new. (result ≡ 0) × (new ≡ old) × (bits.new ≡ copied_plain old.state.config bits.old) × (count.new ≡ length old.state.config)) }
 {
-    let Some(host) = take(alloc, handle) else {
+    let Some(host) = take(handle) else {
         return CLOSED;
     };
     *count = copy_bits(host.image(), bits);
-    *handle = Handle::of(host);
+    put(handle, host);
     DONE
 }
 
 /// Copies the values of the parameters as far as there is room, and tells how many there are.
 #[unsafe(no_mangle)]
-pub extern "C" fn tlut_values(
-    alloc: Global,
-    handle: &mut Handle,
-    bits: &mut [bool],
-    count: &mut usize,
-) -> u32
+pub extern "C" fn tlut_values(handle: &mut Handle, bits: &mut [bool], count: &mut usize) -> u32
     ensures { IsTellingCall handle.old.held.value handle.new.held.value result ((bits.new ≡ bits.old) × (count.new ≡ count.old)) (λ old new. (result ≡ 0) × (new ≡ old) × (bits.new ≡ copied_plain old.state.params bits.old) × (count.new ≡ length old.state.params)) }
 {
-    let Some(host) = take(alloc, handle) else {
+    let Some(host) = take(handle) else {
         return CLOSED;
     };
     *count = copy_bits(host.values(), bits);
-    *handle = Handle::of(host);
+    put(handle, host);
     DONE
 }
 
 /// Tells how many parameters and configuration bits there are.
 #[unsafe(no_mangle)]
-pub extern "C" fn tlut_counts(
-    alloc: Global,
-    handle: &mut Handle,
-    parameters: &mut usize,
-    bits: &mut usize,
-) -> u32
+pub extern "C" fn tlut_counts(handle: &mut Handle, parameters: &mut usize, bits: &mut usize) -> u32
     ensures { IsTellingCall handle.old.held.value handle.new.held.value result ((parameters.new ≡ parameters.old) × (bits.new ≡ bits.old)) (λ old new. (result ≡ 0) × (new ≡ old) × (parameters.new ≡ length old.state.params) × (bits.new ≡ length old.state.config)) }
 {
-    let Some(host) = take(alloc, handle) else {
+    let Some(host) = take(handle) else {
         return CLOSED;
     };
     *parameters = host.values().len();
     *bits = host.image().len();
-    *handle = Handle::of(host);
+    put(handle, host);
     DONE
 }
 
 /// Tells the value of a parameter.
 #[unsafe(no_mangle)]
-pub extern "C" fn tlut_value(
-    alloc: Global,
-    handle: &mut Handle,
-    parameter: u16,
-    bit: &mut bool,
-) -> u32
+pub extern "C" fn tlut_value(handle: &mut Handle, parameter: u16, bit: &mut bool) -> u32
     ensures { IsTellingCall handle.old.held.value handle.new.held.value result (bit.new ≡ bit.old) (λ old new. (new ≡ old) × IsValueCall parameter old.state.params bit.old bit.new result) }
 {
-    let Some(host) = take(alloc, handle) else {
+    let Some(host) = take(handle) else {
         return CLOSED;
     };
     let status = value_at(host.values(), parameter, bit);
-    *handle = Handle::of(host);
+    put(handle, host);
     status
 }
 
 /// Copies the name of a parameter as far as there is room, and tells its length in bytes.
 #[unsafe(no_mangle)]
 pub extern "C" fn tlut_name(
-    alloc: Global,
     handle: &mut Handle,
     parameter: usize,
     name: &mut [u8],
@@ -196,28 +176,23 @@ pub extern "C" fn tlut_name(
 ) -> u32
     ensures { IsTellingCall handle.old.held.value handle.new.held.value result ((name.new ≡ name.old) × (count.new ≡ count.old)) (λ old new. (new ≡ old) × IsNameCall (param_names old.pack.params) parameter name.old name.new count.old count.new result) }
 {
-    let Some(host) = take(alloc, handle) else {
+    let Some(host) = take(handle) else {
         return CLOSED;
     };
     let status = tell_name(&host, parameter, name, count);
-    *handle = Handle::of(host);
+    put(handle, host);
     status
 }
 
 /// Tells the number of the parameter of this name.
 #[unsafe(no_mangle)]
-pub extern "C" fn tlut_number(
-    alloc: Global,
-    handle: &mut Handle,
-    name: &[u8],
-    number: &mut usize,
-) -> u32
+pub extern "C" fn tlut_number(handle: &mut Handle, name: &[u8], number: &mut usize) -> u32
     ensures { IsTellingCall handle.old.held.value handle.new.held.value result (number.new ≡ number.old) (λ old new. (new ≡ old) × IsNumberCall (param_names old.pack.params) name.now number.old number.new result) }
 {
-    let Some(host) = take(alloc, handle) else {
+    let Some(host) = take(handle) else {
         return CLOSED;
     };
     let status = tell_number(&host, name, number);
-    *handle = Handle::of(host);
+    put(handle, host);
     status
 }

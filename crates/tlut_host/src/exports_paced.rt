@@ -1,11 +1,12 @@
 //! What C calls at a limited rate.
-ghost use Rattle.std.specs.Prelude.{◌≡◌, ◌≢◌, true, false, Option, Some, None, is_some, if◌then◌else◌};
+ghost use Rattle.std.specs.Prelude.{◌≡◌, ◌≢◌, ◌<◌, ◌≤◌, true, false, Option, Some, None, is_some, length, if◌then◌else◌};
+ghost use Rattle.tl_text.specs.declared.limits.TheConstants.{MOST_PACK_BYTES};
 ghost use Rattle.tlut_host.specs.Opened.{IsTold, HoldsOne};
 ghost use Rattle.tlut_host.specs.Calls.{IsTellingCall, IsAskCall, IsTickCall, AreSent};
 ghost use Rattle.tlut_host.specs.Paced.{IsPacedOpened};
 
 use crate::copy::copy_writes;
-use crate::handle_paced::{PacedHandle, take_paced};
+use crate::handle_paced::{PacedHandle, put_paced, take_paced};
 use crate::opened::open_paced;
 use crate::setting::{BitWrite, CLOSED, DONE, OPEN, RANGE, Refusal, Setting};
 use std::alloc::Global;
@@ -30,6 +31,7 @@ pub extern "C" fn tlut_paced_open(
     ensures quiet_range { result ≡ 6 → refusal.new ≡ refusal.old }
     ensures zero { is_some handle.old.held.value ≡ false → rate ≡ 0 → result ≡ 6 }
     ensures told { result ≢ 0 → result ≢ 5 → result ≢ 6 → IsTold pack.now result refusal.new }
+    ensures limit { is_some handle.old.held.value ≡ false → 1 ≤ rate → MOST_PACK_BYTES < length pack.now → result ≡ 2 }
 {
     if handle.is_open {
         return OPEN;
@@ -39,7 +41,7 @@ pub extern "C" fn tlut_paced_open(
     }
     match open_paced(alloc, pack, rate) {
         Ok(host) => {
-            *handle = PacedHandle::of(host);
+            put_paced(handle, host);
             DONE
         }
         Err(error) => {
@@ -51,11 +53,11 @@ pub extern "C" fn tlut_paced_open(
 
 /// Frees what a handle at a limited rate is to. `DONE`, or `CLOSED` if it isn't open.
 #[unsafe(no_mangle)]
-pub extern "C" fn tlut_paced_close(alloc: Global, handle: &mut PacedHandle) -> u32
+pub extern "C" fn tlut_paced_close(handle: &mut PacedHandle) -> u32
     ensures closed { handle.new.held.value ≡ None }
     ensures status { result ≡ (if is_some handle.old.held.value then 0 else 4) }
 {
-    match take_paced(alloc, handle) {
+    match take_paced(handle) {
         None => CLOSED,
         Some(_) => DONE,
     }
@@ -65,49 +67,47 @@ pub extern "C" fn tlut_paced_close(alloc: Global, handle: &mut PacedHandle) -> u
 /// their configuration. Nothing is written.
 #[unsafe(no_mangle)]
 pub extern "C" fn tlut_ask(
-    alloc: Global,
     handle: &mut PacedHandle,
     settings: &[Setting],
     waiting: &mut usize,
 ) -> u32
     ensures { IsTellingCall handle.old.held.value handle.new.held.value result (waiting.new ≡ waiting.old) (λ old new. IsAskCall settings.now old new waiting.old waiting.new result) }
 {
-    let Some(mut host) = take_paced(alloc, handle) else {
+    let Some(mut host) = take_paced(handle) else {
         return CLOSED;
     };
     let status = host.ask(settings, waiting);
-    *handle = PacedHandle::of(host);
+    put_paced(handle, host);
     status
 }
 
 /// Lets the clock tick: tells whether the device has the configuration of the requested values, so that the circuit may be
 /// clocked, and otherwise writes the first bits that differ, at most as many as the rate.
 #[unsafe(no_mangle)]
-pub extern "C" fn tlut_tick(alloc: Global, handle: &mut PacedHandle, is_right: &mut bool) -> u32
+pub extern "C" fn tlut_tick(handle: &mut PacedHandle, is_right: &mut bool) -> u32
     ensures { IsTellingCall handle.old.held.value handle.new.held.value result (is_right.new ≡ is_right.old) (λ old new. IsTickCall old new is_right.new result) }
 {
-    let Some(mut host) = take_paced(alloc, handle) else {
+    let Some(mut host) = take_paced(handle) else {
         return CLOSED;
     };
     *is_right = host.tick();
-    *handle = PacedHandle::of(host);
+    put_paced(handle, host);
     DONE
 }
 
 /// Copies the writes of the last tick as far as there is room, and tells how many there are.
 #[unsafe(no_mangle)]
 pub extern "C" fn tlut_sent(
-    alloc: Global,
     handle: &mut PacedHandle,
     writes: &mut [BitWrite],
     count: &mut usize,
 ) -> u32
     ensures { IsTellingCall handle.old.held.value handle.new.held.value result ((writes.new ≡ writes.old) × (count.new ≡ count.old)) (λ old new. AreSent old new writes.old writes.new count.new result) }
 {
-    let Some(host) = take_paced(alloc, handle) else {
+    let Some(host) = take_paced(handle) else {
         return CLOSED;
     };
     *count = copy_writes(host.writes(), writes);
-    *handle = PacedHandle::of(host);
+    put_paced(handle, host);
     DONE
 }

@@ -8,8 +8,9 @@ use std::alloc::Global;
 use std::marker::Model;
 
 /// A pointer to a host, or to nothing.
+///
+/// It isn't `Drop`, so that no code can lose the host by dropping the pointer.
 #[repr(C)]
-#[derive(Drop)]
 pub struct Held {
     at: *mut u8,
     ghost value: { Option Host },
@@ -49,5 +50,12 @@ impl Held {
             at: at as *mut Host,
             alloc,
         }
+    }
+
+    // Lets go of a pointer to nothing.
+    pub(crate) fn discard(self)
+        requires { self.value ≡ None }
+    {
+        let Held { at: _ } = self;
     }
 }

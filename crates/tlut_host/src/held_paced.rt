@@ -8,8 +8,9 @@ use std::alloc::Global;
 use std::marker::Model;
 
 /// A pointer to a host at a limited rate, or to nothing.
+///
+/// It isn't `Drop`, so that no code can lose the host by dropping the pointer.
 #[repr(C)]
-#[derive(Drop)]
 pub struct HeldPaced {
     at: *mut u8,
     ghost value: { Option PacedHost },
@@ -49,5 +50,12 @@ impl HeldPaced {
             at: at as *mut PacedHost,
             alloc,
         }
+    }
+
+    // Lets go of a pointer to nothing.
+    pub(crate) fn discard(self)
+        requires { self.value ≡ None }
+    {
+        let HeldPaced { at: _ } = self;
     }
 }

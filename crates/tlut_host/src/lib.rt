@@ -13,7 +13,7 @@
 //! # Exports
 //!
 //! Nothing checks a caller in C. So no export requires anything except memory for its references, and each tests the numbers
-//! that it gets. Only `tlut_open` allocates.
+//! that it gets. Only the two that open a handle are passed the allocator.
 #![tactic(auto)]
 
 mod copy;

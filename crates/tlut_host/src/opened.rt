@@ -1,5 +1,6 @@
 //! Opening a pack.
-ghost use Rattle.std.specs.Prelude.{◌≡◌, ◌≢◌, ◌<◌, ◌≤◌, IfOk, IfErr};
+ghost use Rattle.std.specs.Prelude.{◌≡◌, ◌≢◌, ◌<◌, ◌≤◌, length, IfOk, IfErr};
+ghost use Rattle.tl_text.specs.declared.limits.TheConstants.{MOST_PACK_BYTES};
 ghost use Rattle.ppc_file.specs.PackFile.{IsPackFile};
 ghost use Rattle.tlut_host.specs.Opened.{IsOpened, IsOpenFault, told, told_of, status_of};
 ghost use Rattle.tlut_host.specs.Paced.{IsPacedOpened};
@@ -66,6 +67,7 @@ impl OpenErr {
 fn read_pack(alloc: Global, bytes: &[u8]) -> Result<Pack, OpenErr>
     ensures ok { IfOk result (λ pack. IsPackFile bytes.now pack) }
     ensures fault { IfErr result (IsOpenFault bytes.now) }
+    ensures limit { MOST_PACK_BYTES < length bytes.now → result ≡ Err OpenErr.Limit }
 {
     if bytes.len() > MOST_PACK_BYTES {
         return Err(OpenErr::Limit);
@@ -81,6 +83,7 @@ fn read_pack(alloc: Global, bytes: &[u8]) -> Result<Pack, OpenErr>
 pub(crate) fn open(alloc: Global, bytes: &[u8]) -> Result<Box<Host>, OpenErr>
     ensures ok { IfOk result (λ b. IsOpened bytes.now b.value) }
     ensures fault { IfErr result (IsOpenFault bytes.now) }
+    ensures limit { MOST_PACK_BYTES < length bytes.now → result ≡ Err OpenErr.Limit }
 {
     let pack = read_pack(alloc, bytes)?;
     let Ok(host) = Host::make(alloc, pack) else {
@@ -97,6 +100,7 @@ pub(crate) fn open_paced(alloc: Global, bytes: &[u8], rate: u32) -> Result<Box<P
     requires { 1 ≤ rate }
     ensures ok { IfOk result (λ b. IsPacedOpened bytes.now rate b.value) }
     ensures fault { IfErr result (IsOpenFault bytes.now) }
+    ensures limit { MOST_PACK_BYTES < length bytes.now → result ≡ Err OpenErr.Limit }
 {
     let pack = read_pack(alloc, bytes)?;
     let Ok(host) = PacedHost::make(alloc, pack, rate) else {
