@@ -4,6 +4,7 @@
     python3 tools/gate_minutes.py                        runs `rt ci` and measures it
     python3 tools/gate_minutes.py --anew                 the same from nothing; any further arguments of `rt ci` too
     python3 tools/gate_minutes.py --pid N                measures a run that has begun: N is the number of its process
+    python3 tools/gate_minutes.py --write --anew         also writes the minutes of each proof into crate_work.txt, for the estimates of ./tlut
     python3 tools/gate_minutes.py --functions CRATE ..   proves these crates from nothing, one function after another, and prints the
                                                          CPU-seconds of the twenty dearest functions. The crates below must be built
 
@@ -117,6 +118,20 @@ def show(totals: dict[Kind, float], other: float, wall: float) -> None:
     print(f"other work: {other / 60:.1f} processor minutes; the run took {wall / 60:.0f} minutes")
 
 
+def write(totals: dict[Kind, float]) -> None:
+    """Replaces the minutes in crate_work.txt by those of this run, for the crates that it proved."""
+    path = f"{TOP}/tools/crate_work.txt"
+    with open(path, encoding="utf-8") as file:
+        lines = file.readlines()
+    for place, line in enumerate(lines):
+        name, _, words = line.partition(" ")
+        seconds = totals.get((name, "proof"), 0)
+        if seconds:
+            lines[place] = f"{name} {max(0.1, seconds / 60):.1f} {words.partition(' ')[2]}"
+    with open(path, "w", encoding="utf-8") as file:
+        file.writelines(lines)
+
+
 def crates_below() -> dict[str, list[str]]:
     """The crates that crates.txt names below each of this repository's, by its name."""
     with open(f"{TOP}/crates.txt", encoding="utf-8") as file:
@@ -172,16 +187,22 @@ def main() -> int:
     signal.signal(signal.SIGINT, signal.default_int_handler)
     parser = shared.words(__doc__)
     parser.add_argument("--pid", metavar="N", type=int, help="the process of a run that has begun")
+    parser.add_argument("--write", action="store_true", help="write the minutes of each proof into crate_work.txt")
     given, words = parser.parse_known_args()
     if given.pid is not None:
         root = given.pid
-        show(*watch(root, lambda: os.path.exists(f"/proc/{root}")))
+        figures = watch(root, lambda: os.path.exists(f"/proc/{root}"))
+        show(*figures)
+        if given.write:
+            write(figures[0])
         return 0
     if words[:1] == ["--functions"]:
         return 0 if all([functions(name) for name in words[1:]]) else 1
     with subprocess.Popen(["rt", "ci", *words]) as run:
         figures = watch(run.pid, lambda: run.poll() is None)
         show(*figures)
+        if given.write:
+            write(figures[0])
         return run.wait()
 
 

@@ -1,98 +1,50 @@
-"""Installs the programs, their companion and their man page below a prefix. `./tlut install PREFIX` calls it, once the programs are built.
+"""Installs the programs, the companion, the pages and, if it is built, the library below a prefix. `./tlut install PREFIX` calls it.
 
     python3 tools/install.py PREFIX VERSION
 
-PREFIX/lib/tlut gets the files. PREFIX/bin gets links to `tlut`, to it as `tlut-compact` and, as `tlut-flow`, to the companion.
-PREFIX/share/man/man1/tlut.1 is the page, made from the text of `tlut --help`. What an earlier call left in PREFIX/lib/tlut is replaced.
+PREFIX/lib/tlut gets the programs and the companion; PREFIX/bin gets links to `tlut`, to it as `tlut-compact` and, as `tlut-flow`, to the
+companion. PREFIX/share gets man pages, the completion of `tlut-flow` in bash, the docs and the examples; PREFIX/lib and PREFIX/include get
+the library for host programs with its header and its pkg-config file. PREFIX/lib/tlut/manifest lists all of it. A later call replaces
+what the manifest lists; nothing else is replaced or removed. If DESTDIR is set, all goes below that folder, for a packager.
 """
 
 from __future__ import annotations
 
 import os
-import shutil
 import sys
+import tempfile
 
 import shared
-from shared import TOP
-
-# What is copied, and where it goes below PREFIX/lib/tlut.
-FILES = [
-    ("tlut", "tlut"),
-    ("flow", "flow"),
-    ("crates/tlut/out/tlut", "program/tlut"),
-    ("crates/tlut_compact/out/tlut_compact", "program/tlut_compact"),
-    ("tools/help.txt", "tools/help.txt"),
-]
-LINKS = [("bin/tlut", "../lib/tlut/tlut"), ("bin/tlut-compact", "../lib/tlut/tlut"), ("bin/tlut-flow", "../lib/tlut/flow")]
+from packing import manifest, tree
 
 
-def escaped(line: str) -> str:
-    """A line as the language of man pages has it."""
-    line = line.replace("\\", "\\e").replace("-", "\\-")
-    return f"\\&{line}" if line.startswith((".", "'")) else line
-
-
-def man_page(text: str, version: str) -> str:
-    """The page with the sections of a help text: lines in capitals begin one."""
-    first, rest = text.split("\n\n", 1)
-    lines = ['.TH TLUT 1 "" "%s"' % version.replace('"', ""), ".SH NAME", "tlut \\- map netlists to lookup tables with tunable configuration bits"]
-    lines += [".SH SYNOPSIS", "tlut COMMAND ARGUMENT ..", ".SH DESCRIPTION", *map(escaped, first.splitlines()), ".nf"]
-    for line in rest.replace("\n\n", "\n").splitlines():
-        lines += [".fi", f".SH {line}", ".nf"] if line.isupper() and not line.startswith(" ") else [escaped(line[2:])]
-    return "\n".join([*lines, ".fi", ""])
-
-
-def companion_page(version: str) -> str:
-    """The page of the companion, from the help of its subcommands."""
-    sys.path.insert(0, TOP)
-    sys.argv[0] = "tlut-flow"
-    from tlutflow.commands.complete import subcommands_of
-    from tlutflow.main import parser
-
-    words = parser()
-    lines = ['.TH TLUT-FLOW 1 "" "%s"' % version.replace('"', ""), ".SH NAME", "tlut\\-flow \\- from a design in Verilog to tunable lookup tables, around tlut"]
-    lines += [".SH SYNOPSIS", "tlut\\-flow SUBCOMMAND ..", ".SH DESCRIPTION", *map(escaped, f"{words.description}\n{words.epilog}".splitlines())]
-    for name, own in subcommands_of(words).items():
-        lines += [f".SH {name.upper()}", ".nf", *map(escaped, own.format_help().splitlines()), ".fi"]
-    return "\n".join([*lines, ".SH SEE ALSO", "tlut(1)", ""])
-
-
-def install(prefix: str, version: str) -> None:
-    """Writes all files and links."""
-    room = f"{prefix}/lib/tlut"
-    shutil.rmtree(room, ignore_errors=True)
-    for source, target in FILES:
-        os.makedirs(os.path.dirname(f"{room}/{target}"), exist_ok=True)
-        shutil.copy(f"{TOP}/{source}", f"{room}/{target}")
-    shutil.copytree(f"{TOP}/tlutflow", f"{room}/tlutflow", ignore=shutil.ignore_patterns("tests", "__pycache__"))
-    with open(f"{room}/VERSION", "w", encoding="utf-8") as file:
-        file.write(f"{version}\n")
-    for place, target in LINKS:
-        os.makedirs(os.path.dirname(f"{prefix}/{place}"), exist_ok=True)
-        if os.path.lexists(f"{prefix}/{place}"):
-            os.remove(f"{prefix}/{place}")
-        os.symlink(target, f"{prefix}/{place}")
-    folder = f"{prefix}/share/man/man1"
-    os.makedirs(folder, exist_ok=True)
-    with open(f"{TOP}/tools/help.txt", encoding="utf-8") as help_text:
-        pages = {"tlut.1": man_page(help_text.read(), version), "tlut-flow.1": companion_page(version)}
-    for name, text in pages.items():
-        with open(f"{folder}/{name}", "w", encoding="utf-8") as file:
-            file.write(text)
+def install(root: str, prefix: str, line: str) -> None:
+    """Installs below the root what refers to the prefix."""
+    with tempfile.TemporaryDirectory(prefix="tlut-") as room:
+        tree.programs(room, line)
+        tree.docs(room)
+        if tree.has_library():
+            tree.library(room, prefix)
+        manifest.install(room, root)
 
 
 def main() -> int:
     parser = shared.words(__doc__)
     parser.add_argument("prefix", metavar="PREFIX", type=shared.path_of, help="where it is installed")
-    parser.add_argument("version", metavar="VERSION", help="what `tlut --version` says there")
+    parser.add_argument("version", metavar="VERSION", help="the line of `tlut --version`")
     given = parser.parse_args()
-    prefix, version = given.prefix, given.version
+    root = os.environ.get("DESTDIR", "").rstrip("/") + given.prefix
     try:
-        install(prefix, version)
+        install(root, given.prefix, given.version)
+    except manifest.Refused as why:
+        print(f"tlut: {why}", file=sys.stderr)
+        return 1
     except OSError as error:
         print(f"tlut: {error.filename}: {error.strerror}", file=sys.stderr)
         return 1
-    print(f"{prefix}/bin/tlut, {prefix}/bin/tlut-compact, {prefix}/bin/tlut-flow and their pages in {prefix}/share/man/man1 are there")
+    print(f"{root}/bin has tlut, tlut-compact and tlut-flow; {root}/{manifest.PLACE} lists all files; tlut uninstall {given.prefix} removes them")
+    if not tree.has_library():
+        print("the library for host programs isn't built, so it isn't installed: make -C include, and install again")
     return 0
 
 

@@ -1,0 +1,1 @@
+"""What an installation and a release consist of, and how they are packed."""
