@@ -6,16 +6,17 @@
     found = prepare("fir.blif", "fir.par", k=4, out="prepared.blif")
     mapping = Mapping.make("prepared.blif", "fir.par", k=4, folder="made", rule=found.best.rule)
     print(mapping.statistics.tables, mapping.statistics.depth, mapping.pack.configuration({"c0[0]": 1, ..}))
-    build("fir.v", out="made", top="fir", param=["c0=5"], k=4)
+    build("fir.v", out="made", top="fir", param={"c0": 5}, k=4)
 
 What can't be done raises `Fault`, whose text is one line.
 """
 
 from __future__ import annotations
 
+import argparse
 import os
 import tempfile
-from dataclasses import dataclass
+from dataclasses import dataclass, replace
 from functools import cached_property
 from typing import Any, Optional
 
@@ -25,10 +26,11 @@ from tlutflow.faults import Fault
 from tlutflow.netlist import Library
 from tlutflow.netlist import read_library as read_netlist
 from tlutflow.pack import Pack, read_pack
-from tlutflow.trials import RULES, Found, Task, keep
-from tlutflow.trials import prepare as try_preparations
-from tlutflow.preparations import PREPARATIONS, chosen
+from tlutflow.refusals import refusal_of
 from tlutflow.statistics import Statistics, statistics
+from tlutflow.trials import RULES, Found, keep
+from tlutflow.trials import prepare as try_preparations
+from tlutflow.values import given_of
 
 __all__ = ["Fault", "Library", "Mapping", "Pack", "build", "prepare", "read_netlist", "read_pack"]
 
@@ -50,7 +52,7 @@ class Mapping:
         os.makedirs(folder, exist_ok=True)
         ran = tools.run([tools.tlut(program), *RULES[rule], "map", str(k), netlist, parameters, made.template, made.pack_file])
         if ran.returncode:
-            raise Fault((ran.stderr.strip().splitlines() or [f"tlut ended with status {ran.returncode}"])[-1])
+            raise refusal_of(ran)
         return made
 
     @cached_property
@@ -69,29 +71,31 @@ class Mapping:
         return statistics(self.circuit)
 
 
-def prepare(netlist: str, parameters: str, k: int, aim: str = "depth", out: Optional[str] = None, only: tuple[str, ...] = (), **limits: Any) -> Found:
-    """Tries preparations as `flow prepare` does, and writes the best netlist to `out`. `limits` are fields of `Task`: seconds, jobs,
-    rounds, beside, program. The files of the results are gone when it returns."""
+def prepare(netlist: str, parameters: str, k: int, aim: str = "depth", out: Optional[str] = None, program: Optional[str] = None, **options: Any) -> Found:
+    """Tries preparations as `flow prepare` does, and writes the best netlist to `out`. Further options are those of `build`: only, further,
+    seconds, jobs, rounds; and `beside`. The files of the results are gone when it returns."""
+    from tlutflow.commands.prepare import task_of
+
+    given = arguments("prepare", {**options, "netlist": netlist, "params": parameters, "k": k, "aim": aim, "tlut": program})
     with tempfile.TemporaryDirectory(prefix="flow-") as folder:
-        found = try_preparations(Task(netlist, parameters, k, aim, preparations=chosen(list(only), PREPARATIONS), **limits), folder)
+        found = try_preparations(replace(task_of(given, netlist, parameters), beside=given.beside), folder)
         if out:
             keep(found.best, out)
     return found
 
 
 def build(*files: str, out: str, **options: Any) -> str:
-    """Builds a design as `flow build` does, with its options by their names (`top="fir"`, `param=["c0=5"]`, `quick=True`), and returns the
-    path of the report."""
-    from tlutflow.main import main
+    """Builds a design as `flow build` does, and returns the path of the report. Options have their names on the command line, with _ for -, or
+    `aim`, `further` and `jobs` for --for, --try and -j. What can be repeated is a list of words, or a mapping: `param={"c0": 5}`. It prints
+    nothing but its progress, on stderr."""
+    from tlutflow.commands.build import make
 
-    words = ["build", *files, "--out", out]
-    for name, value in options.items():
-        option = f"-{name}" if len(name) == 1 and name != "k" else f"--{name.replace('_', '-')}"
-        if isinstance(value, bool):
-            words += [option] if value else []
-        else:
-            words += [word for it in (value if isinstance(value, (list, tuple)) else [value]) for word in (option, str(it))]
-    status = main(words)
-    if status:
-        raise Fault(f"the build ended with exit status {status}; stderr says why")
-    return f"{out}/index.html"
+    return make(arguments("build", {**options, "files": list(files), "out": out})).report
+
+
+def arguments(subcommand: str, values: dict[str, Any]) -> argparse.Namespace:
+    """The arguments of a subcommand with these values."""
+    from tlutflow.commands.complete import subcommands_of
+    from tlutflow.main import parser
+
+    return given_of(subcommand, subcommands_of(parser())[subcommand], values)

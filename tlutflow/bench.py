@@ -10,7 +10,7 @@ from __future__ import annotations
 from string import Template
 from typing import Iterable
 
-from tlutflow.cfglut import CfglutRandom
+from tlutflow.devices.cfglut import CfglutRandom
 from tlutflow.circuit import Circuit
 from tlutflow.flip_flops import Chain, Random
 from tlutflow.hdl import Device
@@ -34,14 +34,11 @@ $signals
     $module circuit (
         $connections
     );
+    reg [$high_bit:0] configuration;
 `ifdef INSIDE
     wire [0:$high_state] states = {$states};
-    wire [$high_bit:0] configuration = {
-        $image
-    };
 `else
     wire [0:$high_state] states = {$state_count{1'bx}};
-    wire [$high_bit:0] configuration = {$bit_count{1'bx}};
 `endif
     integer file, taken, count, address, value, digit;
     reg [8 * 8:1] word;
@@ -53,6 +50,17 @@ $signals
             #1 cfg_clk = 1;
             #1 cfg_clk = 0;
         end
+    endtask
+
+    // What the bits are now; looking at them at each step of a chain would take most of a simulation's time.
+    task look;
+`ifdef INSIDE
+        configuration = {
+            $image
+        };
+`else
+        configuration = {$bit_count{1'bx}};
+`endif
     endtask
 
 $send
@@ -70,6 +78,7 @@ $send
     // The bits are shown, the lowest address first.
     task image;
         begin
+            look;
             $$write("image ");
             for (address = 0; address < $bits; address = address + 1)
                 $$write("%b", configuration[address]);
@@ -80,6 +89,7 @@ $send
     // As many writes as the line has are read, and are shown as the circuit has them.
     task writes;
         begin
+            look;
             while (count > 0) begin
                 taken = $$fscanf(file, " %d=%d", address, value);
                 $$write(" %0d=%b", address, configuration[address]);
@@ -97,7 +107,8 @@ $send
             $$display("there are no events: %0s can't be read", path);
             $$finish;
         end
-        $$display("$header");
+        // What the circuit begins with is there before the first event.
+        #1 $$display("$header");
         taken = $$fscanf(file, " %s", word);
         while (taken == 1) begin
             if (word == "cycle")

@@ -8,7 +8,6 @@ from __future__ import annotations
 import argparse
 import os
 import shlex
-import shutil
 import sys
 import tempfile
 from concurrent.futures import ThreadPoolExecutor
@@ -17,17 +16,23 @@ from typing import Any, Callable, Optional
 
 from tlutflow import tools
 from tlutflow.abc_form import abc_text
+from tlutflow.build_files import copy, make_folder, program_file
 from tlutflow.bus import Bus
 from tlutflow.buses import buses_of
 from tlutflow.changes import changes_of, rewritten
 from tlutflow.commands import prepare as prepare_words
 from tlutflow.commands import verilog
+from tlutflow.commands.hdl import way_of, way_words
+from tlutflow.devices.steps import DeviceSteps
+from tlutflow.commands.show import view_words
 from tlutflow.faults import Fault
 from tlutflow.mappings import Sizes, sizes_by_abc, sizes_by_tlut
 from tlutflow.netlist import read_library
 from tlutflow.parameters import parameter_list, read_parameters
 from tlutflow.port_file import END, file_name, find_ports, keep_ports
 from tlutflow.trials import AIMS, RULE_NAMES, RULES, Found, keep, prepare
+from tlutflow.refusals import refusal_of
+from tlutflow.script_writer import bit_script
 from tlutflow.steps import Steps
 from tlutflow.text import logical_lines, read_text, write_text
 
@@ -49,6 +54,7 @@ class Built:
     checks: list[list[str]] = field(default_factory=list)
     changes: dict[str, list[int]] = field(default_factory=dict)
     shown: str = ""
+    device: dict[str, Any] = field(default_factory=dict)
     commands: list[str] = field(default_factory=list)
     versions: dict[str, str] = field(default_factory=dict)
     files: list[list[str]] = field(default_factory=list)
@@ -58,13 +64,14 @@ class Build:
     """A build: its arguments, its folder, and the names of its files."""
 
     def __init__(self, given: argparse.Namespace):
-        self.given, self.folder = given, given.out
+        self.given, self.folder, self.script = given, given.out, given.script
         self.is_verilog = given.files[0].endswith((".v", ".sv", ".vh"))
         self.name = file_name(given.top) if self.is_verilog else os.path.splitext(os.path.basename(given.files[0]))[0]
         make_folder(self.folder)
         self.steps = Steps(self.folder, given.prog, given.again)
         self.program = tools.tlut(given.tlut)
         self.binary = program_file(self.program)
+        self.device = DeviceSteps(given, self.steps, self.program, self.binary, self.path("")) if given.device else None
         self.built = Built(self.name, given.k, aim=given.aim, versions=tools.versions(self.program))
 
     def path(self, end: str) -> str:
@@ -74,10 +81,15 @@ class Build:
     def all(self) -> Built:
         """Creates everything except the page."""
         self.netlist()
+        if self.device is not None:
+            self.built.rule = self.device.choose(self.built.preparation.get("best"))
+        self.built.k = self.given.k
+        if self.given.script:
+            self.script = bit_script(self.given.script, self.path(".blif"), self.path(".par"), self.path("_run.scr"))
         self.sizes()
         self.map()
         self.built.commands += self.specialised()
-        parts = [self.certificate, self.hardware, self.picture, self.changes, self.prepared, self.compared_mapping, self.compared_values]
+        parts = [self.certificate, self.verilog, self.picture, self.changes, self.prepared, self.compared_mapping, self.compared_values]
         with ThreadPoolExecutor(self.given.jobs or os.cpu_count() or 1) as pool:
             # The comparisons, which take longest, begin first.
             begun = {part: pool.submit(part) for part in reversed(parts)}
@@ -102,8 +114,10 @@ class Build:
             (f"{module}.v", "the mapped circuit in Verilog, with a port that rewrites its LUTs"),
             (f"{module}_bench.v", "its testbench"),
             (f"{module}.events", "the events of the script's run, for the testbench"),
+            (self.path("_device.v"), "the mapped circuit as Yosys synthesised it for the device"),
             (self.path(".svg"), "a picture by Graphviz"),
             (self.path(".dot"), "the drawing in the language of Graphviz"),
+            (self.path("_run.scr"), "the script as tlut plays it, of values of buses"),
             (self.path("_run.txt"), "what the script's run printed"),
             (self.path(".vcd"), "the run as a waveform"),
         ]
@@ -111,9 +125,9 @@ class Build:
     def netlist(self) -> None:
         """The netlist and its list of parameters."""
         given = self.given
-        reads = [*given.files, self.binary]
+        reads = [*given.files, *given.cells, self.binary]
         sources = [given.set, given.define, given.include, given.reader]
-        chosen = [*sources, given.k, given.aim, given.quick, given.abc, given.seconds, given.rounds, given.only, given.further]
+        chosen = [*sources, given.k, given.aim, given.device, given.ks, given.rule, given.quick, given.abc, given.seconds, given.rounds, given.only, given.further]
         words = [self.name, given.param, *chosen, {it: self.built.versions.get(it, "") for it in ("Yosys", "ABC", "tlut")}]
         work = self.from_verilog if self.is_verilog else self.from_netlist
         self.built.preparation = self.steps.make("netlist", words, reads, [self.path(".blif"), self.path(".par"), *([self.path(END)] if self.is_verilog else [])], work)
@@ -124,7 +138,7 @@ class Build:
         given = self.given
         words = [*given.files]
         words += ["--top", given.top, *(word for it in given.param for word in ("--param", it))] if self.is_verilog else []
-        options = {"--set": given.set, "-D": given.define, "-I": given.include, "--reader": [given.reader] if given.reader != "verilog" else []}
+        options = {"--set": given.set, "-D": given.define, "-I": given.include, "--cells": given.cells, "--reader": [given.reader] if given.reader != "verilog" else []}
         words += [word for option, values in options.items() for value in values for word in (option, value)]
         words += ["--quick"] if given.quick else ["--abc", given.abc] if given.abc else self.choice_shown()
         where = ["--out", given.out] if self.is_verilog else ["--out", self.path(".blif")]
@@ -135,7 +149,9 @@ class Build:
     def choice_shown(self) -> list[str]:
         """The arguments that choose among preparations."""
         given = self.given
-        words = ["--k", str(given.k), "--for", given.aim, *(["--rounds", str(given.rounds)] if given.rounds > 1 else [])]
+        chosen = ["--device", given.device] if given.device else []
+        chosen += [] if given.ks else ["--k", str(given.k)]
+        words = [*chosen, "--for", given.aim, *(["--rule", given.rule] if given.rule else []), *(["--rounds", str(given.rounds)] if given.rounds > 1 else [])]
         return words + [word for option, values in (("--try", given.further), ("--only", given.only)) for value in values for word in (option, value)]
 
     def from_verilog(self) -> dict[str, Any]:
@@ -169,19 +185,19 @@ class Build:
 
     def sizes(self) -> None:
         """The sizes by both rules and by ABC at some K, and the rule that is taken."""
-        ks = sorted({self.given.k, 4, 6})
+        ks = sorted({self.given.k, 4, 6, *self.given.ks})
         words = [ks, self.built.versions.get("ABC", "")]
         made = self.steps.make("sizes", words, [self.path(".blif"), self.path(".par"), self.binary], [], lambda: self.measured(ks))
         self.built.sizes = made
         best = self.built.preparation.get("best")
-        if best:
-            self.built.rule = best["rule"]
+        if best or self.built.rule:
+            self.built.rule = best["rule"] if best else self.built.rule
             return
-        at = {rule: made[str(self.given.k)][rule] for rule in RULES}
-        order = [{"tables": 0, "depth": 1, "bits": 2, "changed": 2}[name] for name in AIMS[self.given.aim]]
+        at = {rule: made[str(self.given.k)][rule] for rule in RULES if self.given.rule in (None, rule)}
+        order = [{"tables": 0, "depth": 1, "bits": 2, "changed": 2, "sites": 0}[name] for name in AIMS[self.given.aim]]
         fits = {rule: cells for rule, cells in at.items() if cells[1]}
         if not fits:
-            raise Fault(f"tlut refuses the netlist at K {self.given.k}, which exceeds a limit ({at['tlut'][0]})")
+            raise Fault(f"tlut refuses the netlist at K {self.given.k}, which exceeds a limit ({next(iter(at.values()))[0]})")
         self.built.rule = min(fits, key=lambda rule: [int(fits[rule][place]) for place in order])
 
     def measured(self, ks: list[int]) -> dict[str, dict[str, list[str]]]:
@@ -215,7 +231,7 @@ class Build:
         def work() -> str:
             ran = tools.run([self.program, *rule, *words])
             if ran.returncode:
-                raise Fault((ran.stderr.strip().splitlines() or [f"tlut ended with status {ran.returncode}"])[-1])
+                raise refusal_of(ran)
             return ran.stdout
 
         return str(self.steps.make(step, [rule, words], [*reads, self.binary], writes, work))
@@ -245,31 +261,43 @@ class Build:
         return [check], [self.shown(["prove", *files], False), self.shown(["audit", *files], False)]
 
     def flow(self, words: list[str], given: str = "", seconds: Optional[float] = None) -> tuple[int, str, str]:
-        """Runs another subcommand, and returns its status and its outputs."""
+        """Runs another subcommand, and returns its status, its output, and its last line on standard error."""
         ran = tools.run([sys.executable, "-c", RUN, *words], None, seconds, given, {**os.environ, "PYTHONPATH": tools.TOP})
-        return ran.returncode, ran.stdout, ran.stderr.strip()
+        return ran.returncode, ran.stdout, ran.stderr.strip().rpartition("\n")[2]
+
+    def verilog(self) -> tuple[list[list[str]], list[str]]:
+        """The circuit in Verilog, and what a device counts of it."""
+        checks, commands = self.hardware()
+        if self.device is not None:
+            source = self.path(END) if self.is_verilog else self.given.files[0]
+            self.built.device = self.device.count(source, self.is_verilog, self.built.rule)
+            if self.given.script:
+                checks += self.device.played(self.flow, read_text(self.path("_run.txt")))
+        return checks, commands
 
     def hardware(self) -> tuple[list[list[str]], list[str]]:
         """The run of the script, and the circuit in Verilog, which also plays it if Icarus Verilog is installed."""
-        files, script, module = [self.path("_t.blif"), self.path(".ppc")], self.given.script, f"{self.folder}/{self.name}_mapped"
-        words = ["hdl", *files, "--target", self.given.target, "--module", f"{self.name}_mapped", "--out", self.folder]
+        files, script, module = [self.path("_t.blif"), self.path(".ppc")], self.script, f"{self.folder}/{self.name}_mapped"
+        if script and any(line.tokens[0] == "upset" for line in logical_lines(read_text(script))):
+            # An upset may be of any bit, so each one is to be writable.
+            self.given.bits = "all"
+        words = ["hdl", *files, *way_words(way_of(self.given)), "--module", f"{self.name}_mapped", "--out", self.folder]
         if not script:
             self.steps.make("verilog", words, files, [f"{module}.v", f"{module}_bench.v"], lambda: self.must(words))
             return [], [shlex.join(["flow", *words])]
-        if any(line.tokens[0] == "upset" for line in logical_lines(read_text(script))):
-            # An upset may be of any bit, so each one is to be writable.
-            words += ["--bits", "all"]
         run = ["run", str(self.given.k), self.path(".blif"), self.path(".par"), script, "0", "0"]
         printed = self.tlut("run", run, [self.path(".blif"), self.path(".par"), script], [])
         write_text(self.path("_run.txt"), printed)
         ports = [self.path(".blif"), self.path(".par")]
-        self.built.shown = self.steps.make("values", [printed], ports, [], lambda: self.must(["show", *ports], printed))
+        show = ["show", *ports, *view_words(self.given)]
+        self.built.shown = self.steps.make("values", [show, printed], ports, [], lambda: self.must(show, printed))
         words += ["--script", script, *(["--simulate"] if tools.find(tools.ICARUS) else [])]
         writes = [f"{module}.v", f"{module}_bench.v", f"{module}.events"]
         check = self.steps.make("verilog", [words, printed], [*files, script], writes, lambda: self.simulated(words, printed))
         wave = ["wave", *ports, script]
         self.steps.make("waveform", [printed], [*ports, script], [self.path(".vcd")], lambda: write_text(self.path(".vcd"), self.must(wave, printed)))
-        shown = [f"{self.shown(run)} > {self.path('_run.txt')}", f"{shlex.join(['flow', *words])} < {self.path('_run.txt')}"]
+        made = [] if script == self.given.script else [f"{shlex.join(['flow', 'script', *ports])} < {self.given.script} > {script}"]
+        shown = [*made, f"{self.shown(run)} > {self.path('_run.txt')}", f"{shlex.join(['flow', *words])} < {self.path('_run.txt')}"]
         return [check], [*shown, f"{shlex.join(['flow', *wave])} < {self.path('_run.txt')} > {self.path('.vcd')}"]
 
     def simulated(self, words: list[str], printed: str) -> list[str]:
@@ -365,31 +393,3 @@ def told_of(found: Optional[Found], summary: str) -> dict[str, Any]:
     failures = [[it.name, it.failure] for it in found.failures]
     abc = [by_abc[0], by_abc[1], *by_abc[2].cells()] if by_abc else []
     return {"summary": summary, "best": {**asdict(found.best), "file": ""}, "rows": rows, "failures": failures, "abc": abc, "tried": len(found.trials)}
-
-
-def program_file(program: str) -> str:
-    """The file that changes if the program does: for the wrapper, the program that it runs."""
-    built = [f"{os.path.dirname(os.path.realpath(program))}/{it}" for it in tools.BUILT]
-    return next((it for it in built if os.path.exists(it)), program)
-
-
-def make_folder(path: str) -> None:
-    """Creates a folder unless it exists."""
-    try:
-        os.makedirs(path, exist_ok=True)
-    except OSError as error:
-        raise Fault(f"{path}: {error.strerror}") from None
-
-
-def copy(source: str, target: str) -> None:
-    """Copies a file, which may be the very one."""
-    try:
-        if os.path.abspath(source) != os.path.abspath(target):
-            shutil.copyfile(source, target)
-    except OSError as error:
-        raise Fault(f"{error.filename or target}: {error.strerror}") from None
-
-
-def page_text(path: str) -> str:
-    """A part of the report page."""
-    return read_text(f"{os.path.dirname(os.path.abspath(__file__))}/page/{path}")

@@ -10,6 +10,8 @@ from tlutflow.faults import Fault
 from tlutflow.text import count
 
 SIZED = re.compile(r"[0-9]*'[sS]?([bodhBODH])([0-9a-fA-F_]+)")
+# Values of more digits than this are shown in hexadecimal.
+WIDE = 32
 BASES = {"b": 2, "o": 8, "d": 10, "h": 16}
 
 
@@ -56,6 +58,10 @@ class Bus:
         value = sum(bits[net] << place for place, net in enumerate(self.nets))
         return value - (1 << self.width) if (signed or self.is_signed) and bits[self.nets[-1]] else value
 
+    def text(self, value: int, is_hex: bool = False) -> str:
+        """A value as it is shown: decimal, or hexadecimal if that is wanted or the bus is wide."""
+        return hex(value) if is_hex or self.width > WIDE else str(value)
+
     def value_of(self, word: str) -> int:
         """The value that an argument states, if it fits."""
         value = parse_number(word)
@@ -63,7 +69,7 @@ class Bus:
             raise Fault(f"{self.name}={word}: the value isn't of one of the forms 18, -3, 0x12, 0b10010, 5'h12")
         if not -(1 << self.width - 1) <= value < 1 << self.width:
             low, high = -(1 << self.width - 1), (1 << self.width) - 1
-            raise Fault(f"{self.name}={word}: {self.title} has {count(self.width, 'bit')}, so its values are {low} to {high}")
+            raise Fault(f"{self.name}={word}: {self.title} has {count(self.width, 'bit')}, so its values are {self.text(low)} to {self.text(high)}")
         return value
 
 

@@ -8,7 +8,7 @@ from typing import Iterator
 from tlutflow import tools
 from tlutflow.bus import Bus
 from tlutflow.buses import buses_of
-from tlutflow.faults import Fault
+from tlutflow.refusals import refusal_of
 from tlutflow.text import write_text
 
 # How many changes are drawn, and the bits of the parameters up to which all changes from all values are looked at.
@@ -69,7 +69,7 @@ def rewritten(program: str, pack: str, changes: Iterator[Change], folder: str) -
     write_text(script, "".join(set_line(before) + set_line(after) for before, after in changes))
     ran = tools.run([program, "bits", pack, script], folder)
     if ran.returncode:
-        raise Fault((ran.stderr.strip().splitlines() or ["tlut bits failed"])[-1])
+        raise refusal_of(ran)
     return [int(line.split()[1]) for line in ran.stdout.splitlines()[2::2]]
 
 

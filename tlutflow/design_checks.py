@@ -74,7 +74,7 @@ def undriven(design: Design) -> list[str]:
     read = [bit for port in design.ports.values() if port["direction"] == "output" for bit in port["bits"]]
     read += [bit for cell in design.cells for bit in cell.bits(False)]
     missing = list(dict.fromkeys(bit for bit in read if isinstance(bit, int) and bit not in driven))
-    return lines_by_place(design, [(place_of(design, bit), design.name(bit) or "") for bit in missing], "has no driver, and is 0 in the netlist")
+    return lines_by_place(design, [(place_of(design, bit), design.name(bit) or "") for bit in missing], "has no driver; Yosys chooses the value of what reads it, mostly 0")
 
 
 def lines_by_place(design: Design, found: list[tuple[str, str]], text: str) -> list[str]:

@@ -88,11 +88,8 @@ class Bench:
         name = f"graph{next(self.numbers)}"
         script = f"read_library gates.genlib; {commands}; print_stats; write_blif {name}.blif; write_aiger -s {name}.aig"
         ran = tools.run_abc(self.abc, script, self.folder, self.seconds)
-        if ran.status:
-            raise Fault(f"ABC ended with status {ran.status}")
-        if not os.path.exists(f"{self.folder}/{name}.aig"):
-            lines = [line.strip() for line in ran.told.splitlines() if line.strip()]
-            raise Fault(f"ABC: {lines[-1] if lines else 'it wrote nothing'}")
+        if ran.status or not os.path.exists(f"{self.folder}/{name}.aig"):
+            raise tools.abc_failure(ran)
         return Graph(name, levels_of(ran.told), ran.processor, source.seconds + ran.seconds)
 
 

@@ -8,7 +8,7 @@ from __future__ import annotations
 from dataclasses import dataclass
 from typing import Union
 
-from tlutflow.cfglut import CfglutChain, CfglutRandom
+from tlutflow.devices.cfglut import CfglutChain, CfglutRandom
 from tlutflow.circuit import Circuit
 from tlutflow.faults import Fault
 from tlutflow.flip_flops import Chain, Random, Words
@@ -31,27 +31,23 @@ class Way:
     bits: str = "changing"
     regions: int = 1
     word: int = 1
+    pairs: bool = True
 
 
 def device_of(circuit: Circuit, names: Names, way: Way) -> Device:
     """The LUTs and the configuration port of a circuit."""
     target, port, bits, regions, word = way.target, way.port, way.bits, way.regions, way.word
-    if not 1 <= word <= MOST_WORD or word > 1 and (target, port) != ("generic", "random"):
-        raise Fault(f"--word {word}: with --port random the generic target has words of 1 to {MOST_WORD} bits, and all other ports have none")
+    if not 1 <= word <= MOST_WORD or word > 1 and port != "random":
+        raise Fault(f"--word {word}: --port random has words of 1 to {MOST_WORD} bits, and --port chain has none")
     if regions < 1 or regions > 1 and (target, port) != ("generic", "chain"):
         raise Fault(f"--regions {regions}: the generic target has one chain or more, one for each region, and all other ports have one region")
     if target == "xilinx":
         store = store_of(circuit.pack, "changing" if bits == "distinct" else bits)
-        return CfglutChain(circuit, names, store) if port == "chain" else CfglutRandom(circuit, names, store)
+        return CfglutChain(circuit, names, store, way.pairs) if port == "chain" else CfglutRandom(circuit, names, store, way.pairs, word)
     store = store_of(circuit.pack, bits)
     if port == "chain":
         return Chain(circuit, names, store, regions)
     return Words(circuit, names, store, word) if word > 1 else Random(circuit, names, store)
-
-
-def usual_port(target: str) -> str:
-    """The port if none is chosen."""
-    return "random" if target == "xilinx" else "chain"
 
 
 def port_lines(names: Names, device: Device) -> list[str]:

@@ -7,7 +7,7 @@ import io
 import os
 import sys
 from types import ModuleType
-from typing import NoReturn, Optional
+from typing import Any, NoReturn, Optional
 
 from tlutflow.commands import bits, build, check, compare, complete, device, draw, explain, hdl, params, prepare, report, script, show, stream, verilog, wave
 from tlutflow.faults import Fault
@@ -21,6 +21,12 @@ TAIL = """NETLIST, PARAMS and SCRIPT are files as tlut reads them, OUTPUT is wha
 The exit status is 0 on success, 1 on failure, with one line on stderr, and 2 for a usage error."""
 
 
+def version() -> str:
+    """The number of the version, which the program, the companion and the library have in common."""
+    with open(os.path.join(os.path.dirname(os.path.abspath(__file__)), "VERSION"), encoding="utf-8") as file:
+        return file.read().strip()
+
+
 class Words(argparse.ArgumentParser):
     """An argument parser that reports a usage error in one line."""
 
@@ -28,12 +34,32 @@ class Words(argparse.ArgumentParser):
         self.exit(2, f"{self.prog}: {message}; see {self.prog} --help\n")
 
 
+class Subcommand(Words):
+    """The parser of a subcommand, whose options may be among its files and values."""
+
+    is_within = False
+
+    def parse_known_args(self, args: Any = None, namespace: Any = None) -> Any:
+        """Parses options first and then what is left, in any order. The call within comes back here."""
+        if self.is_within:
+            return super().parse_known_args(args, namespace)
+        self.is_within = True
+        try:
+            found, others = self.parse_known_intermixed_args(args, namespace)
+        finally:
+            self.is_within = False
+        if others:
+            unknown = [it for it in others if it.startswith("-")] or others
+            self.error(f"unrecognized arguments: {' '.join(unknown)}")
+        return found, others
+
+
 def parser() -> argparse.ArgumentParser:
     """The parser of all arguments."""
     name = os.path.basename(sys.argv[0])
     prog = name if name.startswith(("flow", "tlut")) else "flow"
     words = Words(prog=prog, description=HEAD, epilog=TAIL)
-    subcommands = words.add_subparsers(title="subcommands", metavar="SUBCOMMAND", required=True, parser_class=Words)
+    subcommands = words.add_subparsers(title="subcommands", metavar="SUBCOMMAND", required=True, parser_class=Subcommand)
     for module in COMMANDS:
         own = subcommands.add_parser(
             module.__name__.rsplit(".", 1)[-1],
@@ -44,6 +70,7 @@ def parser() -> argparse.ArgumentParser:
         )
         module.add_words(own)
         own.set_defaults(run=module.run, prog=own.prog)
+    words.add_argument("--version", action="version", version=f"{prog} {version()}", help="print the version and exit")
     return words
 
 

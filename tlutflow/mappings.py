@@ -10,6 +10,10 @@ from tlutflow.fault_line import parse_fault
 from tlutflow.faults import Fault
 from tlutflow.netlist import Cover, Library, read_library
 from tlutflow.output import parse_header
+from tlutflow.refusals import refusal
+
+# The files of a mapping whose sizes were taken: its template and its pack.
+MAPPED = ("template.blif", "bits.ppc")
 
 
 @dataclass(frozen=True)
@@ -29,7 +33,7 @@ class Sizes:
 def sizes_by_tlut(program: str, size: int, netlist: str, parameters: str, folder: str, *rule: str) -> Sizes:
     """The sizes that `tlut map` reports for LUTs of this many inputs; with an option for the rule if the program has it."""
     files = [os.path.abspath(it) for it in (netlist, parameters)]
-    ran = tools.run([program, *rule, "map", str(size), *files, f"{folder}/template.blif", f"{folder}/bits.ppc"], folder)
+    ran = tools.run([program, *rule, "map", str(size), *files, *(f"{folder}/{it}" for it in MAPPED)], folder)
     header = parse_header(ran.stdout.strip())
     if ran.returncode == 0 and header and header.tables is not None and header.depth is not None:
         return Sizes(header.tables, header.depth, header.bits)
@@ -39,7 +43,7 @@ def sizes_by_tlut(program: str, size: int, netlist: str, parameters: str, folder
     fault = parse_fault(told)
     if fault and fault.code.startswith("L"):
         return Sizes(refusal=fault.code)
-    raise Fault(told)
+    raise refusal(told, dict(zip(files, (netlist, parameters))))
 
 
 def sizes_by_abc(abc: str, size: int, netlist: str, words: str, folder: str) -> Sizes:

@@ -10,9 +10,11 @@ from dataclasses import dataclass
 
 from tlutflow.faults import Fault
 
-# The gates that ABC's `map` may use. An inverter is almost free; a gate's delay is how many AND nodes it has on its way.
+# The gates that ABC's `map` may use. An inverter is almost free; a gate's delay is how many AND nodes it has on its way. Without the buffer
+# ABC can't write an output that is an input or a flip-flop's state.
 GENLIB = """GATE zero 0 Y=CONST0;
 GATE one 0 Y=CONST1;
+GATE buf 0 Y=A; PIN * NONINV 1 999 0 0 0 0
 GATE inv 0.1 Y=!A; PIN * INV 1 999 0.1 0 0.1 0
 GATE and2 1 Y=A*B; PIN * NONINV 1 999 1 0 1 0
 GATE nand2 1 Y=!(A*B); PIN * INV 1 999 1 0 1 0

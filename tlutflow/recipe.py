@@ -26,7 +26,8 @@ class Step:
 
 @dataclass(frozen=True)
 class Sources:
-    """A design's files, its top module, and the options of its reader: macros, include folders, values of module parameters."""
+    """A design's files, its top module, the options of its reader: macros, include folders, values of module parameters; and files of cells,
+    of which only those that the design has are read."""
 
     files: list[str]
     top: str
@@ -34,6 +35,7 @@ class Sources:
     includes: list[str] = field(default_factory=list)
     settings: list[tuple[str, str]] = field(default_factory=list)
     reader: str = "verilog"
+    cells: list[str] = field(default_factory=list)
 
 
 def quoted(path: str) -> str:
@@ -48,9 +50,10 @@ def reading(sources: Sources) -> list[Step]:
     steps = [Step(f"plugin -i {plugin}", "the reader of SystemVerilog")] if plugin else []
     if plugin:
         top = f" --top {sources.top}" if plugin == "slang" else ""
-        steps.append(Step(f"{command}{top}{words} {' '.join(map(quoted, sources.files))}", "the design"))
+        steps.append(Step(f"{command}{top}{words} {' '.join(map(quoted, [*sources.files, *sources.cells]))}", "the design"))
     else:
         steps += [Step(f"{command}{' -sv' if file.endswith('.sv') else ''}{words} {quoted(file)}", "the design") for file in sources.files]
+        steps += [Step(f"read_verilog -defer{words} {quoted(file)}", "cells: only those that the design has are looked at") for file in sources.cells]
     steps += [Step(f"chparam -set {name} {value} {sources.top}", "a module parameter's value") for name, value in sources.settings]
     return steps
 
@@ -63,18 +66,28 @@ def look(sources: Sources, design: str) -> list[Step]:
 def recipe(sources: Sources, preparation: str, netlist: str, registers: str, ports: str, gates: Optional[str] = None) -> list[Step]:
     """The steps from files in Verilog to the files of the netlist, of its registers and of its ports. With `gates` the netlist before its
     preparation is written to that file too, for others to start from."""
-    before = [Step("opt_clean -purge", "aliases are removed"), Step(f"write_blif {quoted(gates)}", "where preparations start"), Step(f"write_json {quoted(gates + '.json')}", "")] if gates else []
     return [
         *reading(sources),
         Step(f"synth -flatten -top {sources.top}", "one module of gates and flip-flops; memories become flip-flops"),
         Step(f"write_json {quoted(registers)}", "the registers with their names and resets, as the source has them"),
         Step("async2sync", "an asynchronous reset becomes logic before and after its flip-flop, since a latch has none"),
         Step("dfflegalize -cell $_DFF_P_ 01", "enables and resets become logic before a plain flip-flop at the positive edge, which starts at 0 or 1"),
-        *before,
+        *(kept_gates(gates) if gates else []),
         Step(f"abc -g AND,OR,XOR,MUX -script +{preparation}", "gates of two inputs, and of little depth: the mapper keeps the graph that it reads"),
         Step("opt_clean -purge", "aliases are removed, such as the second name of a clock, which would count as data"),
         Step(f"write_blif {quoted(netlist)}", "the netlist"),
         Step(f"write_json {quoted(ports)}", "the ports with their attributes"),
+    ]
+
+
+def kept_gates(path: str) -> list[Step]:
+    """The steps that write the gates to a file, and their names beside it. A bus that Yosys made for a sum can have places that nothing
+    drives or reads: `write_blif` would write one of them as the second name of another."""
+    return [
+        Step("setundef -undriven -zero", "what nothing drives is 0"),
+        Step("opt_clean -purge", "aliases are removed"),
+        Step(f"write_blif {quoted(path)}", "where preparations start"),
+        Step(f"write_json {quoted(path + '.json')}", ""),
     ]
 
 

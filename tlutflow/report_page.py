@@ -6,11 +6,13 @@ import json
 from html import escape
 from typing import Any, Iterable, Optional
 
-from tlutflow.building import Built, page_text
+from tlutflow.build_files import page_text
+from tlutflow.building import Built
 from tlutflow.buses import buses_of
 from tlutflow.changes import EXHAUSTIVE, spread
 from tlutflow.circuit import Circuit
 from tlutflow.circuit_view import view_of
+from tlutflow.devices.count import COLUMNS as DEVICE_COLUMNS
 from tlutflow.plots import RATES, plot, ticks_of
 from tlutflow.trials import RULE_NAMES
 from tlutflow.statistics import KINDS, Statistics, kind, statistics
@@ -18,6 +20,7 @@ from tlutflow.text import count
 
 SECTIONS = [
     ("sizes", "Sizes"),
+    ("device", "Device"),
     ("path", "Critical path"),
     ("picture", "Circuit"),
     ("tables", "LUTs"),
@@ -75,6 +78,25 @@ def sizes_part(built: Built) -> str:
     if best:
         note += f" Over all preparations, ABC's best at K {built.k} is {number(best[2])} LUTs at depth {escape(best[3])} ({escape(best[1])}, after {escape(best[0])})."
     return f'<p class="soft">{note}</p>' + table(head, rows).replace("<thead>", f"<thead>{above}")
+
+
+def device_part(built: Built) -> Optional[str]:
+    """What a device counts, at each K by each rule, and beside the source with its parameters in registers. None without a device."""
+    found = built.device
+    if not found:
+        return None
+    head = ["K", "rule", f"{found['unit']}s", "depth", "LUTs", "bits"]
+    rows = [
+        ([k, RULE_NAMES[rule], *(number(cell) for cell in cells)], "best" if (k, rule) == (str(built.k), built.rule) else "")
+        for k, at in found["counts"].items()
+        for rule, cells in at.items()
+    ]
+    shown = f'<p class="soft">{escape(found["told"])}</p>' + table(head, rows, (1,))
+    if "rows" not in found:
+        return f"{shown}<p>Yosys counts no cells here: it isn't installed, or the source is AIGER.</p>"
+    measured = [([escape("this circuit" if title == "mapped" else f"registers, {title}"), *(number(cell) for cell in cells)], "" if place else "best") for place, (title, cells) in enumerate(found["rows"])]
+    note = "Cells as Yosys synthesises them. With its parameters in registers the source loads them through a chain of flip-flops. Two LUTs share a site in both where they may."
+    return shown + f'<p class="soft">{note} {escape(found["text"])}.</p>' + table(["source", *DEVICE_COLUMNS], measured)
 
 
 def path_part(circuit: Circuit, view: dict[str, Any]) -> str:
@@ -154,7 +176,7 @@ def parameters_part(circuit: Circuit, found: Statistics) -> str:
     for bus in buses_of(names, circuit.ports).values():
         inside = {net for name in bus.nets for net in tables[name]}
         bits = sum(1 for support in circuit.supports if any(support >> names.index(name) & 1 for name in bus.nets))
-        value = bus.number(circuit.pack.parameters)
+        value = bus.text(bus.number(circuit.pack.parameters))
         lists = "".join(parameter_lists(name, tables[name]) for name in bus.nets)
         rows.append(([escape(bus.title), number(value), f"{len(inside):,}", f"{bits:,}", f"<details><summary>bit by bit</summary>{lists}</details>"], ""))
     head = ["parameter", "initial value", "LUTs", "configuration bits", "in which LUTs"]
@@ -225,6 +247,7 @@ def page(built: Built, circuit: Circuit) -> str:
     found, view = statistics(circuit), view_of(circuit)
     parts: dict[str, Optional[str]] = {
         "sizes": sizes_part(built),
+        "device": device_part(built),
         "path": path_part(circuit, view),
         "picture": picture_part(),
         "tables": tables_part(circuit, found),
@@ -247,6 +270,7 @@ def page(built: Built, circuit: Circuit) -> str:
         f"<style>\n{page_text('report.css')}</style>\n</head>\n<body>\n<main>\n<h1>{title}</h1>\n<p class='soft'>{lead}</p>\n{told}{cards(built, found)}\n<nav>{links}</nav>\n{body}\n</main>\n"
         f"<script>\nconst CIRCUIT = {data};\n{page_text('report.js')}</script>\n</body>\n</html>\n"
     )
+
 
 
 def prepared_words(built: Built) -> str:

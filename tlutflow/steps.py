@@ -14,6 +14,7 @@ import time
 from typing import Any, Callable
 
 from tlutflow.faults import Fault
+from tlutflow.patience import patience
 from tlutflow.text import write_text
 
 RECORD = "build.json"
@@ -55,7 +56,8 @@ class Steps:
             self.say(f"{name}: as before")
             return known["result"]
         begun = time.monotonic()
-        result = work()
+        with patience(self.prog, name):
+            result = work()
         files = self.written(writes)
         for path, found in files.items():
             if not found:

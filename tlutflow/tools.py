@@ -4,6 +4,7 @@ from __future__ import annotations
 
 import math
 import os
+import re
 import shutil
 import subprocess
 import sys
@@ -104,6 +105,13 @@ def run_abc(abc: str, commands: str, folder: str, seconds: float) -> AbcRun:
     return AbcRun(status, told, processor, time.monotonic() - begun)
 
 
+def abc_failure(ran: AbcRun) -> Fault:
+    """Why a run of ABC failed: its status, if it isn't 0, and its last line that speaks of an error, or else its last line."""
+    lines = [line.strip() for line in ran.told.splitlines() if line.strip()] or ["it printed nothing"]
+    last = ([line for line in lines if re.search("error|assert", line, re.IGNORECASE)] or lines)[-1]
+    return Fault(f"ABC ended with status {ran.status}: {last}" if ran.status else f"ABC: {last}")
+
+
 def limit_of(seconds: float) -> int:
     """A limit of processor time in whole seconds, as the shell takes it."""
     return max(1, math.ceil(seconds))
@@ -156,6 +164,11 @@ def tlut(given: Optional[str]) -> str:
     if path == f"{TOP}/tlut" and not any(os.path.exists(f"{TOP}/{built}") for built in BUILT):
         raise Fault(f"{path} isn't built yet: its first call builds it, which takes a while, and reports its progress")
     return os.path.abspath(found)
+
+
+def yosys_file(name: str) -> str:
+    """The path of one of Yosys's own files, whose name begins with `+/`."""
+    return os.path.realpath(f"{os.path.dirname(need(YOSYS, name))}/../share/yosys/{name[2:]}")
 
 
 def versions(program: str) -> dict[str, str]:

@@ -6,16 +6,19 @@ import os
 import shutil
 import time
 from dataclasses import dataclass, field, replace
+from itertools import product
 from typing import Callable, Optional
 
 from tlutflow import tools
 from tlutflow.abc_form import model_lines
 from tlutflow.changes import median_rewritten
+from tlutflow.circuit import read_circuit
 from tlutflow.combinational import Logic, compared_texts, interface_difference, logic_of, logic_text, netlist_text
+from tlutflow.devices.families import Family
 from tlutflow.faults import Fault
 from tlutflow.flat import read_flat
 from tlutflow.graphs import Bench
-from tlutflow.mappings import Sizes, sizes_by_abc, sizes_by_tlut
+from tlutflow.mappings import MAPPED, Sizes, sizes_by_abc, sizes_by_tlut
 from tlutflow.netlist import Model
 from tlutflow.parameters import read_parameters
 from tlutflow.pieces import Job, Jobs, Piece
@@ -28,6 +31,7 @@ AIMS = {
     "tables": ("tables", "depth", "bits"),
     "bits": ("bits", "depth", "tables"),
     "changes": ("changed", "depth", "tables"),
+    "sites": ("sites", "depth", "tables", "bits"),
 }
 RULES = {"tlut": (), "compact": ("--compact",)}
 RULE_NAMES = {"tlut": "tlut", "compact": "tlut --compact"}
@@ -54,12 +58,18 @@ class Task:
     # Further netlists of the same circuit that are to be tried as they are, by their names.
     ready: dict[str, str] = field(default_factory=dict)
     program: Optional[str] = None
+    # The rules that are tried, the family of devices whose count is taken, and the values of K instead of `k`.
+    rules: tuple[str, ...] = tuple(RULES)
+    family: Optional[Family] = None
+    ks: tuple[int, ...] = ()
+    # What the netlist is called in a fault, if its file is a temporary one.
+    title: str = ""
 
 
 @dataclass(frozen=True)
 class Result:
     """A preparation mapped by a rule: its name, the rule, its sizes, the median of bits that a change rewrites (None where that wasn't
-    looked at), the seconds that it took, and its file."""
+    looked at), the seconds that it took, its file, K, and what a device counts (None without a device)."""
 
     name: str
     rule: str
@@ -69,14 +79,17 @@ class Result:
     changed: Optional[int]
     seconds: float
     file: str
+    k: int = 0
+    sites: Optional[int] = None
 
     def key(self, aim: str) -> tuple[int, ...]:
         """What is compared: lower is better."""
         return tuple(getattr(self, name) for name in AIMS[aim])
 
     def is_beaten_by(self, other: Result) -> bool:
-        """Whether another one is nowhere worse and somewhere better, in LUTs, depth, bits and what a change rewrites."""
-        mine, others = ([it.tables, it.depth, it.bits, it.changed or 0] for it in (self, other))
+        """Whether another one is nowhere worse and somewhere better, in LUTs or what the device counts, depth, bits and what a change
+        rewrites."""
+        mine, others = ([it.tables if it.sites is None else it.sites, it.depth, it.bits, it.changed or 0] for it in (self, other))
         return mine != others and all(theirs <= own for theirs, own in zip(others, mine))
 
 
@@ -175,7 +188,7 @@ class Workshop:
         """Runs ABC with the limit of a preparation, and returns what it says."""
         ran = tools.run_abc(self.abc, commands, room, self.task.seconds)
         if ran.status:
-            raise Fault(f"ABC ended with status {ran.status}")
+            raise tools.abc_failure(ran)
         return ran.told
 
     def prepared(self, name: str, start: Start, preparation: Preparation) -> Job[Prepared]:
@@ -202,16 +215,17 @@ class Workshop:
             raise Fault("it differs from the source (ABC cec)" if "NOT EQUIVALENT" in told else "ABC cec didn't decide whether it is the source")
 
     def measure(self, name: str, file: str, took: float, room: str) -> list[Result]:
-        """Maps a netlist by both rules."""
+        """Maps a netlist by each rule at each K."""
         results, refusal = [], ""
-        for rule, words in RULES.items():
+        for k, rule in product(self.task.ks or (self.task.k,), self.task.rules):
             begun = time.monotonic()
-            sizes = sizes_by_tlut(self.program, self.task.k, file, self.task.parameters, room, *words)
+            sizes = sizes_by_tlut(self.program, k, file, self.task.parameters, room, *RULES[rule])
             if sizes.refusal:
                 refusal = sizes.refusal
                 continue
             changed = median_rewritten(self.program, f"{room}/bits.ppc", self.nets, room, CHANGES) if self.task.aim == "changes" else None
-            results.append(Result(name, rule, sizes.tables, sizes.depth, sizes.bits, changed, took + time.monotonic() - begun, file))
+            sites = self.task.family.cost(read_circuit(*(f"{room}/{it}" for it in MAPPED))) if self.task.family else None
+            results.append(Result(name, rule, sizes.tables, sizes.depth, sizes.bits, changed, took + time.monotonic() - begun, file, k, sites))
         if not results:
             raise Fault("this tlut has no such rule" if refusal == "-" else f"tlut refuses it for a limit ({refusal})")
         return results
@@ -246,7 +260,10 @@ class Workshop:
     def as_read(self) -> Trial:
         """The source as it is. What `tlut` refuses for another reason than a limit is refused here."""
         room = self.room("source")
-        sizes = sizes_by_tlut(self.program, self.task.k, self.task.netlist, self.task.parameters, room)
+        try:
+            sizes = sizes_by_tlut(self.program, self.task.k, self.task.netlist, self.task.parameters, room)
+        except Fault as fault:
+            raise Fault(str(fault).replace(self.task.netlist, self.task.title or self.task.netlist)) from None
         if sizes.refusal:
             return Trial(AS_READ, [], {}, f"tlut refuses it for a limit ({sizes.refusal})")
         return Trial(AS_READ, self.measure(AS_READ, self.source_in_blif(room), 0, room), self.beside(self.model, room))

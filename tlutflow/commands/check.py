@@ -12,6 +12,7 @@ from tlutflow.netlist import Library, read_library
 from tlutflow.output import parse_output
 from tlutflow.pack import read_pack
 from tlutflow.parameters import interface_of, read_parameters
+from tlutflow.patience import patience
 from tlutflow.script import read_script
 from tlutflow.source_player import SourcePlayer
 from tlutflow.text import count, read_input, write_text
@@ -124,7 +125,8 @@ def run(given: argparse.Namespace) -> int:
     with tempfile.TemporaryDirectory(prefix="flow-") as folder:
         write_text(f"{folder}/source.blif", left)
         write_text(f"{folder}/written.blif", right)
-        ran = tools.run_abc(abc, f"{method} source.blif written.blif", folder, given.seconds)
+        with patience(given.prog, f"ABC {method}"):
+            ran = tools.run_abc(abc, f"{method} source.blif written.blif", folder, given.seconds)
     told = [line.strip() for line in ran.told.splitlines() if line.strip()]
     outcome = verdict("\n".join(told))
     if outcome == "equal":

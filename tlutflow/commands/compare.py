@@ -5,6 +5,8 @@ from __future__ import annotations
 import argparse
 import os
 import tempfile
+from concurrent.futures import ThreadPoolExecutor
+from typing import Callable
 
 from tlutflow import tools
 from tlutflow.abc_form import abc_text
@@ -12,6 +14,7 @@ from tlutflow.faults import Fault
 from tlutflow.mappings import Sizes, sizes_by_abc, sizes_by_tlut
 from tlutflow.netlist import read_library
 from tlutflow.parameters import read_parameters
+from tlutflow.patience import patience
 from tlutflow.statistics import grid
 from tlutflow.text import count, write_text
 
@@ -31,23 +34,40 @@ EXAMPLE = """example:
 def add_words(parser: argparse.ArgumentParser) -> None:
     parser.add_argument("netlist", metavar="NETLIST", help="the netlist, in BLIF or AIGER")
     parser.add_argument("params", metavar="PARAMS", help="its parameter list")
-    parser.add_argument("--k", metavar="K", type=int, choices=range(2, 7), action="append", help="2 to 6 (repeat it); each one without")
+    parser.add_argument("--k", metavar="K", type=int, choices=range(2, 7), action="append", help="LUT inputs, 2 to 6; repeatable (default: all)")
+    parser.add_argument("-j", dest="jobs", metavar="N", type=int, default=0, help="how many run at a time (default: one for each processor)")
     parser.add_argument("--tlut", metavar="PATH", help="the program (default: that of the variable TLUT, or the one next to this one)")
 
 
+def columns(given: argparse.Namespace, program: str, abc: str, folder: str) -> list[Callable[[int, str], Sizes]]:
+    """The calls whose sizes are the columns, each with K and a folder of its own."""
+    calls = [(given.params, ()), (given.params, ("--compact",)), (f"{folder}/none.par", ())]
+    by_tlut = [lambda k, room, it=it: sizes_by_tlut(program, k, given.netlist, it[0], room, *it[1]) for it in calls]
+    return [*by_tlut, *(lambda k, room, it=it: sizes_by_abc(abc, k, f"{folder}/source.blif", it, room) for it in ("", " -a"))]
+
+
 def sizes(given: argparse.Namespace, program: str, abc: str, folder: str) -> dict[int, list[Sizes]]:
-    """For each K the sizes of the five columns."""
+    """For each K the sizes of the five columns, several at a time."""
     write_text(f"{folder}/none.par", "")
     write_text(f"{folder}/source.blif", abc_text(read_library(given.netlist), {}))
-    found = {}
-    for size in given.k or range(2, 7):
-        calls = [(given.params, ()), (given.params, ("--compact",)), (f"{folder}/none.par", ())]
-        found[size] = [sizes_by_tlut(program, size, given.netlist, listed, folder, *rule) for listed, rule in calls]
-        found[size] += [sizes_by_abc(abc, size, "source.blif", words, folder) for words in ("", " -a")]
-    return found
+    calls, done = columns(given, program, abc, folder), []
+    jobs = [(k, place) for k in given.k or range(2, 7) for place in range(len(calls))]
+
+    def one(job: tuple[int, int]) -> Sizes:
+        room = f"{folder}/{job[0]}_{job[1]}"
+        os.makedirs(room, exist_ok=True)
+        found = calls[job[1]](job[0], room)
+        done.append(job)
+        return found
+
+    with patience(given.prog, lambda: f"{len(done)} of {len(jobs)} sizes"), ThreadPoolExecutor(given.jobs or os.cpu_count() or 1) as pool:
+        made = dict(zip(jobs, pool.map(one, jobs)))
+    return {k: [made[k, place] for place in range(len(calls))] for k, _ in made}
 
 
 def run(given: argparse.Namespace) -> int:
+    if given.jobs < 0:
+        raise Fault("-j is at least 1")
     program, abc = tools.tlut(given.tlut), tools.need(tools.ABC, "a comparison with ABC")
     if not os.path.exists(given.netlist):
         raise Fault(f"{given.netlist}: no such file")

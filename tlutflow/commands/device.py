@@ -13,6 +13,7 @@ from tlutflow.commands.hdl import make_folder
 from tlutflow.device import PART, PLACERS, WIDEST, device_recipe
 from tlutflow.faults import Fault
 from tlutflow.netlist import read_library
+from tlutflow.patience import patience
 from tlutflow.port_file import file_name
 from tlutflow.recipe import script_text
 from tlutflow.text import write_text
@@ -67,7 +68,8 @@ def place(given: argparse.Namespace, base: str) -> None:
         print(f"{tools.TITLES[placer.names]} isn't installed, so nothing was placed")
         return
     part = shlex.split(given.part) if given.part else list(PART[given.target])
-    ran = tools.run([program, *part, *placer.words, "--json", f"{base}.json", placer.out, base + placer.end])
+    with patience(given.prog, "nextpnr"):
+        ran = tools.run([program, *part, *placer.words, "--json", f"{base}.json", placer.out, base + placer.end])
     told = (ran.stdout + ran.stderr).splitlines()
     if ran.returncode:
         errors = [line for line in told if line.startswith("ERROR")] or told[-1:] or ["it failed"]
@@ -89,7 +91,8 @@ def run(given: argparse.Namespace) -> int:
     yosys = tools.need(tools.YOSYS, "a device's netlist")
     make_folder(given.out)
     write_text(f"{base}.ys", script_text(steps))
-    ran = tools.run([yosys, "-s", f"{base}.ys"])
+    with patience(given.prog, "Yosys"):
+        ran = tools.run([yosys, "-s", f"{base}.ys"])
     if ran.returncode:
         told = [line for line in (ran.stdout + ran.stderr).splitlines() if "ERROR" in line]
         raise Fault(f"Yosys: {told[-1] if told else f'it ended with status {ran.returncode}'}")

@@ -3,11 +3,11 @@
 from __future__ import annotations
 
 import argparse
-from typing import Optional
 
-from tlutflow.explanations import BY_CODE, BY_WORD, CELLS, Explanation
+from tlutflow.explanations import Explanation
 from tlutflow.fault_line import FaultLine, parse_fault
 from tlutflow.faults import Fault
+from tlutflow.refusals import explanation_of, head_of
 from tlutflow.text import logical_lines, physical_lines, read_input, read_text
 
 HELP = "what a fault line means, and what helps"
@@ -51,22 +51,9 @@ def shortened(line: str) -> str:
     return line if len(line) <= LONGEST else line[:LONGEST] + ".."
 
 
-def explanation_of(fault: FaultLine) -> Optional[Explanation]:
-    """What is known of a fault, or None."""
-    known = BY_CODE.get(fault.code) or BY_WORD.get(fault.word)
-    if known is None:
-        return None
-    if fault.code == "F1":
-        for beginnings, cause, remedy in CELLS:
-            if fault.names.startswith(beginnings):
-                return Explanation(known.wants, f"{fault.names} is a cell of Yosys: {cause}", remedy)
-    return known
-
-
 def told(fault: FaultLine, known: Explanation) -> list[str]:
     """The lines of an explanation."""
-    head = f"{fault.file}: {fault.code} {fault.word} {fault.details}".strip() if fault.code else f"{fault.file}: {fault.word}".lstrip(": ")
-    return [head, *lines_to_show(fault), f"  wanted  {known.wants}", f"  cause   {known.cause}", f"  remedy  {known.remedy}"]
+    return [head_of(fault), *lines_to_show(fault), f"  wanted  {known.wants}", f"  cause   {known.cause}", f"  remedy  {known.remedy}"]
 
 
 def run(given: argparse.Namespace) -> int:

@@ -4,14 +4,17 @@ from __future__ import annotations
 
 import argparse
 import os
+import sys
 import tempfile
 
 from tlutflow import tools
 from tlutflow.bench import bench_text, events_text
 from tlutflow.circuit import Circuit, read_circuit
+from tlutflow.devices.families import FAMILIES, told
 from tlutflow.faults import Fault
-from tlutflow.hdl import PORTS, TARGETS, Device, Way, device_of, module_text, usual_port
+from tlutflow.hdl import PORTS, TARGETS, Device, Way, device_of, module_text
 from tlutflow.output import Output, parse_output
+from tlutflow.patience import patience
 from tlutflow.script import read_script
 from tlutflow.store import KINDS
 from tlutflow.text import count, physical_lines, read_input, write_text
@@ -23,13 +26,17 @@ DESCRIPTION = """Writes a mapped circuit as Verilog whose configuration can be c
 functions. The targets are
 
   generic    bits that change are flip-flops, for any device
-  xilinx     LUTs with bits that change are CFGLUT5, two for six leaves
+  xilinx     LUTs with bits that change are CFGLUT5, two for six leaves; two LUTs share a site if at most four leaves reach it, and two
+             LUTs of constants if at most five do (LUT6_2)
 
 and the ports
 
-  chain      all bits are shifted in and then shown at once by cfg_commit (default of generic); on xilinx there is no cfg_commit, and
-             the circuit can't be used while bits are shifted
-  random     one bit at a time, by its number (default of xilinx; a write there takes 32 or 64 periods); with --word one word at a time
+  chain      all bits are shifted in and then shown at once by cfg_commit; on xilinx there is no cfg_commit, and the circuit can't be
+             used while bits are shifted (default)
+  random     one bit at a time, by its number; a write takes 32 or 64 periods on xilinx. With --word one word at a time; on xilinx --word 4
+             has one enable for the four CFGLUT5 of a slice, which are written together
+
+--device chooses these for a family of devices, and stderr says what it chose.
 
 `flow stream` prints what to send for new values of the parameters.
 
@@ -42,19 +49,46 @@ EXAMPLE = """examples:
   tlut run 4 fir.blif fir.par fir.scr 0 0 | flow hdl fir_t.blif fir.ppc --out sim --script fir.scr --simulate"""
 
 
+def add_family_word(parser: argparse.ArgumentParser) -> None:
+    """The argument that names a family of devices."""
+    parser.add_argument("--device", choices=list(FAMILIES), help="a family of devices, for which everything is chosen that no other option chooses")
+
+
 def add_device_words(parser: argparse.ArgumentParser) -> None:
     """The arguments that choose the LUTs and the port."""
-    parser.add_argument("--target", choices=TARGETS, default="generic", help="how LUTs with changing bits are implemented (default: generic)")
-    parser.add_argument("--port", choices=PORTS, help="how bits are changed (default: chain, for xilinx random)")
+    add_family_word(parser)
+    parser.add_argument("--target", choices=TARGETS, help="how LUTs with changing bits are implemented (default: generic)")
+    parser.add_argument("--port", choices=PORTS, help="how bits are changed (default: chain)")
     kinds = "which bits can be written: those that read a parameter (changing, the default), the same with one flip-flop for all bits of one function (distinct), or all"
-    parser.add_argument("--bits", choices=KINDS, default="changing", help=kinds)
+    parser.add_argument("--bits", choices=KINDS, help=kinds)
     parser.add_argument("--regions", metavar="N", type=int, default=1, help="with --port chain: one chain for each region of addresses, as `tlut run` has them for N ports")
-    parser.add_argument("--word", metavar="N", type=int, default=1, help="with --port random of generic: write words of N bits, which needs fewer LUTs (default: 1)")
+    parser.add_argument("--word", metavar="N", type=int, help="with --port random: write words of N bits, which needs fewer LUTs (default: 1)")
+    parser.add_argument("--no-pairs", action="store_true", help="with --target xilinx: no two LUTs share a site")
 
 
 def way_of(given: argparse.Namespace) -> Way:
     """What these words choose."""
-    return Way(given.target, given.port or usual_port(given.target), given.bits, given.regions, given.word)
+    family = FAMILIES.get(given.device or "")
+    target = given.target or (family.target if family else "generic")
+    usual = family if family and family.target == target else FAMILIES["generic"] if given.device else None
+    port = given.port or (usual.port if usual else "chain")
+    bits = given.bits or (usual.bits if usual else "changing")
+    word = usual.word if usual and port == "random" else 1
+    return Way(target, port, bits, given.regions, word if given.word is None else given.word, not given.no_pairs)
+
+
+def way_words(way: Way) -> list[str]:
+    """The arguments that choose it."""
+    words = ["--target", way.target, "--port", way.port, "--bits", way.bits]
+    words += ["--word", str(way.word)] if way.word > 1 else []
+    return words + (["--regions", str(way.regions)] if way.regions > 1 else []) + ([] if way.pairs else ["--no-pairs"])
+
+
+def tell_way(given: argparse.Namespace) -> None:
+    """Says on standard error what a device chose."""
+    if given.device:
+        words = " ".join(way_words(way_of(given)))
+        print(f"{given.prog}: {told(FAMILIES[given.device], words)}", file=sys.stderr)
 
 
 def add_words(parser: argparse.ArgumentParser) -> None:
@@ -144,7 +178,8 @@ def play(given: argparse.Namespace, circuit: Circuit, folder: str) -> None:
     """Writes the files, and runs the testbench if asked."""
     base, output = write_files(given, circuit, folder)
     if given.simulate:
-        shown = simulate(base, given.netlist)
+        with patience(given.prog, "Icarus Verilog"):
+            shown = simulate(base, given.netlist)
         print(compare_outputs(shown, output) if given.netlist else compare(shown, output))
 
 
@@ -156,6 +191,7 @@ def run(given: argparse.Namespace) -> int:
         tools.need(tools.ICARUS, "a simulation")
     if given.netlist and not given.simulate:
         raise Fault("--netlist needs --simulate")
+    tell_way(given)
     if given.out:
         make_folder(given.out)
         play(given, circuit, given.out)

@@ -9,10 +9,12 @@ import tempfile
 from dataclasses import replace
 from typing import Optional
 
+from tlutflow.commands.hdl import add_family_word
+from tlutflow.devices.families import FAMILIES, Family, costs_text, told
 from tlutflow.faults import Fault
 from tlutflow.parameters import read_parameters
 from tlutflow.port_file import keep_ports
-from tlutflow.trials import AIMS, RULE_NAMES, Found, Report, Result, Task, Trial, keep, prepare
+from tlutflow.trials import AIMS, RULE_NAMES, RULES, Found, Report, Result, Task, Trial, keep, prepare
 from tlutflow.preparations import PREPARATIONS, Preparation, chosen, further
 from tlutflow.statistics import grid
 from tlutflow.text import count
@@ -37,20 +39,38 @@ def add_words(parser: argparse.ArgumentParser) -> None:
     parser.add_argument("params", metavar="PARAMS", help="its parameter list")
     parser.add_argument("--out", metavar="FILE", help="where the best netlist goes (default: NETLIST's name with _prepared.blif, in the current directory)")
     add_shared_words(parser, 4)
+    add_family_word(parser)
     parser.add_argument("--list", action="store_true", help="print the preparations and their commands instead, and try nothing")
     parser.add_argument("--beside", action="store_true", help="also map each one by ABC, with the parameters as inputs")
 
 
-def add_shared_words(parser: argparse.ArgumentParser, k: Optional[int]) -> None:
+def add_shared_words(parser: argparse.ArgumentParser, k: int) -> None:
     """The words that `prepare`, `verilog` and `build` share."""
-    parser.add_argument("--k", metavar="K", type=int, choices=range(2, 7), default=k, help=f"inputs of a LUT, 2 to 6{f' (default: {k})' if k else ''}")
-    parser.add_argument("--for", dest="aim", choices=list(AIMS), default="depth", help="what is looked for: changes counts the bits that a random change of a parameter rewrites, the median (default: depth, then the fewest LUTs)")
+    parser.add_argument("--k", metavar="K", type=int, choices=range(2, 7), help=f"inputs of a LUT, 2 to 6 (default: {k})")
+    parser.add_argument("--for", dest="aim", choices=list(AIMS), help="what is looked for: changes counts the bits that a random change of a parameter rewrites, the median, and sites what --device counts (default: depth, then the fewest LUTs; with --device sites)")
+    parser.add_argument("--rule", choices=list(RULES), help="map by this rule alone (default: by both)")
     parser.add_argument("--seconds", type=float, default=60, help="processor time that ABC may take for a preparation, and for a comparison (default: 60)")
     parser.add_argument("--try", dest="further", metavar="NAME=COMMANDS", action="append", default=[], help="a further preparation, commands of ABC (repeat it)")
     parser.add_argument("--only", metavar="NAME", action="append", default=[], help="try this preparation alone (repeat it)")
     parser.add_argument("--rounds", type=int, choices=(1, 2, 3), default=1, help="a further round starts from the two best of the round before (default: 1)")
     parser.add_argument("-j", dest="jobs", metavar="N", type=int, default=0, help="how many run at a time (default: one for each processor)")
     parser.add_argument("--tlut", metavar="PATH", help="the program (default: that of the variable TLUT, or the one next to this one)")
+    parser.set_defaults(usual_k=k, device=None, ks=())
+
+
+def settle(given: argparse.Namespace) -> None:
+    """Fills in what no option chose: the aim and K, or with a device the values of K among which its count chooses."""
+    family = family_of(given)
+    if given.aim == "sites" and family is None:
+        raise Fault("--for sites needs --device, which says what is counted")
+    given.aim = given.aim or ("sites" if family else "depth")
+    given.ks = family.ks if family and given.k is None and not given.ks else given.ks
+    given.k = given.k or (max(given.ks) if given.ks else given.usual_k)
+
+
+def family_of(given: argparse.Namespace) -> Optional[Family]:
+    """The family of devices that was named."""
+    return FAMILIES[given.device] if given.device else None
 
 
 def progress(prog: str) -> Report:
@@ -68,20 +88,38 @@ def progress(prog: str) -> Report:
 def sizes(result: Result) -> str:
     """The sizes of a result in words."""
     changed = "" if result.changed is None else f", {count(result.changed, 'bit')} a change"
-    return f"depth {result.depth}, {count(result.tables, 'LUT')}, {count(result.bits, 'bit')}{changed}"
+    sites = "" if result.sites is None else f"{count(result.sites, 'site')}, "
+    return f"{sites}depth {result.depth}, {count(result.tables, 'LUT')}, {count(result.bits, 'bit')}{changed}"
 
 
 def table(found: Found) -> list[str]:
     """The lines of the table."""
     measured, beside = found.best.changed is not None, any(trial.by_abc for trial in found.trials)
     by_abc = {trial.name: [cell for it in trial.by_abc.values() for cell in it.cells()[:2]] for trial in found.trials}
-    rows = [["preparation", "rule", "LUTs", "depth", "bits", *(["a change"] if measured else []), "seconds", "front"]]
+    counted = found.best.sites is not None
+    rows = [["preparation", "rule", *(["K", "sites"] if counted else []), "LUTs", "depth", "bits", *(["a change"] if measured else []), "seconds", "front"]]
     rows[0] += ["if: LUTs", "depth", "if -a: LUTs", "depth"] if beside else []
     front = found.front
     for it in found.results:
-        cells = [it.name, it.rule, str(it.tables), str(it.depth), str(it.bits), *([str(it.changed)] if measured else [])]
+        cells = [it.name, it.rule, *([str(it.k), str(it.sites)] if counted else []), str(it.tables), str(it.depth), str(it.bits)]
+        cells += [str(it.changed)] if measured else []
         rows.append([*cells, f"{it.seconds:.1f}", "*" if it in front else "", *(by_abc[it.name] if beside else [])])
     return grid(rows)
+
+
+def least_costs(found: Found) -> dict[int, int]:
+    """What the device counts at least at each K."""
+    least: dict[int, int] = {}
+    for it in found.results:
+        least[it.k] = min(least.get(it.k, it.sites or 0), it.sites or 0)
+    return least
+
+
+def choice_text(given: argparse.Namespace, found: Found) -> str:
+    """What was chosen for a device, and why."""
+    family = FAMILIES[given.device]
+    what = f"K {found.best.k}, {RULE_NAMES[found.best.rule]}, preparation {found.best.name} for {given.aim} ({costs_text(family, least_costs(found))})"
+    return told(family, what)
 
 
 def default_file(netlist: str) -> str:
@@ -89,12 +127,18 @@ def default_file(netlist: str) -> str:
     return f"{os.path.splitext(os.path.basename(netlist))[0]}_prepared.blif"
 
 
-def task_of(given: argparse.Namespace, netlist: str, params: str) -> Task:
-    """The task that words name."""
+def check_limits(given: argparse.Namespace) -> None:
+    """Refuses limits that nothing could be done in."""
     if given.seconds <= 0 or given.jobs < 0:
         raise Fault("--seconds is more than 0, and -j at least 1")
+
+
+def task_of(given: argparse.Namespace, netlist: str, params: str) -> Task:
+    """The task that words name."""
+    check_limits(given)
     preparations = preparations_of(given)
-    return Task(netlist, params, given.k, given.aim, given.seconds, given.jobs, given.rounds, preparations=preparations, program=given.tlut)
+    task = Task(netlist, params, given.k, given.aim, given.seconds, given.jobs, given.rounds, preparations=preparations, program=given.tlut)
+    return replace(task, rules=(given.rule,) if given.rule else tuple(RULES), family=family_of(given), ks=given.ks)
 
 
 def preparations_of(given: argparse.Namespace) -> list[Preparation]:
@@ -106,6 +150,7 @@ def run(given: argparse.Namespace) -> int:
     if given.list:
         print("\n".join(f"{it.name:8}{it.shown}" for it in preparations_of(given)))
         return 0
+    settle(given)
     task = task_of(given, given.netlist, given.params)
     named = count(len(read_parameters(given.params)), "parameter")
     out = given.out or default_file(given.netlist)
@@ -113,7 +158,9 @@ def run(given: argparse.Namespace) -> int:
         found = prepare(replace(task, beside=given.beside), folder, progress(given.prog))
         keep(found.best, out)
     keep_ports(given.netlist, out)
-    print(f"{os.path.basename(given.netlist)}, {named}, K {given.k}, for {given.aim}")
+    print(f"{os.path.basename(given.netlist)}, {named}, K {' '.join(map(str, given.ks or [given.k]))}, for {given.aim}")
     print("\n".join(table(found)))
+    if given.device:
+        print(choice_text(given, found))
     print(f"{out}: {found.best.name}, {sizes(found.best)} with {RULE_NAMES[found.best.rule]}; equal to its source (ABC cec)")
     return 0

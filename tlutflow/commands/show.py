@@ -15,7 +15,8 @@ from tlutflow.waveform import check_end, pairs
 
 HELP = "the lines of a run with buses as numbers"
 DESCRIPTION = """Reads what `tlut run` or `tlut pace` printed on stdin, and prints it with the outputs of each cycle line as numbers by their
-buses. All other lines are unchanged. A port that is signed in Verilog is shown in two's complement.
+buses. All other lines are unchanged. A port that is signed in Verilog is shown in two's complement, and one of more than 32 digits in
+hexadecimal.
 
 With SCRIPT the status is 1 if the output ends before the script does. Without it the status is 1 if stdin is empty."""
 EXAMPLE = """example:
@@ -26,9 +27,19 @@ def add_words(parser: argparse.ArgumentParser) -> None:
     parser.add_argument("netlist", metavar="NETLIST", help="the netlist, in BLIF or AIGER")
     parser.add_argument("params", metavar="PARAMS", help="its parameter list")
     parser.add_argument("script", metavar="SCRIPT", nargs="?", help="the script: with it an output that ends early is a fault")
-    parser.add_argument("--signed", metavar="BUS", action="append", default=[], help="show this bus as a two's complement (repeat it)")
-    parser.add_argument("--hex", action="store_true", help="show numbers in hexadecimal digits")
-    parser.add_argument("--states", action="store_true", help="also show the latches' states after the cycle, after a |")
+    add_view_words(parser)
+
+
+def add_view_words(parser: argparse.ArgumentParser) -> None:
+    """The arguments on how a run is shown that `show` and `build` share."""
+    parser.add_argument("--signed", metavar="BUS", action="append", default=[], help="show this bus of a run in two's complement (repeat it)")
+    parser.add_argument("--hex", action="store_true", help="show the numbers of a run in hexadecimal")
+    parser.add_argument("--states", action="store_true", help="also show the flip-flops' states after each cycle of a run, after a |")
+
+
+def view_words(given: argparse.Namespace) -> list[str]:
+    """These arguments as they could be given."""
+    return [*(word for bus in given.signed for word in ("--signed", bus)), *(["--hex"] if given.hex else []), *(["--states"] if given.states else [])]
 
 
 class Viewer:
@@ -47,7 +58,7 @@ class Viewer:
     def number(self, bus: Bus, bits: dict[str, int]) -> str:
         """A bus with its value."""
         value = bus.number(bits, bus.name in self.signed)
-        return f"{bus.name}={hex(value) if self.is_hex else value}"
+        return f"{bus.name}={bus.text(value, self.is_hex)}"
 
     def numbers(self, which: str, names: list[str], digits: str) -> list[str]:
         """The buses of some nets, which have these digits, with their values."""

@@ -16,8 +16,8 @@ from tlutflow.tables import Operation
 from tlutflow.text import read_input
 from tlutflow.verilog_names import names_of
 
-HELP = "what the configuration port of `flow hdl` is sent for new values"
-DESCRIPTION = """Prints what the configuration port of the circuit that `flow hdl` wrote is sent. The options are those that `flow hdl` was given.
+HELP = "the data to send to the configuration port of `flow hdl` for new values"
+DESCRIPTION = """Prints the data to send to the configuration port of the circuit that `flow hdl` wrote. Give it the options that `flow hdl` was given.
 
 With NAME=VALUE arguments: for these values of the parameters, the others as in the pack. Without: for each line of stdin that writes bits,
 which is what `tlut bits` or `tlut run` printed for the same pack.
@@ -60,7 +60,7 @@ def of_values(given: argparse.Namespace, circuit: Circuit, device: Device) -> st
 
 
 def run(given: argparse.Namespace) -> int:
-    if given.target == "xilinx" and not given.template:
+    if way_of(given).target == "xilinx" and not given.template:
         raise Fault("--target xilinx needs --template")
     circuit = read_circuit(given.template, given.pack) if given.template else bare_circuit(read_pack(given.pack), given.pack)
     device = device_of(circuit, names_of(circuit, "m"), way_of(given))

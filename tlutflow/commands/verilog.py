@@ -14,13 +14,16 @@ from typing import Optional
 
 from tlutflow import tools
 from tlutflow.buses import buses_of
-from tlutflow.commands.prepare import add_shared_words, progress, sizes, task_of
+from tlutflow.commands.hdl import add_family_word
+from tlutflow.commands.prepare import add_shared_words, progress, settle, sizes, task_of
 from tlutflow.design import ATTRIBUTE, obstacle, parameters_of, ports_of
 from tlutflow.design_checks import late_resets, refuse_high_impedance, refuse_ports, refuse_registers, register_buses, register_names, undriven
 from tlutflow.design_json import Design, read_design
 from tlutflow.faults import Fault
+from tlutflow.loops import refuse_loop
 from tlutflow.netlist import Library, read_library
 from tlutflow.parameters import data_inputs, parameter_list
+from tlutflow.patience import patience
 from tlutflow.port_file import END, Ports, file_name, json_of_bus
 from tlutflow.trials import RULE_NAMES, Found, keep, prepare
 from tlutflow.recipe import PREPARATION, READERS, Sources, Step, look, recipe, script_text
@@ -51,6 +54,7 @@ def add_words(parser: argparse.ArgumentParser) -> None:
     add_source_words(parser)
     parser.add_argument("--out", metavar="FOLDER", default=".", help="where the files go (default: the current directory)")
     add_shared_words(parser, 4)
+    add_family_word(parser)
     parser.add_argument("--recipe", action="store_true", help="print the script for Yosys, and create nothing")
 
 
@@ -59,6 +63,7 @@ def add_source_words(parser: argparse.ArgumentParser) -> None:
     parser.add_argument("--set", metavar="NAME=VALUE", action="append", default=[], help="the value of a parameter of the module TOP (repeat it)")
     parser.add_argument("-D", "--define", metavar="NAME[=TEXT]", action="append", default=[], help="a macro (repeat it)")
     parser.add_argument("-I", "--include", metavar="FOLDER", action="append", default=[], help="where included files are looked for (repeat it)")
+    parser.add_argument("--cells", metavar="FILE.v", action="append", default=[], help="models of cells, as a vendor's library has them, of which the design has some (repeat it)")
     parser.add_argument("--reader", choices=list(READERS), default="verilog", help="Yosys's own reader (verilog), or one of a plugin, which has to be installed")
     parser.add_argument("--quick", action="store_true", help=f"one preparation, and no measuring: {PREPARATION}")
     parser.add_argument("--abc", metavar="SCRIPT", help="one preparation by these commands of ABC, and no measuring")
@@ -78,7 +83,7 @@ def sources_of(given: argparse.Namespace) -> Sources:
         if not (name and equals and value):
             raise Fault(f"--set {word}: it isn't NAME=VALUE")
         settings.append((name, value))
-    return Sources(given.files, top, given.define, given.include, settings, given.reader)
+    return Sources(given.files, top, given.define, given.include, settings, given.reader, given.cells)
 
 
 def preparation_of(given: argparse.Namespace) -> str:
@@ -87,11 +92,12 @@ def preparation_of(given: argparse.Namespace) -> str:
     return ";".join(filter(None, commands))
 
 
-def yosys(steps: list[Step], folder: str) -> None:
-    """Runs Yosys."""
+def yosys(steps: list[Step], folder: str, prog: str) -> None:
+    """Runs Yosys, and says so if it takes long."""
     program, script = tools.need(tools.YOSYS, "making a netlist from Verilog"), f"{folder}/recipe.ys"
     write_text(script, script_text(steps))
-    ran = tools.run([program, "-q", "-s", script])
+    with patience(prog, "Yosys"):
+        ran = tools.run([program, "-q", "-s", script])
     if ran.returncode:
         told = [line for line in (ran.stdout + ran.stderr).splitlines() if "ERROR" in line]
         raise Fault(f"Yosys: {told[-1] if told else f'it ended with status {ran.returncode}'}")
@@ -101,19 +107,20 @@ def synthesise(given: argparse.Namespace, folder: str) -> tuple[Library, Design,
     """Runs Yosys, which leaves its files in a folder, and returns the netlist, the design, its ports, and lines on what the netlist has
     otherwise than the design. These are also printed."""
     sources, paths = sources_of(given), [f"{folder}/{name}" for name in ("design.json", "netlist.blif", "registers.json", "ports.json")]
-    yosys(look(sources, paths[0]), folder)
+    yosys(look(sources, paths[0]), folder, given.prog)
     design = read_design(paths[0], sources.top)
     refuse_ports(design, sources.top)
     refuse_high_impedance(design)
     told = undriven(design)
     tell(given, told)
     gates = None if is_quick(given) else f"{folder}/gates.blif"
-    yosys(recipe(sources, preparation_of(given), paths[1], paths[2], paths[3], gates), folder)
+    yosys(recipe(sources, preparation_of(given), paths[1], paths[2], paths[3], gates), folder, given.prog)
     before, after, library = read_design(paths[2], sources.top), read_design(paths[3], sources.top), read_library(paths[1])
     refuse_registers(before)
     reason = obstacle(library)
     if reason:
         raise Fault(f"{given.top}: {reason}")
+    refuse_loop(library.main, after)
     told += late_resets(before)
     tell(given, late_resets(before))
     registers = register_names(before, after, [latch.state for latch in library.main.latches])
@@ -130,7 +137,7 @@ def choose(given: argparse.Namespace, folder: str, beside: bool = False) -> Foun
     """Replaces the recipe's netlist with the preparation that measures best. Preparations start from the gates of the recipe,
     and the netlist of its own preparation is a further one."""
     task = task_of(given, f"{folder}/gates.blif", f"{folder}/list.par")
-    found = prepare(replace(task, ready={"yosys": f"{folder}/netlist.blif"}, beside=beside), f"{folder}/trials", progress(given.prog))
+    found = prepare(replace(task, ready={"yosys": f"{folder}/netlist.blif"}, beside=beside, title=f"the gates of {given.top}"), f"{folder}/trials", progress(given.prog))
     keep(found.best, f"{folder}/netlist.blif")
     return found
 
@@ -197,6 +204,7 @@ def ports_text(design: Design, ports: Ports, top: str) -> str:
 
 
 def run(given: argparse.Namespace) -> int:
+    settle(given)
     sources = sources_of(given)
     base = file_name(sources.top)
     files = [os.path.normpath(f"{given.out}/{base}{end}") for end in (".blif", ".par", END)]
@@ -213,10 +221,10 @@ def run(given: argparse.Namespace) -> int:
             raise Fault(f"{error.filename or given.out}: {error.strerror}") from None
     write_text(files[1], parameter_list(made.parameters))
     write_text(files[2], made.ports_text)
-    values = ", ".join(f"{bus.name}={bus.number(made.parameters)}" for bus in buses_of(made.parameters, made.ports).values())
+    values = ", ".join(f"{bus.name}={bus.text(bus.number(made.parameters))}" for bus in buses_of(made.parameters, made.ports).values())
     print(f"{files[0]}: {made.summary}")
     print(f"{files[1]}: {values or 'no parameters'}")
     if made.found:
-        best = f"{made.found.best.name}, the best of {len(made.found.trials)} for {given.aim} at K {given.k}"
+        best = f"{made.found.best.name}, the best of {len(made.found.trials)} for {given.aim} at K {made.found.best.k}"
         print(f"preparation {best}: {sizes(made.found.best)} with {RULE_NAMES[made.found.best.rule]}")
     return 0

@@ -10,7 +10,7 @@ import tempfile
 import unittest
 from typing import Optional
 
-from tlutflow import tools
+from tlutflow import patience, tools
 from tlutflow.circuit import Circuit, circuit_of, read_circuit
 from tlutflow.main import main
 from tlutflow.netlist import parse_library
@@ -18,6 +18,8 @@ from tlutflow.pack import parse_pack
 from tlutflow.text import ENCODING
 
 TOP = tools.TOP
+# A busy machine is to add no line on how long something has been running.
+patience.FIRST = 3600
 EXAMPLES = f"{TOP}/examples"
 DATA = f"{TOP}/tlutflow/tests/data"
 

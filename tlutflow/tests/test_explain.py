@@ -4,7 +4,12 @@ import re
 import unittest
 
 from tlutflow.explanations import BY_CODE, BY_WORD
-from tlutflow.tests.helpers import TOP, InFolder, flow
+from tlutflow.loops import loop_of
+from tlutflow.netlist import parse_library
+from tlutflow.refusals import refusal
+from tlutflow.tests.helpers import EXAMPLES, MUX, TOP, InFolder, flow, needs
+from tlutflow.tests.test_build import NEEDS_TLUT
+from tlutflow.tools import ABC
 
 
 class Explanations(InFolder):
@@ -47,6 +52,44 @@ class Explanations(InFolder):
         self.assertEqual(flow("explain", given="").stdout, "")
         lines = self.told("cycle 1 -", "tlut: out of memory", "cycle 0 -").splitlines()
         self.assertEqual((lines[0], lines[1], lines[-1]), ("cycle 1 -", "out of memory", "cycle 0 -"))
+
+
+class Refusals(InFolder):
+    """What `tlut` refuses reaches the user with its explanation, in one line."""
+
+    def test_line(self):
+        known = BY_CODE["S2"]
+        self.assertEqual(
+            str(refusal("tlut: /tmp/x/n.scr: S2 Width line 1 width 3", {"/tmp/x/n.scr": "n.scr"})),
+            f"n.scr: S2 Width line 1 width 3; wanted: {known.wants}; usual cause: {known.cause}; remedy: {known.remedy}",
+        )
+        self.assertEqual(str(refusal("another line")), "another line")
+        self.assertIn("remedy: map a part of the design", str(refusal("tlut: n.blif: L3 TooManyNodes")))
+
+    def test_loops(self):
+        loop = ".names a x y\n11 1\n.names y z\n1 1\n.names z a x\n11 1\n"
+        model = parse_library(f".model m\n.inputs a\n.outputs y\n.names a b\n1 1\n{loop}.end\n", "n").main
+        found = loop_of(model)
+        self.assertEqual(sorted(found), ["x", "y", "z"])
+        reads = {cover.output: cover.inputs for cover in model.covers}
+        self.assertTrue(all(net in reads[after] for net, after in zip(found, found[1:] + found[:1])))
+        tree = ".names a p\n1 1\n.names a p q\n11 1\n.names q p y\n11 1\n"
+        self.assertEqual(loop_of(parse_library(f".model m\n.inputs a\n.outputs y\n{tree}.end\n", "n").main), [])
+        chain = "".join(f".names n{place + 1} n{place}\n1 1\n" for place in range(5000))
+        self.assertEqual(loop_of(parse_library(f".model m\n.inputs n5000\n.outputs n0\n{chain}.end\n", "n").main), [])
+
+    @needs(ABC)
+    @NEEDS_TLUT
+    def test_of_prepare_and_build(self):
+        netlist = self.put("n.blif", MUX.replace(".end", ".names y z w\n11 1\n.names w z\n1 1\n.end"))
+        ran = flow("prepare", netlist, self.put("n.par", "p 0\n"), "--only", "raw", folder=self.folder)
+        self.assert_fault(ran, f"flow prepare: {netlist}: F10 Loop ")
+        self.assertIn(f"remedy: {BY_CODE['F10'].remedy}", ran.stderr)
+        for line, code in (("cycle 1", "S2"), ("cycle 0 0 0", "S1")):
+            words = ("build", f"{EXAMPLES}/fir/fir.blif", f"{EXAMPLES}/fir/fir.par", "--quick", "--out", f"{self.folder}/made", "--script", self.put("s.scr", f"{line}\n"))
+            last = flow(*words).stderr.splitlines()[-1]
+            self.assertIn(f"s.scr: {code} ", last)
+            self.assertIn(f"remedy: {BY_CODE[code].remedy}", last)
 
 
 if __name__ == "__main__":

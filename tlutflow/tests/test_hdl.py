@@ -6,7 +6,7 @@ from tlutflow.circuit import circuit_of
 from tlutflow.hdl import PORTS, TARGETS, Way, device_of, module_text
 from tlutflow.netlist import parse_library
 from tlutflow.pack import parse_pack
-from tlutflow.tests.helpers import DATA, EXAMPLES, MUX_PACK, MUX_TEMPLATE, InFolder, example, flow, mapped, mux, needs, yosys_share
+from tlutflow.tests.helpers import DATA, EXAMPLES, MUX_PACK, MUX_TEMPLATE, InFolder, cycle_of, example, flow, mapped, mux, needs, yosys_share
 from tlutflow.tools import ICARUS, ICARUS_PLAYER, VERILATOR, YOSYS, find, run
 from tlutflow.verilog_names import names_of
 
@@ -35,6 +35,12 @@ def device(circuit, names, target="generic", port="chain", bits="changing"):
     return device_of(circuit, names, Way(target, port, bits))
 
 
+def cycle_line(circuit, inputs):
+    """The line of a first cycle."""
+    outputs, states = cycle_of(circuit, circuit.pack.configuration(), inputs, "".join(str(it.start) for it in circuit.latches))
+    return f"cycle {outputs} {states}"
+
+
 class Texts(unittest.TestCase):
     def test_tables_of_the_mux(self):
         circuit = mux()
@@ -57,7 +63,7 @@ class Texts(unittest.TestCase):
             text = module_text(circuit, names, device(circuit, names, port=port))
             self.assertIn(f"reg [{changing - 1}:0] cfg_bits", text)
             self.assertEqual(text.count("    localparam"), 37)
-        text = module_text(circuit, names, device(circuit, names, "xilinx", "random"))
+        text = module_text(circuit, names, device_of(circuit, names, Way("xilinx", "random", pairs=False)))
         self.assertEqual((text.count("CFGLUT5 #("), text.count("    localparam")), (27, 37))
 
     def test_vectors_and_registers(self):
@@ -96,6 +102,27 @@ class Simulations(InFolder):
         for words in (("--bits", "distinct"), ("--bits", "distinct", "--port", "random"), ("--regions", "3"), ("--regions", "64"), *by_word):
             ran = flow("hdl", f"{DATA}/coder_t.blif", f"{DATA}/coder.ppc", *words, "--script", script, "--simulate", given=text)
             self.assertEqual(ran.stdout, f"{text.count(chr(10))} lines of the simulation, all as the run's\n", f"{words} {ran.stderr}")
+
+    @needs(ICARUS, ICARUS_PLAYER)
+    def test_groups_of_rings_and_sites_of_one_lut(self):
+        """Rings of 32 and of 64 bits in a group of four, and no pairs."""
+        for name, script, printed in RUNS:
+            text = example(f"{name}/{printed}.txt").split("upset")[0]
+            path = self.put("s.scr", example(f"{name}/{script}.scr").split("upset")[0])
+            for words in (("random", "--word", "4"), ("random", "--word", "32"), ("random", "--word", "4", "--no-pairs"), ("random", "--no-pairs"), ("chain", "--no-pairs")):
+                ran = flow("hdl", f"{DATA}/{name}_t.blif", f"{DATA}/{name}.ppc", "--target", "xilinx", "--port", *words, "--script", path, "--simulate", given=text)
+                self.assertEqual(ran.stdout, f"{text.count(chr(10))} lines of the simulation, all as the run's\n", f"{name} {words} {ran.stderr}")
+
+    @needs(ICARUS, ICARUS_PLAYER)
+    def test_an_image_before_all_else(self):
+        """The bits are there before the first event."""
+        words = ("--script", self.put("s.scr", "image\ncycle 110\n"), "--simulate")
+        text = example("fir/expected.txt").splitlines()
+        bits = "".join(map(str, mapped("fir").pack.configuration()))
+        given = f"{text[0]}\nimage {bits}\n{cycle_line(mapped('fir'), '110')}\n"
+        for target, port in WAYS:
+            ran = flow("hdl", f"{DATA}/fir_t.blif", f"{DATA}/fir.ppc", "--target", target, "--port", port, *words, given=given)
+            self.assertEqual(ran.stdout, "3 lines of the simulation, all as the run's\n", f"{target} {port} {ran.stderr}")
 
     @needs(ICARUS, ICARUS_PLAYER)
     def test_mux_with_all_events(self):
@@ -137,7 +164,7 @@ class Simulations(InFolder):
         """The bench uses the ports alone, so it plays what Yosys makes of the circuit."""
         text, share = example("coder/expected.txt"), yosys_share()
         cells = {"generic": ("synth_ice40", f"{share}/ice40/cells_sim.v"), "xilinx": ("synth_xilinx -noiopad -noclkbuf", f"{share}/xilinx/cells_sim.v")}
-        for target, port, *word in (*WAYS, ("generic", "random", "--word", "8")):
+        for target, port, *word in (*WAYS, ("generic", "random", "--word", "8"), ("xilinx", "random", "--word", "4")):
             words, made = ("--target", target, "--port", port, *word), f"{self.folder}/made.v"
             path = self.put("m.v", flow("hdl", f"{DATA}/coder_t.blif", f"{DATA}/coder.ppc", *words).stdout)
             command, library = cells[target]
@@ -158,7 +185,7 @@ class Simulations(InFolder):
     @needs(VERILATOR)
     def test_verilator_has_nothing_to_say(self):
         for name in ("fir", "coder"):
-            for target, port, *word in (*WAYS, ("generic", "random", "--word", "8")):
+            for target, port, *word in (*WAYS, ("generic", "random", "--word", "8"), ("xilinx", "random", "--word", "4")):
                 flow("hdl", f"{DATA}/{name}_t.blif", f"{DATA}/{name}.ppc", "--target", target, "--port", port, *word, "--out", self.folder)
                 files = [f"{self.folder}/{name}_mapped{end}.v" for end in ("", "_bench")]
                 ran = run([find(VERILATOR) or "", "--lint-only", "-Wall", "-DINSIDE", "--timing", "--top-module", f"{name}_mapped_bench", *files])
@@ -171,8 +198,8 @@ class Simulations(InFolder):
         self.assert_fault(flow("hdl", *files, "--target", "other"), "invalid choice", 2)
         self.assert_fault(flow("hdl", *files, "--netlist", "x.v"), "--netlist needs --simulate")
         self.assert_fault(flow("hdl", *files, "--regions", "2", "--port", "random"), "all other ports have one region")
-        for words in (("--word", "8"), ("--port", "random", "--word", "33"), ("--port", "random", "--word", "8", "--target", "xilinx")):
-            self.assert_fault(flow("hdl", *files, *words), "the generic target has words of 1 to 32 bits, and all other ports have none")
+        for words in (("--word", "8"), ("--port", "random", "--word", "33"), ("--port", "random", "--word", "0"), ("--word", "8", "--target", "xilinx")):
+            self.assert_fault(flow("hdl", *files, *words), "--port random has words of 1 to 32 bits, and --port chain has none")
         for name in ("foo bar", "1x", "wire", "../x", ""):
             self.assert_fault(flow("hdl", *files, "--module", name, "--out", self.folder), "a module name has letters, digits and _")
         script = ("--script", f"{EXAMPLES}/fir/ten.scr", "--simulate")

@@ -1,5 +1,7 @@
 """The library for host programs, through Python. Left out where it isn't built (docs/host.md)."""
 
+import _ctypes
+import gc
 import os
 import random
 import tempfile
@@ -7,13 +9,14 @@ import unittest
 
 from tlutflow.faults import Fault
 from tlutflow.host import Host, PacedHost
-from tlutflow.host_calls import LIBRARY
+from tlutflow.host_calls import FUNCTIONS, LIBRARY
 from tlutflow.host_player import played
 from tlutflow.pack import Pack, read_pack
 from tlutflow.script import parse_script
-from tlutflow.tests.helpers import DATA
+from tlutflow.tests.helpers import DATA, MUX_PACK, MUX_PACK_1, TOP
 
-PACKS = ("fir", "coder", "matcher")
+# `coder_version1` is `coder` in version 1 of the format, the others are in version 2.
+PACKS = ("fir", "coder", "coder_version1", "matcher")
 
 
 def differences(old: list[int], new: list[int]) -> list[tuple[int, bool]]:
@@ -76,8 +79,6 @@ class HostTest(unittest.TestCase):
                 self.assertEqual((left, device.writes), ([], []))
         with self.assertRaisesRegex(Fault, "the host is closed"):
             device.tick()
-        with self.assertRaisesRegex(Fault, "no such parameter or address"):
-            PacedHost(f"{DATA}/fir.ppc", rate=0)
 
     def test_scripts(self) -> None:
         """A script's lines are those of `tlut bits`."""
@@ -106,15 +107,84 @@ class HostTest(unittest.TestCase):
 
     def test_refused(self) -> None:
         """Each beginning of a pack is refused with the rule and the offset."""
-        with open(f"{DATA}/coder.ppc", "rb") as file:
-            whole = file.read()
-        with tempfile.TemporaryDirectory() as folder:
+        for name in ("coder", "coder_version1"):
+            with open(f"{DATA}/{name}.ppc", "rb") as file:
+                whole = file.read()
             for length in range(len(whole)):
-                path = f"{folder}/cut.ppc"
-                with open(path, "wb") as file:
+                with tempfile.NamedTemporaryFile() as file:
                     file.write(whole[:length])
-                with self.assertRaisesRegex(Fault, "not a pack: K3 at byte"):
-                    Host(path)
+                    file.flush()
+                    with self.assertRaisesRegex(Fault, "not a pack: K3 at byte"):
+                        Host(file.name)
+
+    def test_versions(self) -> None:
+        """The pack of docs/formats.md is the same host in both versions: its bits are 0, p, not p and 1."""
+        for data in (MUX_PACK, MUX_PACK_1):
+            with tempfile.NamedTemporaryFile() as file:
+                file.write(data)
+                file.flush()
+                with Host(file.name) as host, PacedHost(file.name, rate=1) as device:
+                    self.assertEqual((host.parameters, host.image), ({"p": 0}, [False, False, True, True]))
+                    self.assertEqual(host.set(p=1), [(1, True), (2, False)])
+                    self.assertEqual((device.ask(p=1), device.tick(), device.writes), (2, False, [(1, True)]))
+
+    def test_collected(self) -> None:
+        """A host that isn't closed is freed when it is collected; one that is closed isn't freed twice."""
+        for make in (Host, lambda path: PacedHost(path, rate=1)):
+            host = make(f"{DATA}/fir.ppc")
+            handle = host._calls._handle
+            self.assertTrue(handle.is_open)
+            del host
+            gc.collect()
+            self.assertFalse(handle.is_open)
+            host = make(f"{DATA}/fir.ppc")
+            host.close()
+            handle = host._calls._handle
+            del host
+            gc.collect()
+            self.assertFalse(handle.is_open)
+
+    def test_values(self) -> None:
+        """A parameter's value is a bit."""
+        with Host(f"{DATA}/fir.ppc") as host, PacedHost(f"{DATA}/fir.ppc", rate=1) as device:
+            for call in (host.set_parameters, device.ask_parameters):
+                with self.assertRaisesRegex(Fault, r"^c0\[0\]=2: the value of a parameter is 0 or 1$"):
+                    call({"c0[1]": 1, "c0[0]": 2})
+                with self.assertRaisesRegex(Fault, "^c9 isn't a parameter of the pack$"):
+                    call({"c9": 1})
+            host.set_parameters({"c0[0]": True, "c0[1]": False})
+            self.assertEqual((host.values["c0[0]"], host.values["c0[1]"]), (True, False))
+
+
+class LibraryFaultTest(unittest.TestCase):
+    """What is refused before the library is called, built or not."""
+
+    def test_rates(self) -> None:
+        """A tick writes at least one bit, and at most as many as 32 binary digits count."""
+        for rate in (0, -1, 2**32):
+            with self.assertRaisesRegex(Fault, f"^rate {rate}: a tick writes 1 to 4294967295 bits$"):
+                PacedHost(f"{DATA}/fir.ppc", rate=rate)
+
+    def test_other_libraries(self) -> None:
+        """A file that isn't there, isn't a shared object, or is another library, is one fault line."""
+        with tempfile.NamedTemporaryFile(suffix=".so") as file:
+            file.write(b"no library")
+            file.flush()
+            for library, told in (
+                ("nowhere.so", r"^nowhere\.so isn't built: make -C include$"),
+                (file.name, f"^{file.name} can't be loaded as the library for host programs: .*$"),
+                (_ctypes.__file__, "isn't the library for host programs: it has no tlut_open$"),
+            ):
+                for call in (Host, lambda path, library: PacedHost(path, 1, library)):
+                    with self.assertRaisesRegex(Fault, told) as caught:
+                        call(f"{DATA}/fir.ppc", library)
+                    self.assertNotIn("\n", str(caught.exception))
+
+    def test_header(self) -> None:
+        """The functions that Python calls are those of the header."""
+        with open(f"{TOP}/include/tlut_host.h", encoding="ascii") as file:
+            declared = [line.split("(")[0].split()[1] for line in file if line.startswith("tlut_status ")]
+        self.assertEqual(sorted(declared), sorted(FUNCTIONS))
 
 
 if __name__ == "__main__":

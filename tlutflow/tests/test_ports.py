@@ -64,7 +64,7 @@ class Registers(InFolder):
         text = flow("hdl", *self.files).stdout
         for part in ("reg cfg_bits = ", "reg hit_reg = ", "reg \\wire  = ", "] cfg_bits_ = ", " table__0 = "):
             self.assertIn(part, text)
-        self.assertIn("cfg_end___0", flow("hdl", *self.files, "--target", "xilinx").stdout)
+        self.assertIn("cfg_end___0", flow("hdl", *self.files, "--target", "xilinx", "--port", "random").stdout)
 
     def test_a_file_of_another_netlist(self):
         self.put("matcher.ports.json", json.dumps({"ports": [], "buses": [], "registers": ["a"]}))

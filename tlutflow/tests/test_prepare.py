@@ -39,6 +39,31 @@ LATE = """module top (input clk, rst, input [3:0] x, output reg [3:0] y);
     always @(posedge clk or posedge rst) if (rst) y <= 3; else y <= x;
 endmodule
 """
+# Outputs that are an input, a parameter, a flip-flop and a constant, beside one that is logic.
+COPIES = """.model top
+.inputs clk a p
+.outputs x k q one y
+.names a x
+1 1
+.names p k
+1 1
+.names s q
+1 1
+.names one
+1
+.names a p s y
+110 1
+0-1 1
+.latch y s re clk 0
+.end
+"""
+# A filter's two registers with a synchronous reset. Yosys makes buses for the sums whose upper places nothing drives.
+SUMS = """module top (input clk, rst, input signed [3:0] x, c, output reg signed [9:0] y);
+    wire signed [7:0] p = x * c;
+    reg signed [9:0] s;
+    always @(posedge clk) if (rst) begin y <= 0; s <= 0; end else begin s <= 0 + p; y <= s + p; end
+endmodule
+"""
 HALVES = """.model top
 .inputs a b
 .outputs y
@@ -137,11 +162,29 @@ class Choices(InFolder):
         found = self.found(self.put("n.blif", MUX), self.put("n.par", "p 0\n"), ready=wrong, preparations=[*SHORT[:1], *broken])
         failures = {it.name: it.failure for it in found.failures}
         self.assertEqual((failures["other"], failures["ports"]), ("it differs from the source (ABC cec)", "its inputs differ from the source's"))
-        self.assertIn("ABC", failures["bad"])
+        self.assertEqual(failures["bad"], "ABC: ** cmd error: unknown command 'nothing_of_abc'")
         forever = further(["slow=" + "dch; " * 9000], [])
         slow = self.found(f"{EXAMPLES}/fir/fir.blif", f"{EXAMPLES}/fir/fir.par", preparations=forever, seconds=1)
         self.assertEqual(slow.failures[0].failure, "ABC was stopped after 1 seconds of processor time")
         self.assertEqual(slow.best.name, "as read")
+
+    @needs(ABC)
+    @NEEDS_TLUT
+    def test_outputs_that_copy(self):
+        """No preparation is lost where an output is an input, a register or a constant."""
+        found = self.found(self.put("n.blif", COPIES), self.put("n.par", "p 0\n"), preparations=PREPARATIONS)
+        self.assertEqual((found.failures, len(found.trials)), ([], 1 + len(PREPARATIONS)))
+
+    @needs(ABC, YOSYS)
+    @NEEDS_TLUT
+    def test_buses_of_sums(self):
+        """What Yosys leaves without a driver in its own buses reaches no preparation; the netlist is that of the recipe."""
+        self.put("top.v", SUMS)
+        words = ("verilog", "top.v", "--top", "top", "--param", "c=3")
+        for more in (("--only", "raw", "--out", "made", "-j", "1"), ("--quick", "--out", "quick")):
+            ran = flow(*words, *more, folder=self.folder)
+            self.assertEqual((ran.returncode, "Undriven" in ran.stderr), (0, False), ran.stderr)
+        self.assertEqual(flow("check", "made/top.blif", "quick/top.blif", folder=self.folder).stdout, "equal (ABC dsec)\n")
 
     @needs(ABC)
     @NEEDS_TLUT

@@ -45,6 +45,17 @@ class Streams(InFolder):
             digits = [digit for word in found for digit in reversed(word.split("=")[1])]
             self.assertEqual(([word.split("=")[0] for word in found], digits), ([str(it) for it in range(-(-126 // size))], [str(bits[it]) for it in range(126)]))
 
+    def test_options_between_arguments(self):
+        """Options may be anywhere among files and values."""
+        last = flow("stream", FIR, "c1=7", "c0=1", "--target", "generic").stdout
+        for words in ((FIR, "--target", "generic", "c1=7", "c0=1"), ("--target", "generic", FIR, "c1=7", "c0=1"), (FIR, "c1=7", "--target", "generic", "c0=1")):
+            ran = flow("stream", *words)
+            self.assertEqual((ran.returncode, ran.stdout), (0, last), ran.stderr)
+        recipe = flow("verilog", "a.v", "--top", "t", "b.v", "--recipe").stdout
+        self.assertIn('read_verilog "a.v"\n# the design\nread_verilog "b.v"\n', recipe)
+        self.assert_fault(flow("stream", FIR, "--none", "c1=7"), "flow stream: unrecognized arguments: --none; see flow stream --help", 2)
+        self.assert_fault(flow("stream", "--target", "generic"), "flow stream: the following arguments are required: PACK", 2)
+
     def test_a_chain_has_the_bits_that_change(self):
         pack = read_pack(FIR)
         digits = flow("stream", FIR, "c1=7").stdout.strip()
@@ -67,9 +78,13 @@ class Streams(InFolder):
 
     def test_xilinx(self):
         template = ("--template", f"{DATA}/fir_t.blif", "--target", "xilinx")
-        writes = flow("stream", FIR, "c1[2]=1", *template).stdout.split()
-        self.assertEqual(len(writes), 14)
-        self.assertEqual(len(flow("stream", FIR, "c1[2]=1", *template, "--port", "chain").stdout.strip()), 27 * 32)
+        alone = (*template, "--no-pairs")
+        self.assertEqual(len(flow("stream", FIR, "c1[2]=1", *alone, "--port", "random").stdout.split()), 14)
+        self.assertEqual(len(flow("stream", FIR, "c1[2]=1", *alone).stdout.strip()), 27 * 32)
+        text = flow("hdl", f"{DATA}/fir_t.blif", FIR, "--target", "xilinx").stdout
+        self.assertEqual(len(flow("stream", FIR, "c1[2]=1", *template).stdout.strip()), 32 * text.count("CFGLUT5 #("))
+        # --device chooses the same.
+        self.assertEqual(flow("stream", FIR, "c1=7", *template[:2], "--device", "xilinx7").stdout, flow("stream", FIR, "c1=7", *template).stdout)
         self.assert_fault(flow("stream", FIR, "c1=1", "--target", "xilinx"), "--target xilinx needs --template")
 
     def test_faults(self):

@@ -4,6 +4,8 @@ import unittest
 
 from tlutflow.bus import parse_number
 from tlutflow.buses import buses_of
+from tlutflow.parameters import read_interface
+from tlutflow.script_writer import has_names
 from tlutflow.tests.helpers import EXAMPLES, MUX, InFolder, example, flow
 
 FIR = f"{EXAMPLES}/fir/fir.blif", f"{EXAMPLES}/fir/fir.par"
@@ -54,6 +56,13 @@ class Params(InFolder):
 
 
 class Scripts(InFolder):
+    def test_digits_and_names(self):
+        """A line that is a script's already stays, and later lines by name keep its digits."""
+        self.assertEqual(flow("script", *FIR, given="cycle 110\nset c0[1]=1\ncycle\ncycle x=1\n").stdout, "cycle 110\nset c0[1]=1\ncycle 110\ncycle 100\n")
+        for text, named in (("cycle 110\nset c0[1]=1\nimage\n", False), ("cycle x=1\n", True), ("cycle\n", True), ("set c0=1\n", True), ("set c0[0]=3\n", True), ("cycle 1\n", False)):
+            self.assertEqual(has_names(text, read_interface(*FIR)), named, text)
+        self.assert_fault(flow("script", *FIR, given="cycle x=1\ncycle 11\n"), "line 2 of stdin: cycle 11 has 2 digits, and the inputs have 3: x[2:0]")
+
     def test_script_of_the_example(self):
         events = """cycle x=1\ncycle x=2\ncycle x=3 # three\nset c1=7\ncycle x=4\ncycle x=-3\nset c0=2 c1=4 c2=1\n
 cycle x=6\nupset 474\ncycle x=7\nset c2[0]=1\nscrub\ncycle x=3\nimage\n"""
@@ -108,6 +117,15 @@ class Shown(InFolder):
         given = "cycle 101000 100110\n"
         self.assertEqual(flow("show", *FIR, "--states", given=given).stdout, "cycle y=5 | x1=1 x2=3\n")
         self.assertEqual(flow("show", *FIR, "--hex", "--signed", "x2", "--states", given="cycle 001111 100101\n").stdout, "cycle y=0x3c | x1=0x1 x2=-0x3\n")
+
+    def test_wide_buses(self):
+        """More than 32 digits are shown in hexadecimal, of a signed bus too."""
+        names = [f"w[{place}]" for place in range(33)]
+        covers = "".join(f".names a {name}\n1 1\n" for name in names)
+        files = self.put("n.blif", f".model n\n.inputs a\n.outputs {' '.join(names)} z\n{covers}.names a z\n1 1\n.end\n"), self.put("n.par", "")
+        given = f"cycle {'1' * 34} -\n"
+        self.assertEqual(flow("show", *files, given=given).stdout, "cycle w=0x1ffffffff z=1\n")
+        self.assertEqual(flow("show", *files, "--signed", "w", given=given).stdout, "cycle w=-0x1 z=1\n")
 
     def test_output_that_ends_early(self):
         text = example("fir/expected_changing.txt")

@@ -24,6 +24,36 @@ MADE_CLOCK = """module top (input c, d, output reg q);
     always @(posedge half) q <= d;
 endmodule
 """
+LOOP = """module top (input [1:0] a, output [1:0] y);
+    wire [1:0] n = {y[0], y[1]} & a;
+    assign y = n ^ {a[0], 1'b1};
+endmodule
+"""
+CELLS = """module INVERT (input I, output O); assign O = ~I; endmodule
+module KEEP #(parameter INIT = 1'b0) (input C, D, output reg Q); initial Q = INIT; always @(posedge C) Q <= D; endmodule
+module ANALOGUE (input I, output O); endmodule
+module HUGE (input C, input [13:0] A, output reg Q);
+    reg [15:0] kept [0:16383];
+    integer i;
+    always @(posedge C) begin Q <= kept[A][0]; for (i = 0; i < 16384; i = i + 1) kept[i] <= i; end
+endmodule
+"""
+PLACED = """module top (input c, d, output q, r);
+    wire n;
+    INVERT i (.I(d), .O(n));
+    KEEP #(.INIT(1'b1)) k (.C(c), .D(n), .Q(q));
+    assign r = n;
+endmodule
+"""
+PACKAGE = """package p; localparam int W = 4; typedef logic [W-1:0] word_t; typedef enum logic [1:0] {IDLE, RUN} state_t;
+function automatic [3:0] twist; input [3:0] v; twist = {v[0], v[3:1]}; endfunction
+endpackage
+"""
+PACKED = """module top (input logic c, input p::word_t a, output p::word_t q);
+    p::state_t s = p::IDLE;
+    always_ff @(posedge c) begin q <= p::twist(a) ^ s; s <= p::RUN; end
+endmodule
+"""
 TURNED = """module top (input clk, rst, input signed [3:0] d, input [0:3] p, output signed [3:0] y, output par);
     reg [3:0] count = 3;
     reg [1:0] late;
@@ -100,8 +130,42 @@ class Netlists(InFolder):
             self.assert_fault(flow("verilog", "--quick", "top.v", "--top", "top", folder=self.folder), part)
         self.put("top.v", "module top (input a,\noutput [2:0] q, output r);\nwire n;\nassign q[1] = a; assign r = n & a; endmodule")
         ran = flow("verilog", "--quick", "top.v", "--top", "top", folder=self.folder)
-        lines = [f"flow verilog: {name} (top.v:{line}) has no driver, and is 0 in the netlist" for name, line in (("q[0]", 2), ("q[2]", 2), ("n", 3))]
+        lines = [f"flow verilog: {name} (top.v:{line}) has no driver; Yosys chooses the value of what reads it, mostly 0" for name, line in (("q[0]", 2), ("q[2]", 2), ("n", 3))]
         self.assertEqual((ran.returncode, ran.stderr.splitlines()), (0, lines))
+
+    @needs(YOSYS)
+    def test_loops_have_names_and_lines(self):
+        self.put("top.v", LOOP)
+        for words in (("--quick",), ("--only", "raw")):
+            ran = flow("verilog", "top.v", "--top", "top", *words, folder=self.folder)
+            self.assert_fault(ran, " depends on itself through ")
+            self.assertRegex(ran.stderr, r"verilog: [ny]\[[01]\] \(top.v:[12]\) depends on itself through [ny]\[[01]\] \(top.v:[12]\)")
+
+    @needs(YOSYS)
+    def test_cells_of_a_library(self):
+        """Of a library only the cells that the design has are looked at; a huge one doesn't matter."""
+        self.put("cells.v", CELLS)
+        self.put("top.v", PLACED)
+        words = ("verilog", "--quick", "top.v", "--top", "top", "--cells", "cells.v")
+        ran = flow(*words, folder=self.folder)
+        self.assertEqual(ran.stdout.splitlines()[0], "top.blif: clock c; inputs d; outputs q, r; 1 register bit", ran.stderr)
+        self.assertIn("cells: only those that the design has are looked at\nread_verilog -defer \"cells.v\"\n", flow(*words, "--recipe", folder=self.folder).stdout)
+        with open(f"{self.folder}/top.blif", encoding="utf-8") as file:
+            self.assertIn(" re c 1\n", file.read())
+
+    @needs(YOSYS)
+    def test_packages(self):
+        """What the page says of packages."""
+        self.put("p.sv", PACKAGE)
+        self.put("top.sv", PACKED)
+        ran = flow("verilog", "--quick", "p.sv", "top.sv", "--top", "top", folder=self.folder)
+        self.assertEqual(ran.stdout.split(";")[:3], ["top.blif: clock c", " inputs a[3:0]", " outputs q[3:0]"], ran.stderr)
+
+    @needs(YOSYS)
+    def test_wide_values(self):
+        self.put("top.v", "module top (input [39:0] k, input x, output y); assign y = ^k ^ x; endmodule")
+        ran = flow("verilog", "--quick", "top.v", "--top", "top", "--param", f"k={10 ** 11}", folder=self.folder)
+        self.assertEqual(ran.stdout.splitlines()[1], "top.par: k=0x174876e800", ran.stderr)
 
     @needs(YOSYS)
     def test_odd_names_and_words(self):

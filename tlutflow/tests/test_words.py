@@ -1,14 +1,19 @@
 """The words of `flow`: help everywhere, faults in one line, and Python's oldest version."""
 
 import ast
+import contextlib
 import glob
+import io
 import os
 import subprocess
 import sys
+import time
 import unittest
+from unittest import mock
 
 from tlutflow.commands.complete import subcommands_of
 from tlutflow.main import COMMANDS, parser
+from tlutflow.patience import patience
 from tlutflow.tests.helpers import TOP, InFolder, flow
 
 
@@ -29,7 +34,7 @@ class Words(InFolder):
 
     def test_help_of_the_tools(self):
         """Each tool that is called by itself prints what it is for."""
-        paths = set(glob.glob(f"{TOP}/tools/*.py")) - {f"{TOP}/tools/{name}.py" for name in ("shared", "measured", "trial_designs")}
+        paths = set(glob.glob(f"{TOP}/tools/*.py")) - {f"{TOP}/tools/{name}.py" for name in ("shared", "measured", "trial_designs", "figures", "time_plot", "progress")}
         self.assertGreater(len(paths), 20)
         for path in sorted(paths):
             with open(path, encoding="utf-8") as file:
@@ -48,9 +53,31 @@ class Words(InFolder):
         self.assertEqual((ran.returncode, ran.stderr), (1, "tlut-flow params: no.blif: No such file or directory\n"))
 
 
+class Progress(unittest.TestCase):
+    def test_work_that_takes_long(self):
+        """A line comes after a while, and none of work that is done by then."""
+        streams = [io.StringIO(), io.StringIO()]
+        for stream, seconds in zip(streams, (0, 0.3)):
+            with mock.patch("tlutflow.patience.FIRST", 0.05), contextlib.redirect_stderr(stream), patience("flow x", lambda: "2 of 3"):
+                time.sleep(seconds)
+        self.assertEqual(streams[0].getvalue(), "")
+        self.assertRegex(streams[1].getvalue(), r"\Aflow x: 2 of 3: 0 s so far\n")
+
+
+class TestsByName(unittest.TestCase):
+    def test_help_and_names(self):
+        """Help and a list run nothing."""
+        words = [sys.executable, "-m", "tlutflow.tests"]
+        told = [subprocess.run([*words, *more], capture_output=True, text=True, cwd=TOP, check=False) for more in (["--help"], ["--list", "test_words.Progress"])]
+        self.assertEqual([(ran.returncode, ran.stderr) for ran in told], [(0, "")] * 2)
+        self.assertTrue(told[0].stdout.startswith("usage: python3 -m tlutflow.tests [-h]"))
+        self.assertEqual(told[1].stdout, "test_words.Progress.test_work_that_takes_long\n")
+
+
 class Sources(unittest.TestCase):
     def test_python_3_9_and_length(self):
-        paths = glob.glob(f"{TOP}/tlutflow/**/*.py", recursive=True) + [f"{TOP}/flow", f"{TOP}/tools/install.py", f"{TOP}/tools/build_program.py"]
+        paths = glob.glob(f"{TOP}/tlutflow/**/*.py", recursive=True) + glob.glob(f"{TOP}/tools/packing/*.py") + [f"{TOP}/flow"]
+        paths += [f"{TOP}/tools/{name}.py" for name in ("install", "uninstall", "build_program", "progress", "release", "sources", "unproved")]
         self.assertGreater(len(paths), 30)
         for path in paths:
             with open(path, encoding="utf-8") as file:

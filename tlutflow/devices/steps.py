@@ -1,0 +1,84 @@
+"""The steps of a build for a family of devices: the choice of K and the rule, what the device counts, and the play of the synthesised netlist."""
+
+from __future__ import annotations
+
+import argparse
+import os
+from typing import Any, Callable, Optional
+
+from tlutflow import tools
+from tlutflow.devices.cells import Cells
+from tlutflow.commands.hdl import way_of, way_words
+from tlutflow.commands.verilog import sources_of
+from tlutflow.devices.count import best_of, compared_text, count_of_circuit, count_of_registers, counts, is_measurable, source_of_netlist, source_of_verilog
+from tlutflow.devices.families import FAMILIES, costs_text, told
+from tlutflow.faults import Fault
+from tlutflow.parameters import read_parameters
+from tlutflow.steps import Steps
+from tlutflow.trials import RULE_NAMES
+
+# Runs another subcommand with a text on its standard input, within some seconds: its status and its outputs.
+Flow = Callable[[list[str], str, Optional[float]], tuple[int, str, str]]
+
+
+class DeviceSteps:
+    """The steps of a build, its arguments, and what the names of its files begin with."""
+
+    def __init__(self, given: argparse.Namespace, steps: Steps, program: str, binary: str, base: str):
+        self.given, self.steps, self.program, self.binary, self.base = given, steps, program, binary, base
+        self.family = FAMILIES[given.device]
+        self.found: dict[str, Any] = {"name": self.family.name, "unit": self.family.unit}
+
+    def choose(self, best: Optional[dict[str, Any]]) -> str:
+        """Chooses K: that of the best preparation, or that which counts least for the one that was used. Returns the rule, empty if the aim
+        isn't what the device counts."""
+        given, family, rule = self.given, self.family, ""
+        if best:
+            given.k, rule = best["k"], best["rule"]
+        ks, files = sorted({*family.ks, given.k}), [f"{self.base}.blif", f"{self.base}.par"]
+        found = self.steps.make("device", [family.name, ks], [*files, self.binary], [], lambda: counts(self.program, family, files[0], files[1], ks))
+        least = best_of(found, list(given.ks) or [given.k], given.rule)
+        if not best and least and given.aim == "sites":
+            given.k, rule = least
+        self.found["counts"] = found
+        self.found["costs"] = costs_text(family, {int(k): min(cells[0] for cells in at.values()) for k, at in found.items() if at})
+        return rule
+
+    def count(self, source: str, is_verilog: bool, rule: str) -> dict[str, Any]:
+        """What was chosen, and what Yosys counts of the circuit and of its source with its parameters in registers. `source` is the netlist,
+        or the file of the ports of a design in Verilog."""
+        given, family, found = self.given, self.family, self.found
+        what = f"K {given.k}, {RULE_NAMES[rule]}, {' '.join(way_words(way_of(given)))} ({found['costs']})"
+        found["told"] = told(family, what)
+        if not is_measurable(source):
+            return found
+        path, made, parameters = f"{self.base}_mapped.v", f"{self.base}_device.v", f"{self.base}.par"
+        read = source_of_verilog(sources_of(given), source) if is_verilog else source_of_netlist(source)
+        by = [family.name, family.commands, tools.versions(self.program).get("Yosys", "")]
+        ours = self.steps.make("count", by, [path], [made], lambda: count_of_circuit(family, path, made))
+        # The values at the start change no count.
+        words = [*by, list(read_parameters(parameters)), given.set, given.define, given.include]
+        theirs = self.steps.make("registers", words, given.files, [], lambda: count_of_registers(read, parameters, family))
+        found["rows"] = [["mapped", ours], *theirs]
+        found["text"] = compared_text(family, Cells(*ours), [Cells(*row) for _, row in theirs])
+        return found
+
+    def played(self, flow: Flow, output: str) -> list[list[str]]:
+        """Whether the synthesised netlist plays the run of the script."""
+        made = f"{self.base}_device.v"
+        if not (os.path.exists(made) and self.family.models and tools.find(tools.ICARUS) and "rows" in self.found):
+            return []
+        given, what = self.given, "the netlist that Yosys synthesised for the device plays the script as the run did"
+        words = ["hdl", f"{self.base}_t.blif", f"{self.base}.ppc", *way_words(way_of(given)), "--module", f"{os.path.basename(self.base)}_mapped"]
+        words += ["--script", given.script, "--simulate", "--netlist", made, "--netlist", tools.yosys_file(self.family.models)]
+
+        def work() -> list[str]:
+            try:
+                status, shown, fault = flow(words, output, given.seconds)
+            except Fault as stopped:
+                return [what, "Icarus Verilog", str(stopped), "open"]
+            if status:
+                raise Fault(fault.split(": ", 1)[-1])
+            return [what, "Icarus Verilog", shown.strip(), "ok"]
+
+        return [self.steps.make("netlist of the device", [words, output], [made, given.script], [], work)]
