@@ -2,7 +2,7 @@
 """Times changes of parameters by `tlut bits`, by the library for host programs, and by a loop in C over the part of the pack that each parameter
 reaches.
 
-    python3 tools/change_anchor.py [NETLIST PARAMS K]
+    python3 tools/change_anchor.py [--json docs/figures/changes.json] [NETLIST PARAMS K]
 
 Outside the gate. Call `./tlut` once before, to build the program, and build the library by `make -C include`; it needs a C compiler (`cc`). Without arguments it takes the filter of
 tools/designs.py at K 6, whose pack is the largest of that file's.
@@ -183,7 +183,7 @@ def by_library(turned: list[int], room: str) -> tuple[int, float]:
 
 
 def main() -> None:
-    parser = shared.words(__doc__)
+    parser = shared.saving(shared.words(__doc__))
     parser.add_argument("netlist", metavar="NETLIST", nargs="?", help="a netlist (default: the filter)")
     parser.add_argument("params", metavar="PARAMS", nargs="?", help="its parameter list")
     parser.add_argument("k", metavar="K", nargs="?", choices="23456", help="the inputs of a LUT")
@@ -204,6 +204,8 @@ def main() -> None:
         raise Fault(f"the loop finds {writes} writes, bits {ours}, and the library {others}")
     print(f"{len(pack.parameters)} parameters, {len(pack.nodes)} nodes, {len(pack.bits)} bits; a parameter reaches {nodes:.0f} nodes on average")
     print(f"{writes / len(turned):.1f} writes a change: the loop {1e6 * loop:.2f} us, tlut bits {1e6 * bits:.2f} us, ratio {bits / loop:.2f}, the library {1e6 * host:.2f} us, ratio {host / loop:.2f}")
+    sizes = {"parameters": len(pack.parameters), "nodes": len(pack.nodes), "bits": len(pack.bits), "reached": round(nodes), "writes": round(writes / len(turned))}
+    shared.save(given.json, {**sizes, **{f"{name}_us": round(1e6 * took, 1) for name, took in (("loop", loop), ("bits", bits), ("library", host))}})
 
 
 if __name__ == "__main__":

@@ -2,7 +2,8 @@
 """Writes netlists with parameters, and times each stage of their mapping, with ABC's mapping for comparison.
 
     python3 tools/designs.py write ROOM           writes the netlists and lists of parameters into the folder ROOM
-    python3 tools/designs.py time [PROGRAM] [K]   runs `stages` of the built program bench_mapping on them and on the examples,
+    python3 tools/designs.py time [--json docs/figures/stages.json] [PROGRAM] [K]
+                                                  runs `stages` of the built program bench_mapping on them and on the examples,
                                                   after `rt run` in crates/bench_mapping has built it, with LUTs of K inputs (4),
                                                   and ABC if it is installed
     python3 tools/designs.py cuts PROGRAM..       runs several of these programs in turn, for example before and after a change, and
@@ -224,9 +225,16 @@ def abc_time(abc: str, k: int, file: str, room: str) -> tuple[float, str]:
     return max(0, with_it - without) / ABC_TIMES, " / ".join(lines)
 
 
-def show(program: str, k: int) -> None:
+def parameters_of(file: str) -> int:
+    """How many parameters a list has."""
+    with open(file, encoding="ascii") as it:
+        return sum(1 for line in it if line.split("#")[0].strip())
+
+
+def show(program: str, k: int, json: Optional[str]) -> None:
     """Prints what came of each stage, and then a table of all times in milliseconds."""
     abc = tools.find(tools.ABC)
+    kept: dict[str, dict[str, object]] = {}
     rows = [["Netlist", *STAGES, "ABC"], ["---"] * (len(STAGES) + 2)]
     with tempfile.TemporaryDirectory() as room:
         for name, files in write(room).items():
@@ -234,14 +242,18 @@ def show(program: str, k: int) -> None:
             print(f"{name}, K {k}")
             for stage, (counts, _) in least.items():
                 print(f"  {stage}: {counts}")
+            times = {stage: least[stage][1] / 1000 for stage in STAGES if stage in least}
+            kept[name] = {"parameters": parameters_of(files[1]), "counts": {stage: counts for stage, (counts, _) in least.items()}, "ms": times}
             row = [name, *(f"{least[stage][1] / 1000:.2f}" if stage in least else "" for stage in STAGES), ""]
             if abc:
                 micros, line = abc_time(abc, k, files[0], room)
                 print(f"  ABC: {line}", flush=True)
                 row[-1] = f"{micros / 1000:.1f}"
+                times["ABC"] = round(micros / 1000, 1)
             rows.append(row)
     for row in rows:
         print("| " + " | ".join(row) + " |")
+    shared.save(json, kept)
 
 
 def compare(programs: list[str]) -> None:
@@ -261,7 +273,7 @@ def main() -> None:
     parser = shared.words(__doc__)
     kinds = parser.add_subparsers(dest="word", metavar="write|time|cuts", required=True, help="what is done")
     kinds.add_parser("write").add_argument("room", metavar="ROOM", help="the folder of the netlists")
-    timed = kinds.add_parser("time")
+    timed = shared.saving(kinds.add_parser("time"))
     timed.add_argument("program", metavar="PROGRAM", nargs="?", type=shared.path_of, default=shared.MEASURED, help="a built bench_mapping")
     timed.add_argument("k", metavar="K", nargs="?", type=int, choices=range(2, 7), default=4, help="the inputs of a LUT (default: 4)")
     kinds.add_parser("cuts").add_argument("programs", metavar="PROGRAM", nargs="+", type=shared.path_of, help="a built bench_mapping")
@@ -270,7 +282,7 @@ def main() -> None:
         os.makedirs(given.room, exist_ok=True)
         write(given.room)
     elif given.word == "time":
-        show(given.program, given.k)
+        show(given.program, given.k, given.json)
     else:
         compare(given.programs)
 

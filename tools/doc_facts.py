@@ -2,7 +2,7 @@
 """Compares what README.md, CONTRIBUTING.md and docs/ state of the repository with the repository.
 
     python3 tools/doc_facts.py               checks the pages
-    python3 tools/doc_facts.py --update      first writes the counts that can be computed into docs/testing.md
+    python3 tools/doc_facts.py --update      first writes the counts that can be computed into docs/testing.md, and measured figures into all pages
     python3 tools/doc_facts.py --self-test   plants wrong facts in copies of the pages, each of which must be found
 
 It checks that
@@ -13,7 +13,8 @@ It checks that
 - each public call of the libraries has an entry in one of these two, by its type and name;
 - each function with more than six arguments is named in docs/DECISIONS.md;
 - the commands are the same in the code, in README, in docs/formats.md and in tools/help.txt;
-- the counts of crates, lines, commands, wrong bodies, rows and tests are those of the tree.
+- the counts of crates, lines, commands, wrong bodies, rows and tests are those of the tree;
+- the figures of sentences and tables, on one page or several, are those that the measuring tools wrote (tools/figures.py).
 
 The last line is `N facts, M wrong`, and the exit status is 1 if M isn't 0.
 """
@@ -27,15 +28,16 @@ import re
 import sys
 from typing import Iterable, Iterator, Optional
 
+import figures
 import shared
 from shared import TOP
 
 PAGES = ["README.md", "CONTRIBUTING.md", *sorted(f"docs/{name}" for name in os.listdir(f"{TOP}/docs") if name.endswith(".md"))]
 # Crates whose functions no other crate of the product calls.
-TESTS = {"test_player", "test_rows", "test_texts", "bench_mapping", "tlut", "tlut_compact", "tlut_examples", "tlut_main"}
+TESTS = {"test_player", "test_rows", "test_stages", "test_texts", "bench_mapping", "tlut", "tlut_compact", "tlut_examples", "tlut_main"}
 NUMBERS = "one two three four five six seven eight nine ten eleven twelve thirteen fourteen fifteen sixteen".split()
 # Pages whose names in backticks are those of the code. On the others they are mostly words of formats and of other tools.
-CODE_PAGES = {"docs/theorems.md", "docs/calls.md", "docs/definitions.md", "docs/architecture.md", "docs/DECISIONS.md", "docs/testing.md", "docs/rows.md"}
+CODE_PAGES = {"docs/theorems.md", "docs/headline.md", "docs/calls.md", "docs/definitions.md", "docs/architecture.md", "docs/DECISIONS.md", "docs/testing.md", "docs/rows.md"}
 # Pages that say what each call promises.
 PROMISES = ("docs/theorems.md", "docs/calls.md")
 COMMANDS = {"run", "spec", "map", "bits", "gen", "repack", "prove", "audit", "graph", "pace"}
@@ -392,6 +394,11 @@ class Checks:
         wanted = [name for name in self.tree.crates if self.tree.sizes[name][3]]
         self.ask(sorted(listed) == sorted(wanted), "docs/testing.md", 1, f"the gate has wrong bodies of {wanted}")
 
+    def measured(self) -> None:
+        """The figures of the measuring tools, wherever pages state them."""
+        for page, line, is_right, what in figures.differences(figures.Figures(), self.texts):
+            self.ask(is_right, page, line, what)
+
     def all(self) -> list[str]:
         for page in self.texts:
             self.links(page)
@@ -403,6 +410,7 @@ class Checks:
         self.arguments()
         self.commands()
         self.counts()
+        self.measured()
         return self.wrong
 
 
@@ -410,7 +418,7 @@ def counts(tree: Tree) -> list[tuple[str, str, list[int]]]:
     """Where a page states a count: the page, a pattern, and what each of its groups must be."""
     lines = [tree.sum(place) for place in range(3)]
     players = tree.sum(0, {"test_player", "test_rows"})
-    tests = tree.sum(0, {"test_player", "test_rows", "test_texts"})
+    tests = tree.sum(0, {"test_player", "test_rows", "test_stages", "test_texts"})
     commands = len(tree.commands)
     families = sum(1 for name in tree.crates if name.startswith("cmd_") and name not in ("cmd_base", "cmd_stations"))
     refused = len(place_of(r"CALLS = \[\n(.*?)^\]", read("tools/refused_memory.py"), re.MULTILINE | re.DOTALL)[1].splitlines())
@@ -447,7 +455,14 @@ def crate_rows(text: str) -> dict[str, Row]:
 
 
 def update(tree: Tree) -> None:
-    """Writes the counts into docs/testing.md."""
+    """Writes the measured figures into all pages, and the counts into docs/testing.md."""
+    with open(f"{TOP}/{figures.time_plot.PICTURE}", "w", encoding="utf-8") as file:
+        file.write(figures.picture(figures.Figures()))
+    for name in PAGES:
+        text = figures.filled(figures.Figures(), name, read(name))
+        if text != read(name):
+            with open(f"{TOP}/{name}", "w", encoding="utf-8") as file:
+                file.write(text)
     page = "docs/testing.md"
     text = read(page)
     for where, pattern, values in counts(tree):
@@ -494,16 +509,26 @@ PLANTS = [
 ]
 
 
+# Wrong figures, each planted on several pages at once, so that these agree with each other: it must be found on each.
+REPEATED = [
+    ("64 LUTs instead of 63", [("README.md", "**64 LUTs", "**63 LUTs"), ("docs/performance.md", "3,364 | 64 | 5", "3,364 | 63 | 5"), ("docs/case-studies.md", "parameters | 64 | 5 |", "parameters | 63 | 5 |")]),
+    ("the memory of a cut table", [(page, "about 336 MB", "about 363 MB") for page in ("docs/performance.md", "docs/verilog.md", "docs/DECISIONS.md")]),
+]
+
+
 def self_test(texts: dict[str, str], tree: Tree) -> int:
     """Plants each wrong fact in a copy of the pages. Returns how many were not found."""
     missed = 0
-    for page, old, new, what in PLANTS:
-        planted = {**texts, page: texts[page].replace(old, new, 1)}
-        is_planted = planted[page] != texts[page]
-        is_found = is_planted and any(it.startswith(page) for it in Checks(planted, tree).all())
-        print(f"{page}: {what}: {'found' if is_found else 'NOT FOUND'}")
+    plants = [(what, [(page, old, new)]) for page, old, new, what in PLANTS] + REPEATED
+    for what, places in plants:
+        planted = dict(texts)
+        for page, old, new in places:
+            planted[page] = planted[page].replace(old, new, 1)
+        wrong = Checks(planted, tree).all()
+        is_found = all(planted[page] != texts[page] and any(it.startswith(page) for it in wrong) for page, _, _ in places)
+        print(f"{', '.join(page for page, _, _ in places)}: {what}: {'found' if is_found else 'NOT FOUND'}")
         missed += not is_found
-    print(f"{len(PLANTS) - missed} found, {missed} not found")
+    print(f"{len(plants) - missed} found, {missed} not found")
     return missed
 
 

@@ -1,7 +1,7 @@
 #!/usr/bin/env python3
 """Runs the built program at both sides of its limits and on long inputs, on a stack of 256 KB, with the time and the memory of each.
 
-    python3 tools/limits.py [PROGRAM]
+    python3 tools/limits.py [--json docs/figures/limits.json] [PROGRAM]
 
 Outside the gate. Call `./tlut` once before, to build the program. Each line has the time by the clock and the greatest resident memory of
 a call, and whether the status, the outputs and the fault line are as expected. The last line is `N passed, M failed`, and the exit status
@@ -155,16 +155,21 @@ def calls() -> Iterator[tuple[str, list[str], dict[str, bytes], Left]]:
 
 
 def main() -> int:
-    program, passed, failed = shared.one_program(__doc__), 0, 0
+    parser = shared.saving(shared.words(__doc__))
+    parser.add_argument("program", metavar="PROGRAM", nargs="?", type=shared.path_of, default=shared.PROGRAM, help="the program that is tried")
+    given, passed, failed = parser.parse_args(), 0, 0
+    found: dict[str, dict[str, float]] = {}
     for title, words, files, wanted in calls():
         with tempfile.TemporaryDirectory() as folder:
             for name, content in files.items():
                 with open(f"{folder}/{name}", "wb") as file:
                     file.write(content)
-            left, seconds, megabytes = call(program, folder, words)
+            left, seconds, megabytes = call(given.program, folder, words)
+        found[title] = {"seconds": round(seconds, 1), "megabytes": megabytes}
         outcome = left == wanted
         print(f"{title}: {seconds:.1f} s, {megabytes} MB{'' if outcome else f', NO: {left[0]} {left[1][:80]!r} {left[2][:80]!r}'}", flush=True)
         passed, failed = passed + outcome, failed + (not outcome)
+    shared.save(given.json, found)
     return shared.summary(passed, failed)
 
 

@@ -3,6 +3,7 @@
 from __future__ import annotations
 
 import argparse
+import json
 import os
 import shutil
 import subprocess
@@ -17,6 +18,19 @@ MEASURED = f"{TOP}/crates/bench_mapping/out/bench_mapping"
 def words(text: Optional[str]) -> argparse.ArgumentParser:
     """The parser of a tool, whose help is its text."""
     return argparse.ArgumentParser(description=text, formatter_class=argparse.RawDescriptionHelpFormatter)
+
+
+def saving(parser: argparse.ArgumentParser) -> argparse.ArgumentParser:
+    """A parser with the option of a tool that measures: where its figures go too."""
+    parser.add_argument("--json", metavar="FILE", type=path_of, help="write the figures to FILE too, docs/figures/NAME.json for the pages")
+    return parser
+
+
+def save(path: Optional[str], found: object) -> None:
+    """Writes figures as JSON, if a file was given."""
+    if path:
+        with open(path, "w", encoding="utf-8") as file:
+            file.write(json.dumps(found, indent=1, ensure_ascii=False) + "\n")
 
 
 def path_of(word: str) -> str:
