@@ -30,6 +30,7 @@ use aig_core::{AigErr, Graph, Kind, Lit, Roots};
 use netlist::{Flat, FlatLatch, Library, OutPort, flat_law};
 use param_list::Params;
 use std::alloc::{AllocError, Global};
+use tl_text::{Digest, TextKey};
 
 // Adds `count` sources of a kind.
 fn push_kinds(kinds: &mut Vec<Kind>, kind: Kind, count: usize) -> Result<(), AllocError>
@@ -57,9 +58,19 @@ fn kinds_of(
     Ok(kinds)
 }
 
-// The graph with the sources and no AND node.
+// The key of the library's text and the names of the parameters, which determine the nodes.
+fn nodes_key(library: &Library, params: &Params) -> TextKey {
+    let mut digest = Digest::behind(library.key);
+    for param in params.list.as_slice() {
+        digest.add(param.name.bytes());
+    }
+    digest.key()
+}
+
+// The graph with the sources and no AND node, whose pairs are hashed under this key.
 fn source_graph(
     alloc: Global,
+    key: TextKey,
     flat: &Flat,
     params: &Params,
     nets: &NetLits,
@@ -74,7 +85,7 @@ fn source_graph(
     let params = params.list.len();
     let regular = nets.first_latch() as usize - 1 - params;
     let kinds = kinds_of(alloc, regular, params, flat.latches.len())?;
-    Graph::make(alloc, kinds, MOST_NODES)
+    Graph::keyed(alloc, key, kinds, MOST_NODES)
 }
 
 // Builds the cover at a place over the literals of the nets that it reads.
@@ -180,7 +191,7 @@ fn make_netlist(
     ensures full { result ≡ Err AigErr.Full → HasTooManyNodes library.now flat.now params.now.list }
 {
     let mut nets = start(alloc, flat, params)?;
-    let mut graph = source_graph(alloc, flat, params, &nets)?;
+    let mut graph = source_graph(alloc, nodes_key(library, params), flat, params, &nets)?;
     make_covers(alloc, &mut graph, library, flat, &mut nets)?;
     let roots = roots(alloc, flat, &nets)?;
     Ok((graph, roots))

@@ -8,6 +8,7 @@ use indexmap::IndexSet;
 use std::alloc::{AllocError, AllocFailed, Global};
 use std::marker::Model;
 use std::sync::ledger::Ledger;
+use text_key::TextKey;
 
 /// Why a node was not added.
 #[derive(Debug, PartialEq, Eq, Drop, thiserror::Error)]
@@ -24,7 +25,7 @@ pub enum AigErr {
 #[derive(Drop)]
 pub struct Graph {
     kinds: Vec<Kind>,
-    pairs: IndexSet<Pair>,
+    pairs: IndexSet<Pair, TextKey>,
     max: u32,
 }
 
@@ -53,14 +54,14 @@ impl<T: Drop> From<AllocFailed<T>> for AigErr {
 }
 
 // The place of a pair, by its hash.
-fn place_of(pairs: &IndexSet<Pair>, pair: Pair) -> Option<usize>
+fn place_of(pairs: &IndexSet<Pair, TextKey>, pair: Pair) -> Option<usize>
     ensures { result ≡ position (is_pair pair.x.0 pair.y.0) pairs.now.keys }
 {
     pairs.get_index_of(&pair)
 }
 
 // Appends a new pair.
-fn push_new(pairs: &mut IndexSet<Pair>, pair: Pair) -> Result<(), AllocError>
+fn push_new(pairs: &mut IndexSet<Pair, TextKey>, pair: Pair) -> Result<(), AllocError>
     requires { position (is_pair pair.x.0 pair.y.0) pairs.old.keys ≡ None }
     ensures keys { OnOk result (pairs.new.keys ≡ pairs.old.keys ++ pair ∷ []) }
     ensures err { OnErr result (pairs.new.keys ≡ pairs.old.keys) }
@@ -85,18 +86,39 @@ impl Graph {
     ghost use Rattle.aig_core.specs.And.{and_in_order, and_of, with_pairs};
     ghost use Rattle.aig_core.specs.Value.{FitsGraph, HasOneFit, IsProduct, KeepsValues};
 
-    /// A graph with these sources and no AND node. It can hold at most `max` AND nodes.
+    /// A graph with these sources and no AND node, under the key of no text. It can hold at most `max` AND nodes.
     ///
     /// `Err` only if memory runs out.
     pub fn make(alloc: Global, kinds: Vec<Kind>, max: u32) -> Result<Graph, AllocError>
         requires { vec_len kinds + max < 2 ^ 30 }
         ensures { IfOk result (λ g. g ≡ record { kinds = kinds.items; pairs = []; max = max }) }
     {
+        Graph::keyed(alloc, TextKey::of(b""), kinds, max)
+    }
+
+    /// The same graph, whose pairs are hashed under this key. It is to be the key of a text that determines all pairs, so that
+    /// whoever writes the text can't choose pairs that collide.
+    ///
+    /// `Err` only if memory runs out.
+    pub fn keyed(
+        alloc: Global,
+        key: TextKey,
+        kinds: Vec<Kind>,
+        max: u32,
+    ) -> Result<Graph, AllocError>
+        requires { vec_len kinds + max < 2 ^ 30 }
+        ensures { IfOk result (λ g. g ≡ record { kinds = kinds.items; pairs = []; max = max }) }
+    {
         Ok(Graph {
             kinds,
-            pairs: IndexSet::new(alloc),
+            pairs: IndexSet::with_hasher(alloc, key),
             max,
         })
+    }
+
+    /// The key of the hashes of pairs.
+    pub fn key(&self) -> TextKey {
+        *self.pairs.hasher()
     }
 
     /// The number of sources. Their indices begin at 1.

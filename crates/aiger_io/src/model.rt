@@ -8,7 +8,7 @@ use crate::item::Item;
 use crate::own_name::{mark, name_of};
 use netlist::{BlifModel, Command, Library};
 use std::alloc::{AllocError, Global};
-use tl_text::Name;
+use tl_text::{Name, TextKey};
 
 // The name of the port with an ordinal.
 fn port(alloc: Global, names: &[Name], ordinal: usize) -> Result<Name, AllocError>
@@ -142,9 +142,10 @@ impl<'a> Parts<'a> {
     }
 }
 
-/// The library of a circuit, given by its parts.
+/// The library of a circuit, given by its parts, from a text of this key.
 pub(crate) fn library(
     alloc: Global,
+    key: TextKey,
     header: &Header,
     items: &[Item],
     inputs: Vec<Name>,
@@ -170,5 +171,5 @@ pub(crate) fn library(
         clocks: Vec::new(alloc),
         commands,
     })?;
-    Ok(Library { models })
+    Ok(Library { models, key })
 }

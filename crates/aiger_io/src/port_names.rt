@@ -10,7 +10,7 @@ use crate::header::Header;
 use crate::own_name::name_of;
 use crate::symbols::{Symbols, symbol_at_place};
 use std::alloc::{AllocError, Global};
-use tl_text::{Name, NameIndex};
+use tl_text::{Name, NameIndex, TextKey};
 
 // The name of the port with an ordinal, by its symbol or by default.
 fn name_or_default(
@@ -91,13 +91,14 @@ fn add_twice(
 // The names that occur twice among inputs and outputs.
 fn names_found_twice(
     alloc: Global,
+    key: TextKey,
     inputs: &[Name],
     outputs: &[Name],
 ) -> Result<NameIndex, AllocError>
     ensures { IfOk result (λ found. (name : List ℕ) → has_name found name ≡ is_twice (inputs.now ++ outputs.now) name) }
 {
-    let mut seen = NameIndex::new(alloc);
-    let mut found = NameIndex::new(alloc);
+    let mut seen = NameIndex::new(alloc, key);
+    let mut found = NameIndex::new(alloc, key);
     add_twice(alloc, &mut seen, &mut found, inputs)?;
     add_twice(alloc, &mut seen, &mut found, outputs)?;
     Ok(found)
@@ -142,12 +143,13 @@ fn look_for(
     Ok(())
 }
 
-/// Checks that all names of inputs and outputs differ.
+/// Checks that all names of inputs and outputs differ, in a text of this key.
 ///
 /// # Errors
 /// A4 at the first symbol that also names another input or output; `Memory` if memory runs out.
 pub(crate) fn check_names(
     alloc: Global,
+    key: TextKey,
     header: &Header,
     line: u32,
     said: &Symbols,
@@ -161,6 +163,6 @@ pub(crate) fn check_names(
         (λ _. first_twice header.now said.now line said.now.places ≡ None)
         (OrMemory refusal_of (λ e. first_twice header.now said.now line said.now.places ≡ Some e)) }
 {
-    let found = names_found_twice(alloc, inputs, outputs)?;
+    let found = names_found_twice(alloc, key, inputs, outputs)?;
     look_for(alloc, header, line, said, &found)
 }

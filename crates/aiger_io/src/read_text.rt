@@ -21,10 +21,12 @@ use crate::rows::{rows, rows_behind};
 use crate::symbols::{Symbols, read_symbols};
 use netlist::Library;
 use std::alloc::Global;
+use tl_text::TextKey;
 
 // The library of items, and of the symbols after this line.
 fn named_library(
     alloc: Global,
+    key: TextKey,
     header: &Header,
     items: &[Item],
     line: u32,
@@ -41,14 +43,15 @@ fn named_library(
 {
     let inputs = names_of_inputs(alloc, header, said)?;
     let outputs = names_of_outputs(alloc, header, said)?;
-    check_names(alloc, header, line, said, &inputs, &outputs)?;
-    let made = library(alloc, header, items, inputs, outputs)?;
+    check_names(alloc, key, header, line, said, &inputs, &outputs)?;
+    let made = library(alloc, key, header, items, inputs, outputs)?;
     Ok(made)
 }
 
 // The library of items, given the lines after them.
 fn library_behind(
     alloc: Global,
+    key: TextKey,
     header: &Header,
     items: &[Item],
     rows: &[&[u8]],
@@ -61,12 +64,17 @@ fn library_behind(
 {
     let line = items.len() as u32 + 2;
     let said = read_symbols(alloc, header, line, rows)?;
-    let made = named_library(alloc, header, items, line, &said)?;
+    let made = named_library(alloc, key, header, items, line, &said)?;
     Ok(made)
 }
 
 // The library of a header, given the lines after it.
-fn library_under(alloc: Global, header: &Header, rows: &[&[u8]]) -> Result<Library, AagErr>
+fn library_under(
+    alloc: Global,
+    key: TextKey,
+    header: &Header,
+    rows: &[&[u8]],
+) -> Result<Library, AagErr>
     requires small { header.now.variables ≤ 2 ^ 30 }
     requires few { length rows.now + 3 < 2 ^ 32 }
     ensures { MatchResult result
@@ -74,7 +82,7 @@ fn library_under(alloc: Global, header: &Header, rows: &[&[u8]]) -> Result<Libra
         (OrMemory refusal_of (λ e. circuit_under (map (λ row. row.now) rows.now) header.now ≡ Err e)) }
 {
     let items = read_items(alloc, header, rows)?;
-    let made = library_behind(alloc, header, &items, rows_behind(rows, items.len()))?;
+    let made = library_behind(alloc, key, header, &items, rows_behind(rows, items.len()))?;
     Ok(made)
 }
 
@@ -86,7 +94,7 @@ fn library_of_text(alloc: Global, text: &[u8]) -> Result<Library, AagErr>
 {
     let rows = rows(alloc, text)?;
     let header = read_header(alloc, &rows)?;
-    let made = library_under(alloc, &header, rows_behind(&rows, 1))?;
+    let made = library_under(alloc, TextKey::of(text), &header, rows_behind(&rows, 1))?;
     Ok(made)
 }
 

@@ -25,7 +25,7 @@ use depth_first::Walk;
 use param_list::Params;
 use ppc_pack::{MOST_PACK_NODES, Pack, PackParam};
 use std::alloc::{AllocError, Global};
-use tl_text::Name;
+use tl_text::{Name, TextKey};
 
 // Sets the literal of source `i` if it is a parameter; `count` parameters come before it. Returns the number of parameters up
 // to and including it.
@@ -123,13 +123,13 @@ fn pack_params(alloc: Global, params: &Params) -> Result<Vec<PackParam>, AllocEr
     Ok(made)
 }
 
-// A graph over the parameters of a list as its sources, with room for the nodes of a pack.
-fn empty_graph(alloc: Global, params: &Params) -> Result<Graph, AllocError>
+// A graph over the parameters of a list as its sources, with room for the nodes of a pack and this key.
+fn empty_graph(alloc: Global, key: TextKey, params: &Params) -> Result<Graph, AllocError>
     requires { AreNamed params.now.list }
     ensures { IfOk result (λ g. g ≡ record { kinds = replicate (length params.now.list) Parameter; pairs = []; max = MOST_PACK_NODES }) }
 {
     let kinds = vec![in alloc; Kind::Parameter; params.list.len()]?;
-    Graph::make(alloc, kinds, MOST_PACK_NODES)
+    Graph::keyed(alloc, key, kinds, MOST_PACK_NODES)
 }
 
 // The pack of a template.
@@ -149,7 +149,7 @@ fn make_pack(
 {
     let mut lits = source_lits(alloc, graph)?;
     let mut walk = Walk::make(alloc, graph.len() as usize)?;
-    let mut pack = empty_graph(alloc, params)?;
+    let mut pack = empty_graph(alloc, graph.key(), params)?;
     let tables = template.luts.as_slice();
     let bits = push_tables(alloc, graph, tables, &mut pack, &mut lits, &mut walk)?;
     let _nodes = pack.len();

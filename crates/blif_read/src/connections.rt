@@ -9,7 +9,7 @@ ghost use Rattle.blif_read.specs.Reading.{put_pair, pairs_of, subckt_of};
 use crate::blif_err::BlifErr;
 use netlist::{Pair, Subckt};
 use std::alloc::{AllocError, Global};
-use tl_text::{Name, NameIndex};
+use tl_text::{Name, NameIndex, TextKey};
 
 // The place of the first `=` of a word.
 fn sign(word: &[u8]) -> Option<usize>
@@ -73,12 +73,12 @@ fn add_pair(
 }
 
 // The connections that words are.
-fn pairs(alloc: Global, number: u32, words: &[Name]) -> Result<Vec<Pair>, BlifErr>
+fn pairs(alloc: Global, key: TextKey, number: u32, words: &[Name]) -> Result<Vec<Pair>, BlifErr>
     ensures { MatchResult result
         (λ pairs. (connections_fault number [] words.now ≡ None) × (pairs.items ≡ pairs_of words.now))
         (OrMemory refusal_of (λ e. connections_fault number [] words.now ≡ Some e)) }
 {
-    let mut formals = NameIndex::new(alloc);
+    let mut formals = NameIndex::new(alloc, key);
     let mut pairs = Vec::new(alloc);
     for word in words {
         add_pair(alloc, number, &mut formals, &mut pairs, word.bytes())?;
@@ -86,9 +86,10 @@ fn pairs(alloc: Global, number: u32, words: &[Name]) -> Result<Vec<Pair>, BlifEr
     Ok(pairs)
 }
 
-/// The subcircuit given by the words after `.subckt`.
+/// The subcircuit given by the words after `.subckt`, in a text of this key.
 pub(crate) fn subckt_line(
     alloc: Global,
+    key: TextKey,
     number: u32,
     mut words: Vec<Name>,
 ) -> Result<Subckt, BlifErr>
@@ -98,6 +99,6 @@ pub(crate) fn subckt_line(
         return Err(BlifErr::Arity(number));
     }
     let model = words.remove(0);
-    let pairs = pairs(alloc, number, &words)?;
+    let pairs = pairs(alloc, key, number, &words)?;
     Ok(Subckt { model, pairs })
 }

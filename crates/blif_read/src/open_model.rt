@@ -16,7 +16,7 @@ use crate::port_list::PortList;
 use netlist::{BlifModel, Body, Command};
 use std::alloc::{AllocError, Global};
 use std::marker::Model;
-use tl_text::Name;
+use tl_text::{Name, TextKey};
 
 /// A model whose lines are being read. A cover whose rows may follow isn't among its commands yet.
 #[derive(Drop)]
@@ -74,7 +74,8 @@ fn add_ports(
         (λ _. (ports_fault number ports.old names.items ≡ None) × (ports.new ≡ ports.old ++ names.items))
         (OrMemory refusal_of (λ e. ports_fault number ports.old names.items ≡ Some e)) }
 {
-    let before = std::mem::replace(ports, PortList::new(alloc));
+    let key = ports.key();
+    let before = std::mem::replace(ports, PortList::new(alloc, key));
     *ports = before.with(alloc, number, names)?;
     Ok(())
 }
@@ -137,7 +138,7 @@ fn add_subckt(
         (OrMemory refusal_of (λ e. subckt_fault number words.items ≡ Some e)) }
 {
     end_cover(model)?;
-    let subckt = subckt_line(alloc, number, words)?;
+    let subckt = subckt_line(alloc, model.inputs.key(), number, words)?;
     model.commands.push(Command {
         line: number,
         body: Body::Subckt(subckt),
@@ -178,16 +179,16 @@ pub(crate) fn add_line(
     }
 }
 
-/// A model after its `.model` line.
-pub(crate) fn begun(alloc: Global, name: Name, line: u32) -> OpenModel
+/// A model after its `.model` line, in a text of this key.
+pub(crate) fn begun(alloc: Global, key: TextKey, name: Name, line: u32) -> OpenModel
     ensures { result ≡ fresh (name ∷ []) line }
 {
     OpenModel {
         name,
         line,
-        inputs: PortList::new(alloc),
-        outputs: PortList::new(alloc),
-        clocks: PortList::new(alloc),
+        inputs: PortList::new(alloc, key),
+        outputs: PortList::new(alloc, key),
+        clocks: PortList::new(alloc, key),
         commands: Vec::new(alloc),
         cover: None,
     }

@@ -8,7 +8,7 @@ ghost use Rattle.tl_fault.specs.OrMemory.{OrMemory};
 use crate::blif_err::BlifErr;
 use std::alloc::Global;
 use std::marker::Model;
-use tl_text::{Name, NameIndex};
+use tl_text::{Name, NameIndex, TextKey};
 
 /// Port names in order, without repeats. Each is found by its hash.
 #[derive(Drop)]
@@ -49,14 +49,19 @@ fn add(
 }
 
 impl PortList {
-    /// No names.
-    pub(crate) fn new(alloc: Global) -> PortList
+    /// No names, with the key of the text.
+    pub(crate) fn new(alloc: Global, key: TextKey) -> PortList
         ensures { result ≡ [] }
     {
         PortList {
             names: Vec::new(alloc),
-            index: NameIndex::new(alloc),
+            index: NameIndex::new(alloc, key),
         }
+    }
+
+    /// The key of the text.
+    pub(crate) fn key(&self) -> TextKey {
+        self.index.key()
     }
 
     /// The names in order.

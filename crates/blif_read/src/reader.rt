@@ -16,7 +16,7 @@ use crate::statement::{Statement, line_statement};
 use netlist::{BlifModel, Library};
 use std::alloc::{AllocError, Global};
 use std::marker::Model;
-use tl_text::{Line, Name, NameIndex};
+use tl_text::{Line, Name, NameIndex, TextKey};
 
 /// What was read so far: the names of the models, the finished models, and the one whose lines are being read.
 #[derive(Drop)]
@@ -87,7 +87,7 @@ fn begin(alloc: Global, reader: &mut Reader, number: u32, words: Vec<Name>) -> R
 {
     let name = new_name(alloc, &mut reader.names, number, words)?;
     close(reader)?;
-    reader.current = Some(begun(alloc, name, number));
+    reader.current = Some(begun(alloc, reader.names.key(), name, number));
     Ok(())
 }
 
@@ -177,7 +177,10 @@ fn finish(alloc: Global, reader: &mut Reader) -> Result<Library, BlifErr>
     if models.is_empty() {
         return Err(BlifErr::NoModel);
     }
-    Ok(Library { models })
+    Ok(Library {
+        models,
+        key: reader.names.key(),
+    })
 }
 
 // The library of lines, read from the start.
@@ -204,7 +207,7 @@ pub(crate) fn read_lines(alloc: Global, text: &[u8], lines: Vec<Line>) -> Result
         (OrMemory refusal_of (λ e. fault_of (library_read (statements text.now lines.items)) ≡ Some e)) }
 {
     let mut reader = Reader {
-        names: NameIndex::new(alloc),
+        names: NameIndex::new(alloc, TextKey::of(text)),
         done: Vec::new(alloc),
         current: None,
     };

@@ -1,7 +1,7 @@
 //! A model and a library of models.
 use crate::command::Command;
 use std::marker::Model;
-use tl_text::Name;
+use tl_text::{Name, TextKey};
 
 /// A model: a circuit with ports.
 #[derive(Drop)]
@@ -31,6 +31,8 @@ impl Model for BlifModel {
 #[derive(Drop)]
 pub struct Library {
     pub models: Vec<BlifModel>,
+    /// The key of the netlist's text, for hashes of its names and nodes.
+    pub key: TextKey,
 }
 
 impl Model for Library {

@@ -15,7 +15,7 @@ use crate::param_line::read_line;
 use crate::params::Param;
 use netlist::Flat;
 use std::alloc::{AllocError, Global};
-use tl_text::{Line, NameIndex};
+use tl_text::{Line, NameIndex, TextKey};
 
 // Adds a parameter whose name is new, and adds the name to the earlier ones.
 fn add(
@@ -48,7 +48,7 @@ fn read_each(
     ensures named { IfOk result (λ params. AreNamed params.items) }
     ensures fault { IfErr result (OrMemory refusal_of (IsFirstRefusal inputs.now clocks.now (map (words_line text.now) lines.now))) }
 {
-    let mut seen = NameIndex::new(alloc);
+    let mut seen = NameIndex::new(alloc, TextKey::of(text));
     let mut params = Vec::new(alloc);
     for line in lines {
         let param = read_line(alloc, text, line, inputs, clocks, &seen)?;

@@ -17,6 +17,7 @@ use crate::read_params::read_params;
 use crate::version::Version;
 use ppc_pack::Pack;
 use std::alloc::Global;
+use tl_text::TextKey;
 
 // The version of a file, and the bytes after it.
 fn read_head(file: &[u8]) -> Result<(Version, &[u8]), PackErr>
@@ -48,8 +49,9 @@ pub fn decode(alloc: Global, bytes: &[u8]) -> Result<Pack, PackErr>
     ensures one_reading { HasOneReading bytes.now }
 {
     let (version, rest) = read_head(bytes)?;
-    let (params, rest) = read_params(alloc, version, bytes, rest)?;
-    let (graph, rest) = read_nodes(alloc, version, &params, bytes, rest)?;
+    let key = TextKey::of(bytes);
+    let (params, rest) = read_params(alloc, key, version, bytes, rest)?;
+    let (graph, rest) = read_nodes(alloc, key, version, &params, bytes, rest)?;
     let (bits, rest) = read_bits(alloc, version, &params, &graph, bytes, rest)?;
     if !rest.is_empty() {
         return Err(PackErr::Trailing(offset(bytes.len() as u32, rest)));

@@ -20,15 +20,16 @@ use crate::version::Version;
 use aig_core::{AigErr, Graph, Kind, Pair};
 use ppc_pack::{MOST_PACK_NODES, PackParam};
 use std::alloc::Global;
+use tl_text::TextKey;
 
-// A graph with these parameters as sources, and no node yet.
-fn graph_over(alloc: Global, params: &[PackParam]) -> Result<Graph, PackErr>
+// A graph with these parameters as sources, and no node yet, for a file of this key.
+fn graph_over(alloc: Global, key: TextKey, params: &[PackParam]) -> Result<Graph, PackErr>
     requires { length params.now ≤ MOST_PARAMETERS }
     ensures graph { IfOk result (λ g. g ≡ record { kinds = replicate (length params.now) Parameter; pairs = []; max = MOST }) }
     ensures fault { IfErr result (λ e. e ≡ PackErr.Memory) }
 {
     let kinds = vec![in alloc; Kind::Parameter; params.len()]?;
-    let graph = Graph::make(alloc, kinds, MOST_PACK_NODES)?;
+    let graph = Graph::keyed(alloc, key, kinds, MOST_PACK_NODES)?;
     Ok(graph)
 }
 
@@ -100,10 +101,11 @@ fn read_each<'a>(
     Ok((graph, rest))
 }
 
-// The nodes of a file, which follow its parameters, as a graph over these, and the bytes after them. Time and memory are
+// The nodes of a file of this key, which follow its parameters, as a graph over these, and the bytes after them. Time and memory are
 // linear in their bytes, on average over the hashes.
 pub(crate) fn read_nodes<'a>(
     alloc: Global,
+    key: TextKey,
     version: Version,
     params: &[PackParam],
     file: &[u8],
@@ -116,6 +118,6 @@ pub(crate) fn read_nodes<'a>(
     ensures fault { IfErr result (OrMemory refusal_of (IsPackFault file.now)) }
 {
     let (count, rest) = count_field(version, file.len() as u32, rest)?;
-    let graph = graph_over(alloc, params)?;
+    let graph = graph_over(alloc, key, params)?;
     read_each(version, params, count, graph, file, rest)
 }

@@ -13,7 +13,7 @@ use crate::pack_err::PackErr;
 use crate::version::Version;
 use ppc_pack::PackParam;
 use std::alloc::{AllocError, Global};
-use tl_text::{Name, NameIndex};
+use tl_text::{Name, NameIndex, TextKey};
 
 // Appends a parameter whose name is new.
 fn push_param(
@@ -36,6 +36,7 @@ fn push_param(
 // As many parameters as the file states, and the bytes after them.
 fn read_each<'a>(
     alloc: Global,
+    key: TextKey,
     version: Version,
     count: u32,
     file: &[u8],
@@ -47,7 +48,7 @@ fn read_each<'a>(
     ensures fault { IfErr result (OrMemory refusal_of (IsPackFault file.now)) }
 {
     let total = file.len() as u32;
-    let mut names = NameIndex::new(alloc);
+    let mut names = NameIndex::new(alloc, key);
     let mut params = Vec::new(alloc);
     let mut rest = rest;
     for _ in 0..count {
@@ -58,10 +59,11 @@ fn read_each<'a>(
     Ok((params, rest))
 }
 
-// The parameters of a file, which follow its version, and the bytes after them. Time and memory are linear in their bytes, on
+// The parameters of a file of this key, which follow its version, and the bytes after them. Time and memory are linear in their bytes, on
 // average over the hashes.
 pub(crate) fn read_params<'a>(
     alloc: Global,
+    key: TextKey,
     version: Version,
     file: &[u8],
     rest: &'a [u8],
@@ -72,5 +74,5 @@ pub(crate) fn read_params<'a>(
     ensures fault { IfErr result (OrMemory refusal_of (IsPackFault file.now)) }
 {
     let (count, rest) = param_count(version, file.len() as u32, rest)?;
-    read_each(alloc, version, count, file, rest)
+    read_each(alloc, key, version, count, file, rest)
 }

@@ -56,7 +56,7 @@ pub(crate) fn read_assigns(
         (λ assigns. (settings_refusal params.now number [] settings.now ≡ None) × (each_of (assign_of params.now) settings.now ≡ Some assigns.items))
         (OrMemory refusal_of (λ e. settings_refusal params.now number [] settings.now ≡ Some e)) }
 {
-    let mut seen = NameIndex::new(alloc);
+    let mut seen = params.fresh(alloc);
     let mut assigns = Vec::new(alloc);
     for setting in settings {
         let assign = read_assign(alloc, number, params, &seen, setting)?;

@@ -12,7 +12,7 @@ use crate::event::{Event, Names};
 use crate::script_err::ScriptErr;
 use crate::script_line::read_line;
 use std::alloc::Global;
-use tl_text::{Line, NameIndex};
+use tl_text::{Line, NameIndex, TextKey};
 
 // The events of lines, given an index of the names of the parameters.
 fn read_each(
@@ -53,7 +53,7 @@ pub(crate) fn read_lines(
     ensures events { IfOk result (λ events. AreEventsOf names.now (map (words_line text.now) lines.now) (event_values events.items)) }
     ensures fault { IfErr result (OrMemory refusal_of (IsFirstRefusal names.now (map (words_line text.now) lines.now))) }
 {
-    let params = NameIndex::of(alloc, &names.params)?;
+    let params = NameIndex::of_with(alloc, TextKey::of(text), &names.params)?;
     let events = read_each(alloc, text, lines, names, &params)?;
     Ok(events)
 }

@@ -16,7 +16,6 @@ pub use Rattle.tl_text.specs.Clean.{IsClean, AreCleanIn}
 pub use Rattle.tl_text.specs.Decimal.{is_decimal, number_from, decimal_of, is_digit}
 pub use Rattle.tl_text.specs.LineValue.{IsWithin, token_bytes, LineValue, AreLinesIn, words_line, WordsLine}
 pub use Rattle.tl_text.specs.Lines.{is_bad, has_slash_end, words, content, before_comment, without_last, ends_in, goes_on, physical_lines, before_first, without_return, with_physical, lines_from, lines_of, closed, put_before, extended, counted, trimmed}
-pub use Rattle.tl_text.specs.NameHash.{collected, folded_in}
 pub use Rattle.tl_text.specs.NameIndex.{place_of}
 pub use Rattle.tl_text.specs.NameSets.{has_name, with_name, with_names}
 pub use Rattle.tl_text.specs.Once.{AreOnce}

@@ -12,6 +12,5 @@ pub mod TextOf
 pub mod Tokens
 pub mod WrittenText
 -- What only bodies are compared with.
-pub mod NameHash
 pub mod Reading
 pub mod Spans

@@ -2,21 +2,25 @@
 ghost use Rattle.std.specs.Prelude.{◌≡◌, [], ◌∷◌, ◌++◌, not, length, None, IfOk, OnOk, OnErr};
 ghost use Rattle.tl_text.specs.NameIndex.{place_of};
 ghost use Rattle.tl_text.specs.NameSets.{has_name, with_name, with_names as with_all_names};
+ghost use Rattle.std.specs.List.{fold};
+ghost use Rattle.text_key.specs.Digest.{behind_key, with_bytes, key_of_digest};
 ghost use Rattle.tl_text.specs.Once.{AreOnce};
 
-use crate::name_hasher::NameHasher;
 use crate::sought::Sought;
 use indexmap::IndexSet;
 use std::alloc::{AllocError, Global};
-use std::hash::BuildHasherDefault;
 use std::marker::Model;
+use text_key::{Digest, TextKey};
 use tl_fault::Name;
 
-/// Names in the order in which they were added. Each is found by its hash. Contracts see the list of the names. It has no
-/// repeats, which is an invariant of the type.
+/// Names in the order in which they were added. Each is found by its hash, under a key. Contracts see the list of the names. It
+/// has no repeats, which is an invariant of the type.
+///
+/// The key is to be computed from a text that has all the names that are added. Then whoever writes the text can't choose names
+/// that collide. Names that are only looked up may come from another text.
 #[derive(Drop)]
 pub struct NameIndex {
-    names: IndexSet<Name, BuildHasherDefault<NameHasher>>,
+    names: IndexSet<Name, TextKey>,
 }
 
 impl Model for NameIndex {
@@ -31,21 +35,59 @@ impl Model for NameIndex {
     ghost invariant = { λ n. AreOnce (n.names.keys) };
 }
 
+// The key of names, in their order, behind what a key was computed from.
+fn key_behind(key: TextKey, names: &[Name]) -> TextKey
+    ensures { result ≡ key_of_digest (fold with_bytes (behind_key key) names.now) }
+{
+    let mut digest = Digest::behind(key);
+    for name in names {
+        digest.add(name.bytes());
+    }
+    digest.key()
+}
+
 impl NameIndex {
-    /// An empty index. It needs no memory.
-    pub fn new(alloc: Global) -> NameIndex
+    /// An empty index, with a key. It needs no memory.
+    pub fn new(alloc: Global, key: TextKey) -> NameIndex
         ensures { result ≡ [] }
     {
         NameIndex {
-            names: IndexSet::with_hasher(alloc, BuildHasherDefault::new()),
+            names: IndexSet::with_hasher(alloc, key),
         }
     }
 
-    /// The names of a list, without repeats. The time is linear in their bytes, on average over the hashes.
+    /// The names of a list, without repeats. The key is that of the names. The time is linear in their bytes, on average over
+    /// the hashes.
     pub fn of(alloc: Global, names: &[Name]) -> Result<NameIndex, AllocError>
         ensures { IfOk result (λ index. index ≡ with_all_names [] names.now) }
     {
-        NameIndex::new(alloc).with_names(alloc, names)
+        NameIndex::of_with(alloc, TextKey::of(b""), names)
+    }
+
+    /// The same, with the key of the names behind what this key was computed from.
+    pub fn of_with(alloc: Global, key: TextKey, names: &[Name]) -> Result<NameIndex, AllocError>
+        ensures { IfOk result (λ index. index ≡ with_all_names [] names.now) }
+    {
+        NameIndex::under(alloc, key_behind(key, names), names)
+    }
+
+    /// The names of a list, without repeats, under this key.
+    pub fn under(alloc: Global, key: TextKey, names: &[Name]) -> Result<NameIndex, AllocError>
+        ensures { IfOk result (λ index. index ≡ with_all_names [] names.now) }
+    {
+        NameIndex::new(alloc, key).with_names(alloc, names)
+    }
+
+    /// An empty index with the key of this one. It needs no memory.
+    pub fn fresh(&self, alloc: Global) -> NameIndex
+        ensures { result ≡ [] }
+    {
+        NameIndex::new(alloc, self.key())
+    }
+
+    /// The key.
+    pub fn key(&self) -> TextKey {
+        *self.names.hasher()
     }
 
     /// The number of names, in constant time. No name is repeated.
@@ -116,12 +158,12 @@ impl NameIndex {
         Ok(all)
     }
 
-    /// A copy of the names. `Err` only if memory runs out. The time is linear in their bytes, on average over the hashes.
+    /// A copy of the names, with the same key. `Err` only if memory runs out. The time is linear in their bytes, on average over the hashes.
     #[tactic(auto, using(crate::proofs::NameSetLemmas::new_names))]
     pub fn copy(&self, alloc: Global) -> Result<NameIndex, AllocError>
         ensures { IfOk result (λ copy. copy ≡ self.now) }
     {
-        let names = NameIndex::of(alloc, self.names.as_slice())?;
+        let names = self.fresh(alloc).with_names(alloc, self.names.as_slice())?;
         Ok(names)
     }
 }

@@ -8,7 +8,7 @@ use crate::model::ports::Ports;
 use netlist::{BlifModel, Body, Command, Cover, Latch, Library, Net, Pair};
 use std::alloc::{AllocError, Global};
 use std::marker::Model;
-use tl_text::NameIndex;
+use tl_text::{NameIndex, TextKey};
 
 /// The slots of an instance: the number of its model, and its first slot.
 #[derive(Clone, Copy, Debug, PartialEq, Eq)]
@@ -225,23 +225,27 @@ fn with_commands(
     Ok(all)
 }
 
-// The names that stand in a model, each once.
-fn distinct_names(alloc: Global, model: &BlifModel) -> Result<NameIndex, AllocError>
+// The names that stand in a model of a netlist of this key, each once.
+fn distinct_names(alloc: Global, key: TextKey, model: &BlifModel) -> Result<NameIndex, AllocError>
     ensures { IfOk result (λ all. all ≡ distinct_names model.now) }
 {
-    let inputs = NameIndex::of(alloc, &model.inputs)?;
+    let inputs = NameIndex::under(alloc, key, &model.inputs)?;
     let outputs = inputs.with_names(alloc, &model.outputs)?;
     let ports = outputs.with_names(alloc, &model.clocks)?;
     with_commands(alloc, ports, &model.commands)
 }
 
-// The names that stand in each model.
-fn all_distinct_names(alloc: Global, models: &[BlifModel]) -> Result<Vec<NameIndex>, AllocError>
+// The names that stand in each model of a netlist of this key.
+fn all_distinct_names(
+    alloc: Global,
+    key: TextKey,
+    models: &[BlifModel],
+) -> Result<Vec<NameIndex>, AllocError>
     ensures { IfOk result (λ names. names.items ≡ map distinct_names models.now) }
 {
     let mut all: Vec<NameIndex> = Vec::new(alloc);
     for model in models {
-        let names = distinct_names(alloc, model)?;
+        let names = distinct_names(alloc, key, model)?;
         all.push(names)?;
     }
     Ok(all)
@@ -297,7 +301,7 @@ pub(crate) fn make_nets(
     requires instances { AreInstances library.now instances.now }
     ensures { IfOk result (λ nets. AreEmptyNets library.now (paths_of instances.now) nets) }
 {
-    let names = all_distinct_names(alloc, &library.models)?;
+    let names = all_distinct_names(alloc, library.key, &library.models)?;
     let (starts, count) = row_starts(alloc, &names, instances)?;
     let slots = empty_slots(alloc, count)?;
     Ok(Nets::new(names, starts, slots))

@@ -87,7 +87,7 @@ pub(crate) fn check_ports(
     ensures err { IfErr result (λ e. IsTold e (ports_fault model.now line subckt.now child.now)) }
 {
     check_formals(alloc, &model.name, line, ports, &subckt.pairs)?;
-    let index = formal_index(alloc, &subckt.pairs)?;
+    let index = formal_index(alloc, ports.key(), &subckt.pairs)?;
     check_inputs(alloc, &model.name, line, &index, &child.inputs)?;
     check_inputs(alloc, &model.name, line, &index, &child.clocks)
 }

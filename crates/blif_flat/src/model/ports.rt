@@ -4,13 +4,17 @@ ghost use Rattle.blif_flat.specs.{formals, has_name, with_names, In, place_of, M
 
 use netlist::{BlifModel, Pair};
 use std::alloc::{AllocError, Global};
-use tl_text::NameIndex;
+use tl_text::{NameIndex, TextKey};
 
-/// The formals of connections.
-pub(crate) fn formal_index(alloc: Global, pairs: &[Pair]) -> Result<NameIndex, AllocError>
+/// The formals of connections, in a netlist of this key.
+pub(crate) fn formal_index(
+    alloc: Global,
+    key: TextKey,
+    pairs: &[Pair],
+) -> Result<NameIndex, AllocError>
     ensures { IfOk result (λ all. all ≡ with_names [] (formals pairs.now)) }
 {
-    let mut all = NameIndex::new(alloc);
+    let mut all = NameIndex::new(alloc, key);
     for pair in pairs {
         all.add_once(alloc, pair.formal.bytes())?;
     }
@@ -27,15 +31,20 @@ pub(crate) struct Ports {
 }
 
 impl Ports {
-    /// The ports of a model. The time is linear in their bytes, on average over the hashes.
-    pub(crate) fn make(alloc: Global, model: &BlifModel) -> Result<Ports, AllocError>
+    /// The ports of a model, in a netlist of this key. The time is linear in their bytes, on average over the hashes.
+    pub(crate) fn make(alloc: Global, key: TextKey, model: &BlifModel) -> Result<Ports, AllocError>
         requires { IsWellFormedModel model.now }
         ensures { IfOk result (λ ports. ports ≡ ports_value model.now) }
     {
-        let inputs = NameIndex::of(alloc, &model.inputs)?;
+        let inputs = NameIndex::under(alloc, key, &model.inputs)?;
         let inputs = inputs.with_names(alloc, &model.clocks)?;
-        let outputs = NameIndex::of(alloc, &model.outputs)?;
+        let outputs = NameIndex::under(alloc, key, &model.outputs)?;
         Ok(Ports { inputs, outputs })
+    }
+
+    /// The key of the netlist.
+    pub(crate) fn key(&self) -> TextKey {
+        self.inputs.key()
     }
 
     /// A copy of the inputs. `Err` only if memory runs out. The time is linear in their bytes, on average over the hashes.
@@ -76,14 +85,18 @@ impl Ports {
     }
 }
 
-/// The ports of each model, in order.
-pub(crate) fn all_ports(alloc: Global, models: &[BlifModel]) -> Result<Vec<Ports>, AllocError>
+/// The ports of each model of a netlist of this key, in order.
+pub(crate) fn all_ports(
+    alloc: Global,
+    key: TextKey,
+    models: &[BlifModel],
+) -> Result<Vec<Ports>, AllocError>
     requires { (m : ModelValue) → In models.now m → IsWellFormedModel m }
     ensures { IfOk result (λ ports. ports.items ≡ map ports_value models.now) }
 {
     let mut all: Vec<Ports> = Vec::new(alloc);
     for model in models {
-        let ports = Ports::make(alloc, model)?;
+        let ports = Ports::make(alloc, key, model)?;
         all.push(ports)?;
     }
     Ok(all)
@@ -97,13 +110,17 @@ pub(crate) struct ModelIndex {
 }
 
 impl ModelIndex {
-    /// The names of these models. The time is linear in their bytes, on average over the hashes.
-    pub(crate) fn make(alloc: Global, models: &[BlifModel]) -> Result<ModelIndex, AllocError>
+    /// The names of these models, in a netlist of this key. The time is linear in their bytes, on average over the hashes.
+    pub(crate) fn make(
+        alloc: Global,
+        key: TextKey,
+        models: &[BlifModel],
+    ) -> Result<ModelIndex, AllocError>
         requires once { AreOnce (model_names models.now) }
         requires few { length models.now < 2 ^ 32 }
         ensures { IfOk result (λ index. index.names ≡ model_names models.now) }
     {
-        let mut names = NameIndex::new(alloc);
+        let mut names = NameIndex::new(alloc, key);
         for model in models {
             names.add_once(alloc, model.name.bytes())?;
         }

@@ -18,8 +18,8 @@ overflow_sub-regular-2 c =
     let b : length (param_names params) ≡ length params = length-map params (λ (q : Param). q.name) in
     omega (arith, length-append (regular_names flat params) (param_names params))
 
-pub make-requires : goal.make-requires
-make-requires c =
+pub keyed-requires : goal.keyed-requires
+keyed-requires c =
     let flat : FlatValue = c.args.flat.now in
     let params : List Param = c.args.params.now.list in
     let l : c.first_latch.result ≡ 1 + length (input_names flat params) = c.first_latch.ensures ∙ ap (λ (n : NetLitsValue). n.latches) c.requires.start ∙ start_latches flat params c.requires.once c.requires.params in
@@ -49,4 +49,4 @@ returns c =
     ∙ ap (λ (n : ℕ). replicate n Regular ++ (replicate c.len-params.result Parameter ++ replicate c.len.result Regular)) r
     ∙ ap (λ (n : ℕ). replicate (length (regular_names flat params)) Regular ++ (replicate n Parameter ++ replicate c.len.result Regular)) p
     ∙ ap (λ (n : ℕ). replicate (length (regular_names flat params)) Regular ++ (replicate (length params) Parameter ++ replicate n Regular)) s in
-    subst (λ (ks : List Kind). IfOk c.make.result (λ g. g ≡ record { kinds = ks; pairs = []; max = MOST_NODES })) e c.make.ensures
+    subst (λ (ks : List Kind). IfOk c.keyed.result (λ g. g ≡ record { kinds = ks; pairs = []; max = MOST_NODES })) e c.keyed.ensures
