@@ -1,76 +1,63 @@
--- Labels do not fall on the way up, and a node has no cut that is lower than its label.
-use Rattle.flow_cert.proofs.Common.{◌≡◌, ℕ, suc, ◌+◌, ◌-◌, ◌<◌, ◌≤◌, List, [], ◌∷◌, length, refl, subst, inl, inr, ◌⊎◌, arith, cases_lt, Aig, first_and, node_count, IsAnd, AreNormal, Regular, source_below, In, Within, IsAscending, Blocks, CanBeLeaf, greatest, height, IsFanIn, AreRight, rules, ◌/◌, ◌++◌, reverse, ap, ◌∙◌, reverse-append, IsNode, IsNormal, Pair, fan_ins, IsWayDown, IsDownTo}
-use Rattle.cut_sets.proofs.BlockLemmas.{contains_one}
-use Rattle.flow_cert.proofs.GraphLemmas.{free_or_leaf, source_not_and}
-pub use Rattle.cut_sets.proofs.HeightLemmas.{height_le, height_member, height_within, height_none}
-use Rattle.flow_cert.proofs.GraphLemmas.{reader_and, blocked_below}
+-- What labels that are least heights tell of the nodes.
+use Rattle.flow_cert.proofs.Common.{◌≡◌, ℕ, ◌+◌, ◌/◌, ◌<◌, ◌≤◌, List, [], ◌∷◌, ◌++◌, length, map, reverse, Some, refl, sym, ap, ◌∙◌, subst, inl, inr, eqb, eqb-false, arith, cases_lt, choose, reverse-append, slice_get, In, In-map, Aig, first_and, node_count, IsAnd, IsNode, AreNormal, Pair, fan_ins, Blocks, IsCut, height, AreLeastHeights, IsFanIn, first, second, ArePathsTo, IsLive, AreKnownTo, PathValue, path_count, IsDownTo, AreShowing}
+use Rattle.std.proofs.lemmas.List.{length-map}
+use Rattle.std.proofs.lemmas.Option.{slice_get-map}
+use Rattle.std.specs.Option.{option_map}
+use Rattle.cut_sets.proofs.HeightLemmas.{height_none}
+use Rattle.cut_sets.proofs.LeastHeightLemmas.{label_rises}
+use Rattle.flow_cert.proofs.GraphLemmas.{fan_in_below, free_or_live}
 
-module _ (g : Aig) (k : ℕ) (label : ℕ → ℕ) (normal : AreNormal (first_and g) g.pairs) (right : AreRight g k label) where
-  -- a list that blocks a node is at least as high as the node's label, or has the node
-  pub label_le_height : (n : ℕ) (c : List ℕ) → IsAnd g n → IsAscending c → length c ≤ k → Blocks g c n → In c n ⊎ (label n ≤ height label c)
-  label_le_height n c and up few b = elim ((contains_one g normal k n (right.cuts n) and (right.minimal n and)).each c up few b) [
-    | inl i ↦ inl i
-    | inr r ↦ inr (let l : label n ≤ height label r.by = right.labels.least n r.by and r.in' in let w : height label r.by ≤ height label c = height_within label r.by c r.part in omega arith)
+module _ (g : Aig) (k : ℕ) (label : ℕ → ℕ) (are : AreLeastHeights g k label) where
+  -- only AND nodes have a label above 0
+  pub high_and : (n : ℕ) → 1 ≤ label n → IsAnd g n
+  high_and n l = elim (cases_lt n (first_and g)) [
+    | inl s ↦ absurd (let z : label n ≡ 0 = are.sources n s in omega arith)
+    | inr a ↦ elim (cases_lt n (node_count g)) [ inl b ↦ (a, b) | inr p ↦ absurd (let z : label n ≡ 0 = are.past n p in omega arith) ]
   ]
 
-  -- labels do not fall from a leaf to its reader
-  pub label_rises : (m v : ℕ) → IsFanIn g m v → CanBeLeaf g m → label m ≤ label v
-  label_rises m v f (inl s) = let e : label m ≡ 0 = right.labels.sources m (source_below g Regular m s) in omega arith
-  label_rises m v f (inr and) =
-      let best = right.labels.met v (reader_and g m v f) in
-      let cut = ((right.minimal v (reader_and g m v f)).only best.0 best.1).cut in
-      elim (blocked_below g best.0 f cut.blocks) [
-        | inl i ↦ absurd (let l : v < v = (cut.below v i).0 in omega arith)
-        | inr b ↦ elim (label_le_height m best.0 and cut.ascending cut.few b) [
-          | inl i ↦ (let l : label m + 1 ≤ height label best.0 = height_member label best.0 m i in omega arith)
-          | inr l ↦ omega arith
+  module _ (normal : AreNormal (first_and g) g.pairs) where
+    -- the search for paths may use them
+    pub known_least : (n : ℕ) → n ≤ node_count g → AreKnownTo g n label
+    known_least n top = record {
+      sources = are.sources;
+      rising = λ m v l f. label_rises g normal k label are m v f (let b : v < node_count g = omega arith in b) (fan_in_below g m v normal f);
+      free = λ m l and z. let c = are.met m and in subst (λ x. Blocks g x m) (height_none label c.0 (sym c.2 ∙ z)) c.1.blocks;
+    }
+
+    -- a fan-in of a live AND node is live
+    pub second_live : (v : ℕ) (p : Pair) → IsNode g p v → IsAnd g v → 1 ≤ label v → (IsLive g label (p.x.0 / 2) → ⊥) → IsLive g label (p.y.0 / 2)
+    second_live v p node and high never =
+        let known : AreKnownTo g (node_count g) label = known_least (node_count g) (omega arith) in
+        let x_below : p.x.0 / 2 < v = fan_in_below g (p.x.0 / 2) v normal (first p node refl) in
+        let y_below : p.y.0 / 2 < v = fan_in_below g (p.y.0 / 2) v normal (second p node refl) in
+        let inside : v < node_count g = and.1 in
+        elim (free_or_live g label [] (p.y.0 / 2) (node_count g) known (omega arith) (omega arith)) [
+          | inr l ↦ l
+          | inl y ↦ elim (free_or_live g label [] (p.x.0 / 2) (node_count g) known (omega arith) (omega arith)) [
+            | inr l ↦ absurd (never l)
+            | inl x ↦ absurd (
+                let cut : IsCut g k v [] = record { ascending = tt; few = omega arith; below = λ m i. absurd i; blocks = fan_ins p node x y } in
+                let l : label v ≤ height label [] = are.least v [] and cut in omega arith)
+          ]
         ]
-      ]
-
-  -- no list of at most k lower nodes blocks a node
-  pub not_blocked : (n : ℕ) (c : List ℕ) → IsAnd g n → 2 ≤ label n → IsAscending c → length c ≤ k → ((m : ℕ) → In c m → (m < n) × (label m + 1 < label n)) → Blocks g c n → ⊥
-  not_blocked n c and high up few low b = elim (label_le_height n c and up few b) [
-    | inl i ↦ (let l : n < n = (low n i).0 in absurd (omega arith))
-    | inr l ↦ (let d : height label c ≤ suc (label n - 2) = height_le label c (label n - 2) (λ m i. let q : label m + 1 < label n = (low m i).1 in omega arith) in absurd (omega arith))
-  ]
-
-  -- a leaf has label 0, or is an AND node
-  pub source_or_and : (m : ℕ) → CanBeLeaf g m → (label m ≡ 0) ⊎ IsAnd g m
-  source_or_and m (inl s) = inl (right.labels.sources m (source_below g Regular m s))
-  source_or_and m (inr a) = inr a
-
-  -- an AND node with label 0 is blocked by the empty set
-  pub zero_free : (m : ℕ) → IsAnd g m → label m ≡ 0 → Blocks g [] m
-  zero_free m and z =
-      let best = right.labels.met m and in
-      subst (λ c. Blocks g c m) (height_none label best.0 (omega arith)) ((right.minimal m and).only best.0 best.1).cut.blocks
-
-pub high_and : (g : Aig) (k : ℕ) (label : ℕ → ℕ) → AreRight g k label → (n : ℕ) → 1 ≤ label n → IsAnd g n
-high_and g k label right n l = search (rules, cases_lt)
-
-module _ (g : Aig) (k : ℕ) (label : ℕ → ℕ) (normal : AreNormal (first_and g) g.pairs) (right : AreRight g k label) where
-  way_or_free : (m : ℕ) → m < node_count g → IsWayDown g label m ⊎ Blocks g [] m
-  way_or_free m l = elim (free_or_leaf g [] m l) [
-    | inl b ↦ inr b
-    | inr leaf ↦ elim leaf [
-      | inl s ↦ inl (record { leaf = inl s; high = λ a. absurd (source_not_and g m s a) })
-      | inr a ↦ elim (cases_lt (label m) 1) [ inl z ↦ inr (zero_free g k label normal right m a (omega arith)) | inr h ↦ inl (record { leaf = inr a; high = λ _. h }) ]
-    ]
-  ]
-
-  -- where no path comes to the first fan-in, one comes to the second
-  pub second_way : (v : ℕ) (p : Pair) → IsNode g p v → IsNormal v p → IsAnd g v → 1 ≤ label v → (IsWayDown g label (p.x.0 / 2) → ⊥) → IsWayDown g label (p.y.0 / 2)
-  second_way v p node fit and high never =
-      elim (way_or_free (p.y.0 / 2) (omega arith)) [
-        | inl w ↦ w
-        | inr y ↦ elim (way_or_free (p.x.0 / 2) (omega arith)) [
-          | inl w ↦ absurd (never w)
-          | inr x ↦ absurd (elim (label_le_height g k label normal right v [] and tt (omega arith) (fan_ins p node x y)) [ inl i ↦ i | inr l ↦ (let h : height label [] ≡ 0 = refl in omega arith) ])
-        ]
-      ]
 
 pub down_push : (g : Aig) (n v w : ℕ) (nodes : List ℕ) → IsFanIn g w v → IsDownTo g n v nodes → IsDownTo g n w (nodes ++ w ∷ [])
 down_push g n v w nodes f d = record { rest = v ∷ d.rest; is = reverse_push nodes w ∙ ap (λ xs. w ∷ xs) d.is; climbs = (f, d.climbs) }
   where
     reverse_push : (xs : List ℕ) (x : ℕ) → reverse (xs ++ x ∷ []) ≡ x ∷ reverse xs
     reverse_push xs x = reverse-append xs (x ∷ [])
+
+-- how many paths show a claim
+pub count_one : (k claim : ℕ) → claim ≡ 1 → path_count k claim ≡ 1
+count_one k claim e = choose (λ v. v ≡ 1) (eqb claim 1) 1 (k + 1) (λ _. refl) (λ f. absurd (eqb-false claim 1 f e))
+
+nodes_at : (ps : List PathValue) (lists : List (List ℕ)) (i : ℕ) (p : PathValue) → map (λ (x : PathValue). x.nodes) ps ≡ lists → slice_get ps i ≡ Some p → slice_get lists i ≡ Some p.nodes
+nodes_at ps lists i p e at = ap (λ xs. slice_get xs i) (sym e) ∙ (slice_get-map (λ (x : PathValue). x.nodes) ps i ∙ ap (option_map (λ (x : PathValue). x.nodes)) at)
+
+-- paths to the node show its label
+pub shown : (g : Aig) (k n : ℕ) (label : ℕ → ℕ) (ps : List PathValue) (lists : List (List ℕ)) → map (λ (x : PathValue). x.nodes) ps ≡ lists → ArePathsTo g n (label n) label lists → length lists ≡ k + 1 → AreShowing g k label n ps
+shown g k n label ps lists e are count = record {
+  count = sym (length-map ps (λ (x : PathValue). x.nodes)) ∙ (ap length e ∙ count);
+  each = λ p i. are.paths p.nodes (subst (λ xs. In xs p.nodes) e (In-map (λ (x : PathValue). x.nodes) ps p i));
+  apart = λ i j m p q l a b x y ne. are.apart i j m p.nodes q.nodes l (nodes_at ps lists i p e a) (nodes_at ps lists j q e b) x y ne;
+}

@@ -1,13 +1,6 @@
 mod Common
-mod OnceLemmas
 mod GraphLemmas
 mod LabelLemmas
-mod BarrierLemmas
-mod LinkLemmas
-mod HandLemmas
-mod StampLemmas
-mod WayLemmas
-mod WalkLemmas
 mod MarkLemmas
 mod TargetLemmas
 mod StepLemmas

@@ -1,5 +1,5 @@
 -- The nodes whose claims are needed: they are the same where the paths are, and the numbers of lines have no part in them.
-use Rattle.flow_cert.proofs.Common.{◌≡◌, ℕ, ◌≤◌, List, sym, ap, ◌∙◌, subst, arith, Aig, LabelsValue, StepValue, CertificateValue, bare_step, bare, AreLabelClaims, IsFirstToNeed, IsShared, IsNeeded, root, shared, AreNeeded, ShowAlike, HasOneClaiming, rules}
+use Rattle.flow_cert.proofs.Common.{◌≡◌, ℕ, ◌≤◌, List, sym, ap, ◌∙◌, subst, arith, Aig, StepValue, CertificateValue, bare_step, bare, AreLabelClaims, IsFirstToNeed, IsShared, IsNeeded, root, shared, AreNeeded, ShowAlike, HasOneClaiming, rules}
 use Rattle.cert_check.proofs.BareLemmas.{same_step, same_path}
 
 -- a step of the same node with the same paths shares the same nodes
@@ -46,5 +46,5 @@ module _ (g : Aig) (roots : List ℕ) (label : ℕ → ℕ) where
   }
 
 -- and their labels.
-pub same_label_claims : (v : LabelsValue) (c d : CertificateValue) → bare c ≡ bare d → AreLabelClaims v c → AreLabelClaims v d
-same_label_claims v c d same of = search (rules, same_step)
+pub same_label_claims : (label : ℕ → ℕ) (c d : CertificateValue) → bare c ≡ bare d → AreLabelClaims label c → AreLabelClaims label d
+same_label_claims label c d same of = search (rules, same_step)

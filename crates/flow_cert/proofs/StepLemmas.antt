@@ -1,9 +1,8 @@
 -- The steps of the needed nodes, from above.
-use Rattle.flow_cert.proofs.Common.{◌≡◌, ℕ, ◌+◌, ◌<◌, ◌≤◌, Bool, true, false, List, [], ◌∷◌, ◌++◌, length, map, reverse, refl, sym, ap, ◌∙◌, subst, inl, inr, arith, cases_eq, reverse-append, map-append, slice_get_within, Aig, first_and, node_count, AreNormal, In, IsAscending, IsDescending, In-left, In-right, In-push, In-map, from_map, StepValue, AreRight, IsStepOf, IsShared, HasStep, mark, AreMarked, FitStep, IsWanted, AreDoneTo, AreSteps}
+use Rattle.flow_cert.proofs.Common.{◌≡◌, ℕ, ◌+◌, ◌<◌, ◌≤◌, Bool, true, false, List, [], ◌∷◌, ◌++◌, length, map, reverse, refl, sym, ap, ◌∙◌, subst, inl, inr, arith, cases_eq, reverse-append, map-append, slice_get_within, Aig, first_and, node_count, AreNormal, In, IsAscending, IsDescending, In-left, In-right, In-push, In-map, from_map, StepValue, AreLeastHeights, IsStepOf, IsShared, HasStep, mark, AreMarked, FitStep, IsWanted, AreDoneTo, AreSteps}
 use Rattle.list_laws.proofs.Reversed.{reversed_in, in_reversed}
 use Rattle.flow_cert.proofs.GraphLemmas.{path_below}
-use Rattle.flow_cert.proofs.LabelLemmas.{high_and}
-use Rattle.flow_cert.proofs.WayLemmas.{count_one}
+use Rattle.flow_cert.proofs.LabelLemmas.{high_and, count_one}
 use Rattle.flow_cert.specs.Steps as steps
 
 -- the numbers of a step's nodes are in range
@@ -44,7 +43,7 @@ descending_push (t ∷ ts) s down above = (
   descending_push ts s down.1 (λ u j. above u (inr j)),
 )
 
-module _ (g : Aig) (k : ℕ) (label : ℕ → ℕ) (right : AreRight g k label) (begin n : ℕ) (marks : List Bool) (ss : List StepValue) (d : AreDoneTo g k label begin (n + 1) marks ss) where
+module _ (g : Aig) (k : ℕ) (label : ℕ → ℕ) (least : AreLeastHeights g k label) (begin n : ℕ) (marks : List Bool) (ss : List StepValue) (d : AreDoneTo g k label begin (n + 1) marks ss) where
   -- a node that is not marked
   pub done_skip : mark marks n ≡ false → AreDoneTo g k label begin n marks ss
   done_skip off = record {
@@ -82,7 +81,7 @@ module _ (g : Aig) (k : ℕ) (label : ℕ → ℕ) (right : AreRight g k label) 
               let c : s.claim ≤ label m + 1 = shared_high g k label s m of share in
               let two : 2 ≤ s.claim = shared_two g k label s m of share in
               let one : 1 ≤ label m = omega arith in
-              (high_and g k label right m one, one, steps.shared s last share))
+              (high_and g k label least m one, one, steps.shared s last share))
         ];
         have = λ m l h. elim (cases_eq m n) [
           | inl e ↦ record { step = s; there = last; is = is ∙ sym e }

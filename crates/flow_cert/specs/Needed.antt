@@ -2,13 +2,12 @@
 use Rattle.std.specs.Prelude.{◌≡◌, ◌⊎◌, ℕ, ◌/◌, ◌<◌, ◌≤◌, List, [], ◌∷◌, Some, slice_get}
 use Rattle.aig_core.specs.Aig.{Aig, IsAnd}
 use Rattle.list_laws.specs.Members.{In}
-use Rattle.depth_label.specs.Label.{LabelsValue, label_of}
 use Rattle.cert_check.specs.CertificateValue.{PathValue, StepValue, CertificateValue}
 use Rattle.cert_check.specs.Valid.{Needs}
 
 -- each step claims its node's label
-pub record AreLabelClaims (labels : LabelsValue) (c : CertificateValue) : Type 0 where
-  pub each : (s : StepValue) → In c.steps s → s.claim ≡ label_of labels s.node
+pub record AreLabelClaims (label : ℕ → ℕ) (c : CertificateValue) : Type 0 where
+  pub each : (s : StepValue) → In c.steps s → s.claim ≡ label s.node
 
 -- l is the first of these roots that needs the depth, where these are the depths of the nodes
 abbrev pub IsFirstToNeed : Aig → (ℕ → ℕ) → ℕ → List ℕ → ℕ → Type 0

@@ -6,14 +6,8 @@ use Rattle.list_laws.specs.Order.{IsAscending, IsDescending}
 use Rattle.cert_check.specs.CertificateValue.{StepValue, PathValue}
 use Rattle.flow_cert.specs.Marks.{mark}
 use Rattle.flow_cert.specs.Needed.{IsShared, HasStep}
-use Rattle.cut_sets.specs.Cuts.{CanBeLeaf}
 use Rattle.cut_sets.specs.Paths.{Climbs, IsPath}
 use Rattle.cert_check.specs.Valid.{IsJustified}
-
--- a path comes to m: it is a regular source, or an AND node with a label of at least 1
-pub record IsWayDown (g : Aig) (label : ℕ → ℕ) (m : ℕ) : Type 0 where
-  pub leaf : CanBeLeaf g m
-  pub high : IsAnd g m → 1 ≤ label m
 
 -- from v the nodes of the list, read backwards, go up to n
 pub record IsDownTo (g : Aig) (n v : ℕ) (nodes : List ℕ) : Type 0 where
@@ -26,13 +20,6 @@ pub record AreShowing (g : Aig) (k : ℕ) (label : ℕ → ℕ) (n : ℕ) (paths
   pub count : length paths ≡ k + 1
   pub each : (p : PathValue) → In paths p → IsPath g n p.nodes
   pub apart : (i j m : ℕ) (p q : PathValue) → i < j → slice_get paths i ≡ Some p → slice_get paths j ≡ Some q → In p.nodes m → In q.nodes m → m ≢ n → label n ≤ label m + 1
-
--- the lists that the work on a node writes have a number for each of n nodes
-pub record IsScratch (n : ℕ) (readers owners seen met : List ℕ) : Type 0 where
-  pub walk : length readers ≡ n
-  pub links : length owners ≡ n
-  pub search : length seen ≡ n
-  pub marks : length met ≡ n
 
 -- a step that claims its node's label, and is justified where all claims are labels
 pub record IsStepOf (g : Aig) (k : ℕ) (label : ℕ → ℕ) (s : StepValue) : Type 0 where

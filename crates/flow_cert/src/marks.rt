@@ -4,8 +4,8 @@
 ghost use Rattle.std.specs.Prelude.{◌≡◌, ℕ, ◌<◌, ◌≤◌, ◌+◌, ◌^◌, Bool, List, [], length, Some, slice_get};
 ghost use Rattle.flow_cert.specs.Marks.{HasTaken, AreTaken, AreMarkedTo, AreMarked, FitStep};
 
-use crate::stamped::Stamped;
 use cert_check::{NodePath, Step};
+use flow_label::Stamped;
 
 // Visits a node of the path at a place. It is marked if an earlier path met it and it isn't the end of the path.
 fn take_node(marks: &mut Vec<bool>, met: &mut Stamped, node: u32, place: u32, m: u32)

@@ -1,44 +1,46 @@
 //! The steps of the needed nodes.
 ghost use Rattle.std.specs.Prelude.{◌≡◌, ℕ, ◌<◌, ◌≤◌, ◌+◌, Bool, List, true, length, IfOk, OnOk};
 ghost use Rattle.aig_core.specs.Aig.{node_count, first_and, IsAnd};
-ghost use Rattle.depth_label.specs.Label.{label_of};
-ghost use Rattle.flow_cert.specs.Net.{AreRight};
-ghost use Rattle.flow_cert.specs.Steps.{IsScratch, CanBegin, AreDoneTo, AreSteps};
+ghost use Rattle.cut_sets.specs.Labels.{label_at, AreLeastHeights};
+ghost use Rattle.flow_label.specs.Scratch.{HasRoom};
+ghost use Rattle.flow_cert.specs.Steps.{CanBegin, AreDoneTo, AreSteps};
 ghost use Rattle.flow_cert.specs.Marks.{mark};
 
 use crate::marks::mark_shared;
-use crate::scratch::{Scratch, new_scratch};
+use crate::memory::{Memory, new_memory};
 use crate::step::step_of;
 use aig_core::Graph;
 use cert_check::Step;
-use depth_label::Labels;
+use cut_sets::NodeLabels;
 use std::alloc::{AllocError, Global};
 
 // Adds the step of a node if it is marked, and marks the nodes below that this step needs.
 fn visit(
     alloc: Global,
     graph: &Graph,
-    labels: &Labels,
+    labels: &NodeLabels,
     n: u32,
     k: u8,
-    scratch: &mut Scratch,
+    memory: &mut Memory,
     marks: &mut Vec<bool>,
     steps: &mut Vec<Step>,
 ) -> Result<(), AllocError>
     requires node { IsAnd graph.now n }
-    requires right { AreRight graph.now k (label_of labels.now) }
-    requires room { IsScratch (node_count graph.now) scratch.old.walk.readers scratch.old.links.owners scratch.old.search.seen scratch.old.met }
+    requires least { AreLeastHeights graph.now k (label_at labels.now) }
+    requires room { HasRoom (node_count graph.now) memory.old.search }
+    requires met { length memory.old.met ≡ node_count graph.now }
     requires size { length marks.old.items ≡ node_count graph.now }
-    requires high { mark marks.old.items n ≡ true → 1 ≤ label_of labels.now n }
-    ensures room { OnOk result (IsScratch (node_count graph.now) scratch.new.walk.readers scratch.new.links.owners scratch.new.search.seen scratch.new.met) }
-    ensures done { OnOk result ((begin : ℕ) → AreDoneTo graph.now k (label_of labels.now) begin (n + 1) marks.old.items steps.old.items → AreDoneTo graph.now k (label_of labels.now) begin n marks.new.items steps.new.items) }
+    requires high { mark marks.old.items n ≡ true → 1 ≤ label_at labels.now n }
+    ensures room { OnOk result (HasRoom (node_count graph.now) memory.new.search) }
+    ensures met { OnOk result (length memory.new.met ≡ node_count graph.now) }
+    ensures done { OnOk result ((begin : ℕ) → AreDoneTo graph.now k (label_at labels.now) begin (n + 1) marks.old.items steps.old.items → AreDoneTo graph.now k (label_at labels.now) begin n marks.new.items steps.new.items) }
 {
     let _count = graph.len();
     if !marks[n as usize] {
         return Ok(());
     }
-    let step = step_of(alloc, graph, labels, n, k, scratch)?;
-    mark_shared(marks, &mut scratch.met, &step);
+    let step = step_of(alloc, graph, labels, n, k, &mut memory.search)?;
+    mark_shared(marks, &mut memory.met, &step);
     steps.push(step)?;
     Ok(())
 }
@@ -61,17 +63,17 @@ fn first_marks(alloc: Global, count: u32, begin: u32) -> Result<Vec<bool>, Alloc
 fn steps_down(
     alloc: Global,
     graph: &Graph,
-    labels: &Labels,
+    labels: &NodeLabels,
     k: u8,
     begin: u32,
 ) -> Result<Vec<Step>, AllocError>
-    requires right { AreRight graph.now k (label_of labels.now) }
-    requires begin { CanBegin graph.now (label_of labels.now) begin }
-    ensures { IfOk result (λ steps. (marks : List Bool) × AreDoneTo graph.now k (label_of labels.now) begin (first_and graph.now) marks steps.items) }
+    requires least { AreLeastHeights graph.now k (label_at labels.now) }
+    requires begin { CanBegin graph.now (label_at labels.now) begin }
+    ensures { IfOk result (λ steps. (marks : List Bool) × AreDoneTo graph.now k (label_at labels.now) begin (first_and graph.now) marks steps.items) }
 {
     let first = graph.sources() + 1;
     let count = graph.len() - first;
-    let mut scratch = new_scratch(alloc, graph.len())?;
+    let mut memory = new_memory(alloc, graph)?;
     let mut marks = first_marks(alloc, graph.len(), begin)?;
     let mut steps = Vec::new(alloc);
     for i in 0..count {
@@ -82,7 +84,7 @@ fn steps_down(
             labels,
             n,
             k,
-            &mut scratch,
+            &mut memory,
             &mut marks,
             &mut steps,
         )?;
@@ -97,13 +99,13 @@ fn steps_down(
 pub fn steps_of(
     alloc: Global,
     graph: &Graph,
-    labels: &Labels,
+    labels: &NodeLabels,
     k: u8,
     begin: u32,
 ) -> Result<Vec<Step>, AllocError>
-    requires right { AreRight graph.now k (label_of labels.now) }
-    requires begin { CanBegin graph.now (label_of labels.now) begin }
-    ensures { IfOk result (λ steps. AreSteps graph.now k (label_of labels.now) begin steps.items) }
+    requires least { AreLeastHeights graph.now k (label_at labels.now) }
+    requires begin { CanBegin graph.now (label_at labels.now) begin }
+    ensures { IfOk result (λ steps. AreSteps graph.now k (label_at labels.now) begin steps.items) }
 {
     let mut steps = steps_down(alloc, graph, labels, k, begin)?;
     steps.reverse();

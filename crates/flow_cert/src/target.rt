@@ -2,11 +2,11 @@
 ghost use Rattle.std.specs.Prelude.{◌≡◌, ◌<◌, ◌≤◌, ◌^◌};
 ghost use Rattle.aig_core.specs.Aig.{IsLit};
 ghost use Rattle.aig_core.specs.Roots.{lits_of, AreRoots};
-ghost use Rattle.depth_label.specs.Label.{label_of};
+ghost use Rattle.cut_sets.specs.Labels.{label_at};
 ghost use Rattle.flow_cert.specs.Target.{IsLevel, IsTarget, IsDeeper};
 
 use aig_core::{Graph, Kind, Lit};
-use depth_label::Labels;
+use cut_sets::NodeLabels;
 
 /// The depth, and the AND node of the first root that needs it; 0 if no root does, or if it is the complement of a source.
 #[derive(Clone, Copy)]
@@ -16,9 +16,9 @@ pub struct Target {
 }
 
 // The depth that a root needs.
-fn level(graph: &Graph, labels: &Labels, root: Lit) -> u32
+fn level(graph: &Graph, labels: &NodeLabels, root: Lit) -> u32
     requires { IsLit graph.now root.0 }
-    ensures { IsLevel graph.now (label_of labels.now) root.0 result }
+    ensures { IsLevel graph.now (label_at labels.now) root.0 result }
 {
     let n = root.0 / 2;
     if n == 0 {
@@ -34,9 +34,9 @@ fn level(graph: &Graph, labels: &Labels, root: Lit) -> u32
 }
 
 // The deeper of the target so far and one more root; the target so far if both are equally deep.
-fn deeper(graph: &Graph, labels: &Labels, best: Target, root: Lit) -> Target
+fn deeper(graph: &Graph, labels: &NodeLabels, best: Target, root: Lit) -> Target
     requires { IsLit graph.now root.0 }
-    ensures { IsDeeper graph.now (label_of labels.now) root.0 best.depth best.begin result.depth result.begin }
+    ensures { IsDeeper graph.now (label_at labels.now) root.0 best.depth best.begin result.depth result.begin }
 {
     let depth = level(graph, labels, root);
     if depth <= best.depth {
@@ -52,9 +52,9 @@ fn deeper(graph: &Graph, labels: &Labels, best: Target, root: Lit) -> Target
 }
 
 /// The depth that the roots need, and the first node of their certificate.
-pub fn target_of(graph: &Graph, labels: &Labels, roots: &[Lit]) -> Target
+pub fn target_of(graph: &Graph, labels: &NodeLabels, roots: &[Lit]) -> Target
     requires { AreRoots graph.now (lits_of roots.now) }
-    ensures { IsTarget graph.now (label_of labels.now) (lits_of roots.now) result.depth result.begin }
+    ensures { IsTarget graph.now (label_at labels.now) (lits_of roots.now) result.depth result.begin }
 {
     let mut best = Target { depth: 0, begin: 0 };
     for root in roots {

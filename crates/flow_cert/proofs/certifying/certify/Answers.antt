@@ -1,30 +1,17 @@
-use Rattle.flow_cert.proofs.Common.{ℕ, ◌^◌, ◌<◌, ◌≤◌, List, ap, ◌∙◌, subst, Aig, lits_of, roots_of, LabelsValue, label_of, IsTarget}
-use Rattle.flow_cert.proofs.CertLemmas.{cert_valid, cert_claims, cert_needed, cert_writable, depth_small}
-use Rattle.flow_cert.proofs.CoverLemmas.{target_least, label_small}
-use Rattle.flow_cert.proofs.NeededLemmas.{one_claiming}
+use Rattle.std.specs.Prelude.{IfOk}
+use Rattle.flow_cert.proofs.Common.{sym, subst, List, ℕ, roots_of, label_at, AreLeastHeights, AreLabelClaims, AreNeeded, HasOneClaiming}
+use Rattle.depth_label.proofs.LabelLemmas.{labels_heights}
 use Rattle.flow_cert.proofs.certifying.certify.Goals as goal
 
-pub returns : goal.returns
-returns c =
-    let g : Aig = c.args.graph.now in
-    let v : LabelsValue = c.args.labels.now in
-    let roots : List ℕ = roots_of c.args.roots.now in
-    let depth : ℕ = c.target_of-least.result.depth in
-    let begin : ℕ = c.target_of-least.result.begin in
-    let t : IsTarget g (label_of v) roots depth begin = subst (λ ls. IsTarget g (label_of v) ls depth begin) (ap lits_of c.deref.ensures.value ∙ c.in_ok-all.ensures) c.target_of-least.ensures in
-    let few = subst (λ n. n ≤ 2 ^ 30) c.len-count.ensures.count c.len-count.ensures.small in
-    let labels : (m : ℕ) → label_of v m < 2 ^ 32 = label_small g c.args.k c.args.table.now v c.len-count.ensures.normal c.requires.rows c.requires.labels few in
-    record {
-      valid = cert_valid g c.args.k v c.len-count.ensures.normal roots depth begin t c.in_ok-steps.steps.items c.in_ok-steps.ensures;
-      depth = target_least g c.args.k c.args.table.now v c.len-count.ensures.normal c.requires.rows c.requires.labels roots depth begin t;
-      claims = cert_claims g c.args.k v c.len-count.ensures.normal roots depth begin t c.in_ok-steps.steps.items c.in_ok-steps.ensures;
-      needed = cert_needed g c.args.k v c.len-count.ensures.normal roots depth begin t c.in_ok-steps.steps.items c.in_ok-steps.ensures;
-      once = one_claiming g roots (label_of v);
-      formed = cert_writable g c.args.k v c.len-count.ensures.normal roots depth begin t c.in_ok-steps.steps.items c.in_ok-steps.ensures (depth_small g (label_of v) roots depth begin t labels) few labels;
-    }
+pub certify_by_flow-requires-clause-heights : goal.certify_by_flow-requires-clause-heights
+certify_by_flow-requires-clause-heights c =
+    subst (λ (ls : List ℕ). AreLeastHeights c.args.graph.now c.args.k (label_at ls)) (sym c.node_labels.ensures) (labels_heights c.args.graph.now c.args.table.now c.args.labels.now c.args.k c.len-count.ensures.normal c.requires.labels c.requires.rows)
 
-pub returns-in_err-all-clause-once : goal.returns-in_err-all-clause-once
-returns-in_err-all-clause-once c = one_claiming c.args.graph.now (roots_of c.args.roots.now) (label_of c.args.labels.now)
+pub returns-clause-claims : goal.returns-clause-claims
+returns-clause-claims c = subst (λ (ls : List ℕ). IfOk c.certify_by_flow.result (λ cert. AreLabelClaims (label_at ls) cert)) c.node_labels.ensures c.certify_by_flow.ensures.claims
 
-pub returns-in_err-steps-clause-once : goal.returns-in_err-steps-clause-once
-returns-in_err-steps-clause-once c = one_claiming c.args.graph.now (roots_of c.args.roots.now) (label_of c.args.labels.now)
+pub returns-clause-needed : goal.returns-clause-needed
+returns-clause-needed c = subst (λ (ls : List ℕ). IfOk c.certify_by_flow.result (λ cert. AreNeeded c.args.graph.now (roots_of c.args.roots.now) (label_at ls) cert)) c.node_labels.ensures c.certify_by_flow.ensures.needed
+
+pub returns-clause-once : goal.returns-clause-once
+returns-clause-once c = subst (λ (ls : List ℕ). HasOneClaiming c.args.graph.now (roots_of c.args.roots.now) (label_at ls)) c.node_labels.ensures c.certify_by_flow.ensures.once

@@ -1,6 +1,0 @@
-use Rattle.flow_cert.proofs.Common.{length}
-use Rattle.flow_cert.proofs.LinkLemmas.{first_links}
-use Rattle.flow_cert.proofs.links.clear_links.Goals as goal
-
-pub returns-clause-linked : goal.returns-clause-linked
-returns-clause-linked c = rw (c.clear.ensures, c.clear-2.ensures.items) (first_links c.args.site.now (length c.args.links.now.owners) c.node-node.ensures.net.and c.requires)

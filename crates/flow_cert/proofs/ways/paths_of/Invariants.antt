@@ -1,5 +1,0 @@
-use Rattle.flow_cert.proofs.Common.{net_of, owner_in, AreWaysTo}
-use Rattle.flow_cert.proofs.ways.paths_of.Given as goal
-
-abbrev pub invariant-loop-s : goal.invariant-loop-s
-invariant-loop-s l = AreWaysTo (net_of l.site) (owner_in l.site l.links.owners) l.links.starts.items l.s-index l.paths.items

@@ -1,0 +1,46 @@
+use Rattle.flow_label.proofs.Common.{◌≡◌, ◌∙◌, subst, inl, inr, arith, cases_lt, get_or, In, In-get_or}
+use Rattle.flow_label.proofs.FindLemmas.{blocked}
+use Rattle.flow_label.proofs.search.find.Goals as goal
+
+pub loop-m-init : goal.loop-m-init
+loop-m-init c =
+    record {
+      searching = c.begin.ensures.searching;
+      none = c.begin.ensures.none;
+      begun = λ j l. absurd (omega arith);
+      room = c.begin.ensures.searching.passed_are.size;
+      size = c.begin.ensures.searching.size;
+    }
+
+pub search_from-requires-clause-end : goal.search_from-requires-clause-end
+search_from-requires-clause-end c =
+    c.ends-ends.ensures.only _ (In-get_or c.ends-ends.result.now c.loop-m.m-index 0 c.loop-m-test.true)
+
+pub returns-then-branch-clause-ended : goal.returns-then-branch-clause-ended
+returns-then-branch-clause-ended c =
+    c.in_ok-search_from.ensures.ended c.if-branch.true
+
+pub returns-then-branch-clause-room : goal.returns-then-branch-clause-room
+returns-then-branch-clause-room c =
+    c.in_ok-search_from.ensures.room ∙ c.loop-m.invariant.room
+
+pub returns-then-branch-clause-size : goal.returns-then-branch-clause-size
+returns-then-branch-clause-size c =
+    c.in_ok-search_from.ensures.size ∙ c.loop-m.invariant.size
+
+pub loop-m-preserved : goal.loop-m-preserved
+loop-m-preserved c =
+    record {
+      searching = c.in_ok-search_from.ensures.on c.if-branch.false;
+      none = c.in_ok-search_from.ensures.none c.if-branch.false;
+      begun = λ j l. elim (cases_lt j c.loop-m.m-index) [
+        | inl b ↦ c.in_ok-search_from.ensures.kept _ (c.loop-m.invariant.begun j b)
+        | inr b ↦ (let e : c.loop-m.m-index ≡ j = omega arith in subst (λ i. In c.search_from.new.search.queue.items (get_or c.ends-ends.result.now i 0)) e (c.in_ok-search_from.ensures.there c.if-branch.false))
+      ];
+      room = c.in_ok-search_from.ensures.room ∙ c.loop-m.invariant.room;
+      size = c.in_ok-search_from.ensures.size ∙ c.loop-m.invariant.size;
+    }
+
+pub returns-clause-ended : goal.returns-clause-ended
+returns-clause-ended c =
+    blocked c.args.site.now c.args.links.now.owners c.loop-m.search.seen c.loop-m.search.queue.items c.loop-m.search.backs.items c.loop-m.search.passed c.ends-ends.result.now c.loop-m.m-index c.loop-m.invariant.searching c.ends-ends.ensures c.loop-m.invariant.begun c.loop-m-test.false

@@ -1,0 +1,34 @@
+-- Low cuts: what a search has met and not passed, or the ends.
+use Rattle.std.specs.Prelude.{◌≡◌, ℕ, ◌+◌, ◌<◌, ◌≤◌, ◌==◌, List, [], filter, slice_index}
+use Rattle.aig_core.specs.Aig.{Aig}
+use Rattle.list_laws.specs.Members.{In}
+use Rattle.cut_sets.specs.Cuts.{IsCut}
+use Rattle.cut_sets.specs.Labels.{height}
+use Rattle.cut_sets.specs.Unions.{union}
+use Rattle.flow_label.specs.Net.{SiteValue}
+use Rattle.flow_label.specs.Search.{IsBlocked}
+
+-- these nodes as an ascending list
+abbrev pub ascending_of : List ℕ → List ℕ
+ascending_of nodes = union nodes []
+
+-- the nodes that have no mark
+abbrev pub unmarked : List ℕ → List ℕ → List ℕ
+unmarked marks nodes = filter (λ u. slice_index marks u == 0) nodes
+
+-- what a blocked search has met and not passed
+pub record IsBarrier (site : SiteValue) (owners kept : List ℕ) : Type 0 where
+  pub queue : List ℕ
+  pub backs : List ℕ
+  pub passed : List ℕ
+  pub blocked : IsBlocked site owners queue backs passed
+  pub is : kept ≡ unmarked passed queue
+
+-- a cut below a height: of labels that are at least two less
+pub record IsLowCut (g : Aig) (k n h : ℕ) (label : ℕ → ℕ) (c : List ℕ) : Type 0 where
+  pub cut : IsCut g k n c
+  pub low : (m : ℕ) → In c m → label m + 1 < h
+
+-- each cut has this height at least
+pub record IsHigh (g : Aig) (k n h : ℕ) (label : ℕ → ℕ) : Type 0 where
+  pub high : (c : List ℕ) → IsCut g k n c → h ≤ height label c

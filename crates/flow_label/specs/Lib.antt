@@ -1,0 +1,16 @@
+-- What public clauses say.
+pub mod Value
+pub mod Stamps
+pub mod Known
+pub mod Scratch
+pub mod Lows
+-- What only bodies are compared with.
+pub mod Net
+pub mod Links
+pub mod Search
+pub mod Outcome
+pub mod Walks
+pub mod Barriers
+pub mod Parts
+pub mod Labelled
+pub mod LowCuts

@@ -1,0 +1,195 @@
+//! A low cut of a node, or K + 1 paths to it.
+ghost use Rattle.std.specs.Prelude.{◌≡◌, ℕ, ◌<◌, ◌≤◌, ◌+◌, ◌-◌, length, map, IfOk, IfSome, OnOk, MatchOption};
+ghost use Rattle.aig_core.specs.Aig.{node_count, IsAnd};
+ghost use Rattle.cut_sets.specs.Labels.{label_at};
+ghost use Rattle.cut_sets.specs.Paths.{ArePathsTo};
+ghost use Rattle.flow_label.specs.Known.{AreKnownTo};
+ghost use Rattle.flow_label.specs.Barriers.{IsLowCut, IsHigh, IsBarrier};
+ghost use Rattle.flow_label.specs.Links.{AreLinks};
+ghost use Rattle.flow_label.specs.LowCuts.{IsFlowCut};
+ghost use Rattle.flow_label.specs.Lows.{IsNearest};
+ghost use Rattle.flow_label.specs.Scratch.{HasRoom};
+ghost use Rattle.flow_label.specs.Outcome.{AreAdded};
+
+use crate::augment::add_path;
+use crate::barrier::{cut_of, keep_unpassed};
+use crate::links::clear_links;
+use crate::scratch::{Links, Scratch, Search};
+use crate::search::{Outcome, find};
+use crate::site::Site;
+use crate::walk::walk_down;
+use crate::ways::paths_of;
+use aig_core::Graph;
+use cut_sets::{FlatCut, MOST_LEAVES, NodeLabels};
+use std::alloc::{AllocError, Global};
+
+// Adds paths until there are k + 1, or a search is blocked.
+fn add_paths(
+    site: &Site,
+    links: &mut Links,
+    search: &mut Search,
+    k: u8,
+) -> Result<Outcome, AllocError>
+    requires linked { AreLinks site.now links.old.owners links.old.starts.items }
+    requires none { length links.old.starts.items ≡ 0 }
+    requires seen { length search.old.seen ≡ node_count site.now.graph }
+    requires passed { length search.old.passed ≡ node_count site.now.graph }
+    ensures linked { OnOk result (AreLinks site.now links.new.owners links.new.starts.items) }
+    ensures added { IfOk result (λ outcome. AreAdded site.now k links.new.owners links.new.starts.items search.new.queue.items search.new.backs.items search.new.passed outcome) }
+    ensures room { OnOk result (length search.new.seen ≡ node_count site.now.graph) }
+    ensures marks { OnOk result (length search.new.passed ≡ node_count site.now.graph) }
+{
+    for _i in 0..u32::from(k) + 1 {
+        match find(site, links, search)? {
+            Outcome::Found => add_path(site, links, search)?,
+            Outcome::Blocked => return Ok(Outcome::Blocked),
+        }
+    }
+    Ok(Outcome::Found)
+}
+
+// The cut of what a blocked search met and did not pass. It has no more leaves than there are paths, and is the least low cut
+// nearest to the node.
+fn low_cut(site: &Site, links: &Links, kept: &[u32], k: u8) -> FlatCut
+    requires few { k ≤ MOST_LEAVES }
+    requires linked { AreLinks site.now links.now.owners links.now.starts.items }
+    requires paths { length links.now.starts.items ≤ k }
+    requires barrier { IsBarrier site.now links.now.owners kept.now }
+    ensures { IsNearest site.now.graph k site.now.node site.now.height (label_at site.now.labels) result }
+{
+    let _node = site.node();
+    match cut_of(kept, k) {
+        Some(cut) => cut,
+        None => unreachable!(),
+    }
+}
+
+// A low cut: the ends, if there are at most k, otherwise what a blocked search finds. `None` if k + 1 paths are found.
+fn answer(
+    site: &Site,
+    links: &mut Links,
+    search: &mut Search,
+    k: u8,
+) -> Result<Option<FlatCut>, AllocError>
+    requires few { k ≤ MOST_LEAVES }
+    requires owners { length links.old.owners ≡ node_count site.now.graph }
+    requires seen { length search.old.seen ≡ node_count site.now.graph }
+    requires passed { length search.old.passed ≡ node_count site.now.graph }
+    ensures answer { IfOk result (λ answer. MatchOption answer (IsHigh site.now.graph k site.now.node site.now.height (label_at site.now.labels)) (λ cut. IsLowCut site.now.graph k site.now.node site.now.height (label_at site.now.labels) cut)) }
+    ensures low { IfOk result (λ answer. IfSome answer (λ cut. IsFlowCut site.now.graph k (label_at site.now.labels) site.now.node (site.now.height - 1) cut)) }
+    ensures owners { OnOk result (length links.new.owners ≡ node_count site.now.graph) }
+    ensures room { OnOk result (length search.new.seen ≡ node_count site.now.graph) }
+    ensures marks { OnOk result (length search.new.passed ≡ node_count site.now.graph) }
+{
+    let _node = site.node();
+    if let Some(cut) = cut_of(site.ends(), k) {
+        return Ok(Some(cut));
+    }
+    clear_links(site, links);
+    match add_paths(site, links, search, k)? {
+        Outcome::Found => Ok(None),
+        Outcome::Blocked => {
+            keep_unpassed(search)?;
+            Ok(Some(low_cut(site, links, &search.kept, k)))
+        }
+    }
+}
+
+// K + 1 paths, since each cut is high.
+fn all_paths(
+    alloc: Global,
+    site: &Site,
+    links: &mut Links,
+    search: &mut Search,
+    k: u8,
+) -> Result<Vec<Vec<u32>>, AllocError>
+    requires least { IsHigh site.now.graph k site.now.node site.now.height (label_at site.now.labels) }
+    requires owners { length links.old.owners ≡ node_count site.now.graph }
+    requires seen { length search.old.seen ≡ node_count site.now.graph }
+    requires passed { length search.old.passed ≡ node_count site.now.graph }
+    ensures paths { IfOk result (λ paths. ArePathsTo site.now.graph site.now.node site.now.height (label_at site.now.labels) (map (λ p. p.items) paths.items)) }
+    ensures count { IfOk result (λ paths. length paths.items ≡ k + 1) }
+    ensures owners { OnOk result (length links.new.owners ≡ node_count site.now.graph) }
+    ensures room { OnOk result (length search.new.seen ≡ node_count site.now.graph) }
+    ensures marks { OnOk result (length search.new.passed ≡ node_count site.now.graph) }
+{
+    let _node = site.node();
+    clear_links(site, links);
+    match add_paths(site, links, search, k)? {
+        Outcome::Found => paths_of(alloc, site, links),
+        Outcome::Blocked => unreachable!(),
+    }
+}
+
+/// A low cut of a node: one of at most `k` leaves, all of labels of at most `height` minus two. `None` if each cut is at least as
+/// high as `height`. It is the ends, if there are at most `k`, otherwise the least low cut nearest to the node.
+///
+/// # Errors
+/// Only if memory runs out.
+pub fn low_cut_of(
+    graph: &Graph,
+    labels: &NodeLabels,
+    n: u32,
+    height: u32,
+    k: u8,
+    scratch: &mut Scratch,
+) -> Result<Option<FlatCut>, AllocError>
+    requires few { k ≤ MOST_LEAVES }
+    requires node { IsAnd graph.now n }
+    requires high { 2 ≤ height }
+    requires known { AreKnownTo graph.now n (label_at labels.now) }
+    requires room { HasRoom (node_count graph.now) scratch.old }
+    ensures answer { IfOk result (λ answer. MatchOption answer (IsHigh graph.now k n height (label_at labels.now)) (λ cut. IsLowCut graph.now k n height (label_at labels.now) cut)) }
+    ensures low { IfOk result (λ answer. IfSome answer (λ cut. IsFlowCut graph.now k (label_at labels.now) n (height - 1) cut)) }
+    ensures room { OnOk result (HasRoom (node_count graph.now) scratch.new) }
+{
+    let _count = graph.len();
+    walk_down(graph, labels, n, height, &mut scratch.walk)?;
+    let site = Site::make(
+        graph,
+        labels,
+        n,
+        height,
+        &scratch.walk.readers,
+        &scratch.walk.ends,
+        &scratch.steps,
+    );
+    answer(&site, &mut scratch.links, &mut scratch.search, k)
+}
+
+/// K + 1 paths to a node, each cut of which is at least as high as `height`. Two of them share only the node and nodes of a label
+/// of at least `height` minus one.
+///
+/// # Errors
+/// Only if memory runs out.
+pub fn paths_to(
+    alloc: Global,
+    graph: &Graph,
+    labels: &NodeLabels,
+    n: u32,
+    height: u32,
+    k: u8,
+    scratch: &mut Scratch,
+) -> Result<Vec<Vec<u32>>, AllocError>
+    requires node { IsAnd graph.now n }
+    requires high { 2 ≤ height }
+    requires known { AreKnownTo graph.now n (label_at labels.now) }
+    requires least { IsHigh graph.now k n height (label_at labels.now) }
+    requires room { HasRoom (node_count graph.now) scratch.old }
+    ensures paths { IfOk result (λ paths. ArePathsTo graph.now n height (label_at labels.now) (map (λ p. p.items) paths.items)) }
+    ensures count { IfOk result (λ paths. length paths.items ≡ k + 1) }
+    ensures room { OnOk result (HasRoom (node_count graph.now) scratch.new) }
+{
+    let _count = graph.len();
+    walk_down(graph, labels, n, height, &mut scratch.walk)?;
+    let site = Site::make(
+        graph,
+        labels,
+        n,
+        height,
+        &scratch.walk.readers,
+        &scratch.walk.ends,
+        &scratch.steps,
+    );
+    all_paths(alloc, &site, &mut scratch.links, &mut scratch.search, k)
+}

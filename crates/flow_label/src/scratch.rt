@@ -1,0 +1,107 @@
+//! Working memory for one node, allocated once for all nodes.
+ghost use Rattle.std.specs.Prelude.{◌≡◌, length, IfOk};
+ghost use Rattle.aig_core.specs.Aig.{node_count};
+ghost use Rattle.flow_label.specs.Scratch.{IsScratch};
+
+use crate::stamped::Stamped;
+use crate::steps::steps_down;
+use aig_core::Graph;
+use std::alloc::{AllocError, Global};
+
+/// The walk down from a node: the first reader of each node, the upper nodes in the order in which they were met, and the
+/// ends.
+#[derive(Drop)]
+pub struct Walk {
+    pub readers: Stamped,
+    pub uppers: Vec<u32>,
+    pub ends: Vec<u32>,
+}
+
+/// The paths: the owner of each node, if it isn't the first one, and the starts of the paths.
+#[derive(Drop)]
+pub struct Links {
+    pub owners: Stamped,
+    pub starts: Vec<u32>,
+}
+
+/// The search for one more path: whether each node was met, the nodes in the order in which they were met, the place from
+/// which each was met, the places that wait, and whether each inner node was passed. `kept` is for the nodes that were met
+/// and not passed.
+#[derive(Drop)]
+pub struct Search {
+    pub seen: Stamped,
+    pub queue: Vec<u32>,
+    pub backs: Vec<u32>,
+    pub stack: Vec<u32>,
+    pub passed: Stamped,
+    pub kept: Vec<u32>,
+}
+
+/// All of it, and for each node the fewest steps down to a regular source.
+#[derive(Drop)]
+pub struct Scratch {
+    pub(crate) walk: Walk,
+    pub(crate) links: Links,
+    pub(crate) search: Search,
+    pub(crate) steps: Vec<u32>,
+}
+
+// The memory of a walk that has met nothing.
+fn new_walk(alloc: Global, count: u32) -> Result<Walk, AllocError>
+    ensures { IfOk result (λ walk. length walk.readers ≡ count) }
+{
+    let readers = Stamped::new(alloc, count)?;
+    Ok(Walk {
+        readers,
+        uppers: Vec::new(alloc),
+        ends: Vec::new(alloc),
+    })
+}
+
+// The memory of links without paths.
+fn new_links(alloc: Global, count: u32) -> Result<Links, AllocError>
+    ensures { IfOk result (λ links. length links.owners ≡ count) }
+{
+    let owners = Stamped::new(alloc, count)?;
+    Ok(Links {
+        owners,
+        starts: Vec::new(alloc),
+    })
+}
+
+// The memory of a search that has met nothing.
+fn new_search(alloc: Global, count: u32) -> Result<Search, AllocError>
+    ensures seen { IfOk result (λ search. length search.seen ≡ count) }
+    ensures passed { IfOk result (λ search. length search.passed ≡ count) }
+{
+    let seen = Stamped::new(alloc, count)?;
+    let passed = Stamped::new(alloc, count)?;
+    Ok(Search {
+        seen,
+        queue: Vec::new(alloc),
+        backs: Vec::new(alloc),
+        stack: Vec::new(alloc),
+        passed,
+        kept: Vec::new(alloc),
+    })
+}
+
+/// Working memory for the nodes of a graph.
+///
+/// # Errors
+/// Only if memory runs out.
+pub fn new_scratch(alloc: Global, graph: &Graph) -> Result<Scratch, AllocError>
+    ensures { IfOk result (λ scratch. IsScratch (node_count graph.now) scratch.walk.readers scratch.links.owners scratch.search.seen scratch.search.passed) }
+{
+    let count = graph.len();
+    let steps = steps_down(alloc, graph)?;
+    let walk = new_walk(alloc, count)?;
+    let links = new_links(alloc, count)?;
+    let search = new_search(alloc, count)?;
+    Ok(Scratch {
+        walk,
+        links,
+        search,
+        steps,
+    })
+}

@@ -1,0 +1,143 @@
+//! The search for one more path.
+ghost use Rattle.std.specs.Prelude.{◌≡◌, ℕ, ◌<◌, ◌≤◌, ◌+◌, ◌^◌, List, [], ◌∷◌, true, false, length, IfOk, OnOk, slice_index};
+ghost use Rattle.aig_core.specs.Aig.{node_count};
+ghost use Rattle.list_laws.specs.Members.{In};
+ghost use Rattle.flow_label.specs.Net.{net_of, IsEnd};
+ghost use Rattle.flow_label.specs.Links.{AreLinks, owner_in};
+ghost use Rattle.flow_label.specs.Search.{IsSearching, HasMet, IsFound, IsBlocked};
+ghost use Rattle.flow_label.specs.Outcome.{IsEnded};
+
+use crate::links::owner;
+use crate::scratch::{Links, Search};
+use crate::site::Site;
+use std::alloc::AllocError;
+
+/// How a search ends.
+#[derive(Clone, Copy, PartialEq, Eq)]
+pub enum Outcome {
+    /// The last node that it met is on no path.
+    Found,
+    /// Each node that it met is on a path.
+    Blocked,
+}
+
+// Adds a node to the search, unless it is free or was met. Returns whether it is on no path, which ends the search.
+fn meet(
+    site: &Site,
+    links: &Links,
+    search: &mut Search,
+    m: u32,
+    back: u32,
+) -> Result<bool, AllocError>
+    requires node { m < node_count site.now.graph }
+    requires room { m < length search.old.seen }
+    requires small { length search.old.queue.items < 2 ^ 30 }
+    ensures met { IfOk result (λ ends. HasMet (net_of site.now) (owner_in site.now links.now.owners) m back search.old.seen search.old.queue.items search.old.backs.items search.old.stack.items search.new.seen search.new.queue.items search.new.backs.items search.new.stack.items ends) }
+    ensures passed { search.new.passed ≡ search.old.passed }
+{
+    if !site.is_live(m) || search.seen.get(m) != 0 {
+        return Ok(false);
+    }
+    let place = search.queue.len() as u32;
+    search.seen.set(m, 1);
+    search.queue.push(m)?;
+    search.backs.push(back)?;
+    if owner(site, links, m) == 0 {
+        return Ok(true);
+    }
+    search.stack.push(place)?;
+    Ok(false)
+}
+
+// Meets everything that the owner of the node at this place may choose. Returns whether the search ends.
+fn hand_on(site: &Site, links: &Links, search: &mut Search, place: u32) -> Result<bool, AllocError>
+    requires linked { AreLinks site.now links.now.owners links.now.starts.items }
+    requires searching { IsSearching (net_of site.now) (owner_in site.now links.now.owners) search.old.seen search.old.queue.items search.old.backs.items search.old.passed (place ∷ search.old.stack.items) }
+    ensures on { IfOk result (λ ends. ends ≡ false → IsSearching (net_of site.now) (owner_in site.now links.now.owners) search.new.seen search.new.queue.items search.new.backs.items search.new.passed search.new.stack.items) }
+    ensures ended { IfOk result (λ ends. ends ≡ true → IsFound site.now links.now.owners search.new.queue.items search.new.backs.items) }
+    ensures kept { OnOk result ((u : ℕ) → In search.old.queue.items u → In search.new.queue.items u) }
+    ensures lengths { IfOk result (λ ends. ends ≡ false → length search.new.stack.items + length search.old.queue.items ≡ length search.old.stack.items + length search.new.queue.items) }
+    ensures room { OnOk result (length search.new.passed ≡ length search.old.passed) }
+    ensures size { OnOk result (length search.new.seen ≡ length search.old.seen) }
+{
+    let node = site.node();
+    let a = owner(site, links, search.queue[place as usize]);
+    if a == node {
+        return Ok(false);
+    }
+    let below = site.fan_ins(a);
+    search.passed.set(a, 1);
+    if meet(site, links, search, a, place + 1)? {
+        return Ok(true);
+    }
+    if meet(site, links, search, below.far, place + 1)? {
+        return Ok(true);
+    }
+    let ends = meet(site, links, search, below.near, place + 1)?;
+    Ok(ends)
+}
+
+// A search that has met nothing.
+fn begin(site: &Site, links: &Links, search: &mut Search)
+    requires seen { length search.old.seen ≡ node_count site.now.graph }
+    requires passed { length search.old.passed ≡ node_count site.now.graph }
+    ensures searching { IsSearching (net_of site.now) (owner_in site.now links.now.owners) search.new.seen search.new.queue.items search.new.backs.items search.new.passed [] }
+    ensures none { search.new.stack.items ≡ [] }
+{
+    let _node = site.node();
+    search.seen.clear();
+    search.queue.clear();
+    search.backs.clear();
+    search.stack.clear();
+    search.passed.clear();
+}
+
+// Goes on from an end, until nothing waits. Returns whether the search ends.
+fn search_from(site: &Site, links: &Links, search: &mut Search, m: u32) -> Result<bool, AllocError>
+    requires linked { AreLinks site.now links.now.owners links.now.starts.items }
+    requires end { IsEnd (net_of site.now) m }
+    requires searching { IsSearching (net_of site.now) (owner_in site.now links.now.owners) search.old.seen search.old.queue.items search.old.backs.items search.old.passed [] }
+    requires none { search.old.stack.items ≡ [] }
+    ensures on { IfOk result (λ ends. ends ≡ false → IsSearching (net_of site.now) (owner_in site.now links.now.owners) search.new.seen search.new.queue.items search.new.backs.items search.new.passed []) }
+    ensures none { IfOk result (λ ends. ends ≡ false → search.new.stack.items ≡ []) }
+    ensures there { IfOk result (λ ends. ends ≡ false → In search.new.queue.items m) }
+    ensures kept { OnOk result ((u : ℕ) → In search.old.queue.items u → In search.new.queue.items u) }
+    ensures ended { IfOk result (λ ends. ends ≡ true → IsFound site.now links.now.owners search.new.queue.items search.new.backs.items) }
+    ensures room { OnOk result (length search.new.passed ≡ length search.old.passed) }
+    ensures size { OnOk result (length search.new.seen ≡ length search.old.seen) }
+{
+    let _node = site.node();
+    if meet(site, links, search, m, 0)? {
+        return Ok(true);
+    }
+    while let Some(place) = search.stack.pop() {
+        if hand_on(site, links, search, place)? {
+            return Ok(true);
+        }
+    }
+    Ok(false)
+}
+
+/// Searches for one more path. The search goes down from the node, and back up if a path is in the way, until it meets a node
+/// that is on no path, which is a regular source. It goes on from what it met last, and of the fan-ins of a node from the
+/// one that is nearer to a source.
+///
+/// # Errors
+/// Only if memory runs out.
+pub fn find(site: &Site, links: &Links, search: &mut Search) -> Result<Outcome, AllocError>
+    requires linked { AreLinks site.now links.now.owners links.now.starts.items }
+    requires seen { length search.old.seen ≡ node_count site.now.graph }
+    requires passed { length search.old.passed ≡ node_count site.now.graph }
+    ensures ended { IfOk result (λ outcome. IsEnded site.now links.now.owners search.new.queue.items search.new.backs.items search.new.passed outcome) }
+    ensures room { OnOk result (length search.new.passed ≡ node_count site.now.graph) }
+    ensures size { OnOk result (length search.new.seen ≡ node_count site.now.graph) }
+{
+    begin(site, links, search);
+    let ends = site.ends();
+    for m in ends {
+        if search_from(site, links, search, *m)? {
+            return Ok(Outcome::Found);
+        }
+    }
+    Ok(Outcome::Blocked)
+}
