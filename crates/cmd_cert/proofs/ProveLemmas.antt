@@ -5,7 +5,7 @@ use Rattle.tl_io.specs.Sink.{SinkSeen}
 use Rattle.cut_sets.specs.Covers.{IsLeastDepth}
 use Rattle.cert_check.proofs.BareLemmas.{same_valid, same_text}
 use Rattle.cert_check.proofs.RoundTrip.{reads_back}
-use Rattle.depth_label.specs.Label.{label_of}
+use Rattle.cut_sets.specs.Labels.{label_at}
 use Rattle.flow_cert.proofs.NeededLemmas.{same_label_claims, same_needed}
 use Rattle.cmd_stations.specs.FileWrites.{WritesAll}
 use Rattle.cmd_stations.specs.declared.labelling.LabelledSource.{LabelledSource}
@@ -14,7 +14,7 @@ use Rattle.cmd_cert.specs.declared.prove.job.Proof.{Proof}
 prove_begun : (files : Files) (words : CertWords) (l : LabelledSource) → ComesToLabels files words.source l → IsBegun (prove_walk words) files
 prove_begun files words l past = record { accepted = record { source = l.built.source; graph = l.built.graph; roots = l.built.roots; has = past.has }; settled = past.settled }
 
-module _ (words : CertWords) (p : Proof) (is : IsProof words.source.k p) where
+module _ (words : CertWords) (p : Proof) (is : IsProof words.source.rule words.source.k p) where
   abbrev texts : List FileText
   texts = record { name = words.cert; bytes = cert_text p.cert } ∷ []
 
@@ -34,13 +34,13 @@ module _ (words : CertWords) (p : Proof) (is : IsProof words.source.k p) where
           source = built.source;
           graph = built.graph;
           roots = built.roots;
-          has = record { graph_is = past.has.graph_is; rows = p.labelled.table; labels = p.labelled.labels; labelled = is.labelled };
+          has = record { graph_is = past.has.graph_is; labels = p.labelled.labels; labelled = is.labelled };
           sound = (past.settled.netlist netlist.text netlist.there).sound built.source.netlist netlist.is;
           cert = back.read;
           valid = same_valid built.graph (roots_of built.roots) words.source.k p.cert back.read same is.valid;
           least = subst (λ d. IsLeastDepth built.graph words.source.k (roots_of built.roots) d) depth is.least;
-          claims = same_label_claims p.labelled.labels p.cert back.read same is.claims;
-          needed = same_needed built.graph (roots_of built.roots) (label_of p.labelled.labels) p.cert back.read same is.needed;
+          claims = same_label_claims (label_at p.labelled.labels) p.cert back.read same is.claims;
+          needed = same_needed built.graph (roots_of built.roots) (label_at p.labelled.labels) p.cert back.read same is.needed;
           is_text = subst (λ bytes. IsCertText bytes back.read) text back.is;
           ends = subst (λ line. P (record { name = words.cert; bytes = cert_text back.read } ∷ []) line) (is.line ∙ ap proved_line depth)
               (subst (λ bytes. P (record { name = words.cert; bytes = bytes } ∷ []) (string_bytes p.line)) text ends);
@@ -55,7 +55,7 @@ module _ (words : CertWords) (p : Proof) (is : IsProof words.source.k p) where
 labelled_or : (files : Files) (words : CertWords) → IsSourceSettled ToLabels files words.source → (job : HasProveJob files words.source) (f : File) (r : RefusalValue) → IsSourceRefused ToLabels files words.source f r → ⊥
 labelled_or files words settled job f r refused =
     let has = job.has in
-    (settled.made job.source has.graph_is.has).not_both job.graph job.roots has.rows has.labels r has.graph_is.built has.labelled (refused_unmade files words.source settled job.source f r has.graph_is.has refused)
+    (settled.made job.source has.graph_is.has).not_both job.graph job.roots has.labels r has.graph_is.built has.labelled (refused_unmade files words.source settled job.source f r has.graph_is.has refused)
 
 pub prove_laws : (words : CertWords) → HasLaws (prove_walk words)
 prove_laws words = record {

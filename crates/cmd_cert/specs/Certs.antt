@@ -11,7 +11,7 @@ use Rattle.cert_check.specs.Faults.{IsFault, HasOneVerdict}
 use Rattle.cert_check.specs.Refusals.{refusal_of}
 use Rattle.cert_check.specs.declared.cert_err.CertErr.{CertErr}
 use Rattle.cmd_stations.specs.Texts.{HasText}
-use Rattle.cover_pick.specs.declared.rule.Rule.TheVariants.{FewestLeaves}
+use Rattle.cover_pick.specs.declared.rule.Rule.{Rule}
 use Rattle.cmd_base.specs.declared.outcome.File.{File}
 use Rattle.cmd_base.specs.declared.outcome.File.TheVariants.{Cert}
 use Rattle.cmd_cert.specs.declared.words.CertWords.{CertWords as CertWordsRead}
@@ -55,10 +55,10 @@ abbrev pub cert_words : Option SourceWords → List ℕ → Option CertWords
 cert_words None cert = None
 cert_words (Some source) cert = Some (record { source = source; cert = cert })
 
--- the words NAME K NETLIST PARAMS CERT; no cover is chosen, so the fewest leaves stand for its rule
-abbrev pub cert_words_of : List ℕ → List (List ℕ) → Option CertWords
-cert_words_of name (command ∷ k ∷ netlist ∷ params ∷ cert ∷ []) = if bytes_eq command name then cert_words (source_words FewestLeaves (k_of k) netlist params) cert else None
-cert_words_of name words = None
+-- the words NAME K NETLIST PARAMS CERT, and the rule that says how nodes are labelled
+abbrev pub cert_words_of : Rule → List ℕ → List (List ℕ) → Option CertWords
+cert_words_of rule name (command ∷ k ∷ netlist ∷ params ∷ cert ∷ []) = if bytes_eq command name then cert_words (source_words rule (k_of k) netlist params) cert else None
+cert_words_of rule name words = None
 
 -- words as they are read
 abbrev pub cert_seen : CertWordsRead → CertWords

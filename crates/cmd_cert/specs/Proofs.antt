@@ -2,11 +2,12 @@
 use Rattle.std.specs.Prelude.{◌≡◌, ℕ, string_bytes, Option, Some, None}
 use Rattle.aig_core.specs.Roots.{roots_of}
 use Rattle.cut_sets.specs.Covers.{IsLeastDepth}
-use Rattle.depth_label.specs.Label.{label_of}
+use Rattle.cut_sets.specs.Labels.{label_at}
+use Rattle.cover_pick.specs.declared.rule.Rule.{Rule}
 use Rattle.cert_check.specs.Valid.{IsValid}
 use Rattle.cert_check.specs.WrittenText.{IsWritable}
 use Rattle.flow_cert.specs.Needed.{AreLabelClaims, AreNeeded}
-use Rattle.cmd_stations.specs.Mapped.{IsLabelled}
+use Rattle.cmd_stations.specs.Mapped.{AreLabelsBy}
 use Rattle.cmd_cert.specs.declared.prove.job.Proof.{Proof}
 use Rattle.cmd_cert.specs.Certs.{proved_line}
 use Rattle.tl_fault.specs.RefusalValue.{RefusalValue}
@@ -16,12 +17,12 @@ use Rattle.cmd_base.specs.declared.outcome.Outcome.TheVariants as outcome
 
 -- The labels are those of its graph. The certificate is valid and of the least depth, claims the labels of the needed nodes, can be written,
 -- and has its line.
-pub record IsProof (k : ℕ) (p : Proof) : Type 0 where
-  pub labelled : IsLabelled p.labelled.built.graph k p.labelled.table p.labelled.labels
+pub record IsProof (rule : Rule) (k : ℕ) (p : Proof) : Type 0 where
+  pub labelled : AreLabelsBy rule p.labelled.built.graph k p.labelled.labels
   pub valid : IsValid p.labelled.built.graph (roots_of p.labelled.built.roots) k p.cert
   pub least : IsLeastDepth p.labelled.built.graph k (roots_of p.labelled.built.roots) p.cert.depth
-  pub claims : AreLabelClaims p.labelled.labels p.cert
-  pub needed : AreNeeded p.labelled.built.graph (roots_of p.labelled.built.roots) (label_of p.labelled.labels) p.cert
+  pub claims : AreLabelClaims (label_at p.labelled.labels) p.cert
+  pub needed : AreNeeded p.labelled.built.graph (roots_of p.labelled.built.roots) (label_at p.labelled.labels) p.cert
   pub writable : IsWritable p.cert
   pub line : string_bytes p.line ≡ proved_line p.cert.depth
 

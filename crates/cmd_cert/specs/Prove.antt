@@ -9,7 +9,7 @@ use Rattle.cert_check.specs.CertificateValue.{CertificateValue}
 use Rattle.cert_check.specs.CertText.{IsCertText}
 use Rattle.cert_check.specs.Valid.{IsValid}
 use Rattle.cert_check.specs.WrittenText.{cert_text}
-use Rattle.depth_label.specs.Label.{label_of}
+use Rattle.cut_sets.specs.Labels.{label_at}
 use Rattle.flow_cert.specs.Needed.{AreLabelClaims, AreNeeded}
 use Rattle.cmd_base.specs.Walk.{Walk}
 use Rattle.cmd_base.specs.Writing.{FileText}
@@ -31,8 +31,8 @@ pub record HasProof (files : Files) (words : CertWords) (Ends : List FileText â†
   pub cert : CertificateValue
   pub valid : IsValid graph (roots_of roots) words.source.k cert
   pub least : IsLeastDepth graph words.source.k (roots_of roots) cert.depth
-  pub claims : AreLabelClaims has.labels cert
-  pub needed : AreNeeded graph (roots_of roots) (label_of has.labels) cert
+  pub claims : AreLabelClaims (label_at has.labels) cert
+  pub needed : AreNeeded graph (roots_of roots) (label_at has.labels) cert
   pub is_text : IsCertText (cert_text cert) cert
   pub ends : Ends (record { name = words.cert; bytes = cert_text cert } âˆ· []) (proved_line cert.depth)
 

@@ -2,6 +2,7 @@
 ghost use Rattle.std.specs.Prelude.{◌≡◌, map, string_bytes, codes, IfSome};
 ghost use Rattle.std.specs.Option.{option_map};
 ghost use Rattle.cmd_stations.specs.Source.{IsTableSize};
+ghost use Rattle.cover_pick.specs.declared.rule.Rule.TheVariants.{FewestLeaves};
 ghost use Rattle.cmd_cert.specs.Certs.{cert_words_of, cert_seen, cert_word};
 
 use cmd_base::File;
@@ -15,19 +16,15 @@ pub struct CertWords<'a> {
     pub cert: &'a str,
 }
 
-// Reads the arguments of the command with this name. No cover is chosen, so the rule is a placeholder, the fewest leaves.
-fn read_words<'a>(name: &str, words: &'a [String]) -> Option<CertWords<'a>>
-    ensures value { option_map (λ w. cert_seen w) result ≡ cert_words_of name.now (map string_bytes words.now) }
+// Reads the arguments of the command with this name. The labels are by all cuts for the rule of the fewest leaves, and otherwise by
+// flow.
+fn read_words<'a>(rule: Rule, name: &str, words: &'a [String]) -> Option<CertWords<'a>>
+    ensures value { option_map (λ w. cert_seen w) result ≡ cert_words_of rule name.now (map string_bytes words.now) }
     ensures range { IfSome result (λ w. IsTableSize w.source.k) }
 {
     match words {
         [command, k, netlist, params, cert] if command.as_str() == name => Some(CertWords {
-            source: read_source_words(
-                Rule::FewestLeaves,
-                k.as_str(),
-                netlist.as_str(),
-                params.as_str(),
-            )?,
+            source: read_source_words(rule, k.as_str(), netlist.as_str(), params.as_str())?,
             cert: cert.as_str(),
         }),
         _ => None,
@@ -35,19 +32,20 @@ fn read_words<'a>(name: &str, words: &'a [String]) -> Option<CertWords<'a>>
 }
 
 /// Reads the arguments `prove K NETLIST PARAMS CERT`. `None` if and only if they have another form.
-pub fn read_prove(words: &[String]) -> Option<CertWords<'_>>
-    ensures value { option_map (λ w. cert_seen w) result ≡ cert_words_of (codes "prove") (map string_bytes words.now) }
+pub fn read_prove(rule: Rule, words: &[String]) -> Option<CertWords<'_>>
+    ensures value { option_map (λ w. cert_seen w) result ≡ cert_words_of rule (codes "prove") (map string_bytes words.now) }
     ensures range { IfSome result (λ w. IsTableSize w.source.k) }
 {
-    read_words("prove", words)
+    read_words(rule, "prove", words)
 }
 
-/// Reads the arguments `audit K NETLIST PARAMS CERT`. `None` if and only if they have another form.
+/// Reads the arguments `audit K NETLIST PARAMS CERT`. `None` if and only if they have another form. Nothing is labelled, so the rule
+/// is a placeholder, the fewest leaves.
 pub fn read_audit(words: &[String]) -> Option<CertWords<'_>>
-    ensures value { option_map (λ w. cert_seen w) result ≡ cert_words_of (codes "audit") (map string_bytes words.now) }
+    ensures value { option_map (λ w. cert_seen w) result ≡ cert_words_of FewestLeaves (codes "audit") (map string_bytes words.now) }
     ensures range { IfSome result (λ w. IsTableSize w.source.k) }
 {
-    read_words("audit", words)
+    read_words(Rule::FewestLeaves, "audit", words)
 }
 
 /// The argument that names a file.

@@ -35,10 +35,14 @@ pub use Rattle.cover_pick.specs.Mapping.{IsMapping, IsLeast, IsTableOf, source, 
 pub use Rattle.cover_pick.specs.Template.{TemplateValue, IsTemplate, IsTooMuch}
 pub use Rattle.cover_pick.specs.declared.lut.Lut.{Lut}
 pub use Rattle.cover_pick.specs.declared.lut.PickErr.{PickErr}
+pub use Rattle.cover_pick.specs.Rounds.{Supply, Rows, Sets}
 pub use Rattle.cover_pick.specs.declared.rule.Rule.{Rule}
+pub use Rattle.cover_pick.specs.declared.rule.Rule.TheVariants.{FewestLeaves, LeastCost}
 pub use Rattle.cut_enum.specs.Limits.{IsLimit}
 pub use Rattle.cut_enum.specs.declared.table.CutErr.{CutErr}
+pub use Rattle.cut_sets.specs.Labels.{AreLeastHeights, label_at}
 pub use Rattle.depth_label.specs.Label.{LabelsValue, label_of, AreLabelled, HasOneLabelling}
+pub use Rattle.flow_label.specs.Lows.{AreLowsOf}
 pub use Rattle.list_laws.proofs.Members.{map_agree, In-left, In-right, place_in, length-filter_le, In-filter}
 pub use Rattle.list_laws.proofs.Places.{get_left, replicate_at}
 pub use Rattle.list_laws.specs.Members.{In}
@@ -75,7 +79,7 @@ pub use Rattle.tl_io.specs.Shelf.{Files, ShelfSeen, apart, written, emptied}
 pub use Rattle.tl_io.specs.Sink.{SinkSeen, IsPut}
 pub use Rattle.tl_text.specs.Once.{AreOnce}
 pub use Rattle.tl_text.specs.declared.logical_lines.TheConstants.{MOST_BYTES}
-pub use Rattle.cmd_stations.specs.Mapped.{Aim, ToTables, IsUnmade, IsBuilt, IsUnlabelled, unbuilt, many_cuts, ToGraph, ToLabels, IsLabelled, IsChosen, IsUnchosen, cuts, work, IsLeastMapping, IsMapped, IsUnmappedGraph, IsUnmapped, too_many, unchosen, HasFewLeaves}
+pub use Rattle.cmd_stations.specs.Mapped.{Aim, ToTables, IsUnmade, IsBuilt, IsUnlabelled, unbuilt, many_cuts, ToGraph, ToLabels, IsLabelled, HasSupply, AreLabelsBy, HasManyCutsBy, HasOneLimit, HasManyCuts, IsChosen, IsUnchosen, cuts, work, IsLeastMapping, IsMapped, IsUnmappedGraph, IsUnmapped, too_many, unchosen, HasFewLeaves}
 pub use Rattle.cmd_stations.specs.FileWrites.{WritesAll, WritesFile}
 pub use Rattle.cmd_stations.specs.Host.{IsHostStart, SamePacksReplay}
 pub use Rattle.cmd_stations.specs.Texts.{LibraryRefusal, is_aag, DenotesLibrary, HasOneLibrary, HasText, IsNetlistText, NetlistRefusal, IsParamsRefusal, HasBytes, IsOverlong, fault, unsound, IsScriptRefusal, IsLongText}

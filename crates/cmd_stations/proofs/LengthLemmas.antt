@@ -70,20 +70,20 @@ pub script_not_long : (names : NamesValue) (text : List ℕ) (r : RefusalValue) 
 script_not_long names text r refused is = other_code refused.tells is (events_code refused.e)
 
 unchosen_not_long : (rule : Rule) (g : Aig) (k : ℕ) (roots : RootsValue) (r : RefusalValue) → IsUnchosen rule g k roots r → r ≡ too_long → ⊥
-unchosen_not_long rule g k roots r (cuts e limit tells) is = other_code tells is (cuts_code e)
+unchosen_not_long rule g k roots r (cuts all e limit tells) is = other_code tells is (cuts_code e)
 unchosen_not_long rule g k roots r (work over tells) is = other_code tells is refl
 
 unmapped_not_long : (rule : Rule) (source : Source) (k : ℕ) (r : RefusalValue) → IsUnmapped rule source k r → r ≡ too_long → ⊥
 unmapped_not_long rule source k r (too_many over tells) is = other_code tells is refl
 unmapped_not_long rule source k r (unchosen graph) is = unchosen_not_long rule graph.graph k graph.roots r graph.unchosen is
 
-unlabelled_not_long : (source : Source) (k : ℕ) (r : RefusalValue) → IsUnlabelled source k r → r ≡ too_long → ⊥
-unlabelled_not_long source k r (unbuilt u) is = other_code u.tells is refl
-unlabelled_not_long source k r (many_cuts u) is = other_code u.tells is (cuts_code u.e)
+unlabelled_not_long : (rule : Rule) (source : Source) (k : ℕ) (r : RefusalValue) → IsUnlabelled rule source k r → r ≡ too_long → ⊥
+unlabelled_not_long rule source k r (unbuilt u) is = other_code u.tells is refl
+unlabelled_not_long rule source k r (many_cuts all u) is = other_code u.tells is (cuts_code u.e)
 
 pub unmade_not_long : (aim : Aim) (rule : Rule) (source : Source) (k : ℕ) (r : RefusalValue) → IsUnmade aim rule source k r → r ≡ too_long → ⊥
 unmade_not_long ToGraph rule source k r u is = other_code u.tells is refl
-unmade_not_long ToLabels rule source k r u is = unlabelled_not_long source k r u is
+unmade_not_long ToLabels rule source k r u is = unlabelled_not_long rule source k r u is
 unmade_not_long ToTables rule source k r u is = unmapped_not_long rule source k r u is
 
 pub pack_not_long : (bytes : List ℕ) (r : RefusalValue) → IsPackRefusal bytes r → r ≡ too_long → ⊥

@@ -13,7 +13,11 @@ use Rattle.cut_enum.specs.Limits.{IsLimit}
 use Rattle.cut_enum.specs.Refusals.{refusal_of as cut_refusal}
 use Rattle.cut_enum.specs.declared.table.CutErr.{CutErr}
 use Rattle.depth_label.specs.Label.{LabelsValue, AreLabelled, label_of}
+use Rattle.cut_sets.specs.Labels.{label_at, AreLeastHeights}
+use Rattle.flow_label.specs.Lows.{AreLowsOf}
+use Rattle.cover_pick.specs.Rounds.{Supply, Rows, Sets}
 use Rattle.cover_pick.specs.declared.rule.Rule.{Rule}
+use Rattle.cover_pick.specs.declared.rule.Rule.TheVariants.{FewestLeaves, LeastCost}
 use Rattle.cover_pick.specs.declared.lut.Lut.{Lut}
 use Rattle.cover_pick.specs.Template.{TemplateValue, IsTemplate, IsTooMuch}
 use Rattle.cover_pick.specs.Mapping.{IsMapping, IsLeast}
@@ -29,12 +33,17 @@ pub record IsLabelled (g : Aig) (k : ℕ) (rows : List (List (List ℕ))) (label
   pub rows_are : AreRows g k (node_count g) rows
   pub labels_are : AreLabelled g rows labels
 
+-- What a rule chooses from: the fewest leaves from the minimal cuts of all nodes, within the limits, with their labels; the least cost from bounded sets over the least heights of the nodes' cuts and their low cuts.
+pub data HasSupply (rule : Rule) (g : Aig) (k : ℕ) (label : ℕ → ℕ) (supply : Supply) : Type 0 where
+  by_cuts : rule ≡ FewestLeaves → (rows : List (List (List ℕ))) (labels : LabelsValue) → IsLabelled g k rows labels → label ≡ label_of labels → supply ≡ Rows rows → HasSupply rule g k label supply
+  by_flow : rule ≡ LeastCost → (lows : ℕ → List ℕ) → AreLeastHeights g k label → AreLowsOf g k label lows → supply ≡ Sets k lows → HasSupply rule g k label supply
+
 -- the template of a graph whose cuts are chosen by a rule, within the limit on its work
 pub record IsChosen (rule : Rule) (g : Aig) (k : ℕ) (roots : RootsValue) (t : TemplateValue) : Type 0 where
-  pub rows : List (List (List ℕ))
-  pub labels : LabelsValue
-  pub labelled : IsLabelled g k rows labels
-  pub chosen : IsTemplate rule g rows (label_of labels) roots t
+  pub label : ℕ → ℕ
+  pub supply : Supply
+  pub has : HasSupply rule g k label supply
+  pub chosen : IsTemplate supply g label roots t
   pub light : IsLight g t.luts
 
 -- at most k leaves, each a regular source or an AND node, and so none a parameter
@@ -54,14 +63,14 @@ template_header t = header_line (length t.luts) t.bits t.depth
 
 -- the work of the chosen tables is too much
 pub record IsOverworked (rule : Rule) (g : Aig) (k : ℕ) (roots : RootsValue) : Type 0 where
-  pub rows : List (List (List ℕ))
-  pub labels : LabelsValue
-  pub labelled : IsLabelled g k rows labels
-  pub too_much : IsTooMuch rule g rows (label_of labels) (roots_of roots)
+  pub label : ℕ → ℕ
+  pub supply : Supply
+  pub has : HasSupply rule g k label supply
+  pub too_much : IsTooMuch supply g label (roots_of roots)
 
--- what a graph is refused for when it is mapped: too many cuts, else too much work
+-- what a graph is refused for when it is mapped: too many cuts, where all of them are needed, else too much work
 pub data IsUnchosen (rule : Rule) (g : Aig) (k : ℕ) (roots : RootsValue) (refusal : RefusalValue) : Type 0 where
-  cuts : (e : CutErr) → IsLimit g k e → cut_refusal e ≡ Some refusal → IsUnchosen rule g k roots refusal
+  cuts : rule ≡ FewestLeaves → (e : CutErr) → IsLimit g k e → cut_refusal e ≡ Some refusal → IsUnchosen rule g k roots refusal
   work : IsOverworked rule g k roots → pick_refusal Work ≡ Some refusal → IsUnchosen rule g k roots refusal
 
 -- the template of a source circuit by a rule: that chosen for its graph, which has no more AND nodes than it may
@@ -110,13 +119,30 @@ pub record HasManyCuts (source : Source) (k : ℕ) (refusal : RefusalValue) : Ty
   pub limit : IsLimit graph k e
   pub tells : cut_refusal e ≡ Some refusal
 
--- its graph's nodes aren't labelled: it has too many nodes, else one has too many cuts
-pub data IsUnlabelled (source : Source) (k : ℕ) (refusal : RefusalValue) : Type 0 where
-  unbuilt : IsUnbuilt source refusal → IsUnlabelled source k refusal
-  many_cuts : HasManyCuts source k refusal → IsUnlabelled source k refusal
+-- its graph's nodes aren't labelled: it has too many nodes, else one has too many cuts, where labels are by all cuts
+pub data IsUnlabelled (rule : Rule) (source : Source) (k : ℕ) (refusal : RefusalValue) : Type 0 where
+  unbuilt : IsUnbuilt source refusal → IsUnlabelled rule source k refusal
+  many_cuts : rule ≡ FewestLeaves → HasManyCuts source k refusal → IsUnlabelled rule source k refusal
+
+-- the labels of a graph's nodes that a rule goes by: those of its minimal cuts, within the limits, or the least heights of its cuts
+pub data AreLabelsBy (rule : Rule) (g : Aig) (k : ℕ) (labels : List ℕ) : Type 0 where
+  by_cuts : rule ≡ FewestLeaves → (rows : List (List (List ℕ))) (v : LabelsValue) → IsLabelled g k rows v → labels ≡ v.labels → AreLabelsBy rule g k labels
+  by_flow : rule ≡ LeastCost → AreLeastHeights g k (label_at labels) → AreLabelsBy rule g k labels
+
+-- a graph has too many cuts for a rule that goes by all of them
+pub record HasManyCutsBy (rule : Rule) (g : Aig) (k : ℕ) (refusal : RefusalValue) : Type 0 where
+  pub all : rule ≡ FewestLeaves
+  pub e : CutErr
+  pub limit : IsLimit g k e
+  pub tells : cut_refusal e ≡ Some refusal
+
+-- a graph has one limit that it exceeds at most, and then no labels
+pub record HasOneLimit (rule : Rule) (g : Aig) (k : ℕ) : Type 0 where
+  pub once : (e f : CutErr) → rule ≡ FewestLeaves → IsLimit g k e → IsLimit g k f → e ≡ f
+  pub excluded : (e : CutErr) (labels : List ℕ) → rule ≡ FewestLeaves → IsLimit g k e → AreLabelsBy rule g k labels → ⊥
 
 -- what a source circuit is refused for on the way there
 abbrev pub IsUnmade : Aim → Rule → Source → ℕ → RefusalValue → Type 0
 IsUnmade ToGraph rule source k refusal = IsUnbuilt source refusal
-IsUnmade ToLabels rule source k refusal = IsUnlabelled source k refusal
+IsUnmade ToLabels rule source k refusal = IsUnlabelled rule source k refusal
 IsUnmade ToTables rule source k refusal = IsUnmapped rule source k refusal

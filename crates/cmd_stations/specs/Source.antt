@@ -11,7 +11,6 @@ use Rattle.param_list.specs.declared.params.Param.{Param}
 use Rattle.param_list.specs.ParamsText.{IsParamsText, HasOneReading}
 use Rattle.aig_core.specs.Aig.{Aig}
 use Rattle.aig_core.specs.Roots.{RootsValue}
-use Rattle.depth_label.specs.Label.{LabelsValue}
 use Rattle.cover_pick.specs.Template.{TemplateValue}
 use Rattle.cmd_base.specs.Refusals.{too_long}
 use Rattle.cmd_base.specs.declared.outcome.File.{File}
@@ -19,7 +18,7 @@ use Rattle.cmd_base.specs.declared.outcome.File.TheVariants.{Netlist, Params, Sc
 use Rattle.cmd_stations.specs.declared.netlist_text.Netlist.{Netlist as NetlistValue}
 use Rattle.cmd_stations.specs.declared.source.Source.{Source}
 use Rattle.cmd_stations.specs.Texts.{HasText, IsLongText, IsNetlistText, NetlistRefusal, IsParamsRefusal, is_aag}
-use Rattle.cmd_stations.specs.Mapped.{IsLabelled, IsLeastMapping, IsMapped, Aim, IsBuilt, IsUnmade, IsChosen, IsUnchosen, IsUnmapped, ToGraph, ToLabels, ToTables, IsUnbuilt, IsUnlabelled}
+use Rattle.cmd_stations.specs.Mapped.{AreLabelsBy, IsLeastMapping, IsMapped, Aim, IsBuilt, IsUnmade, IsChosen, IsUnchosen, IsUnmapped, ToGraph, ToLabels, ToTables, IsUnbuilt, IsUnlabelled}
 use Rattle.aig_build.specs.NetlistGraph.{HasOneGraph}
 use Rattle.aiger_io.specs.Reading.{HasRunsOf}
 use Rattle.cmd_base.specs.Walk.{Reading, shelf_reading}
@@ -75,9 +74,8 @@ pub record HasGraph (files : Files) (words : SourceWords) (source : Source) (gra
 -- past the labels of the graph's nodes
 pub record HasLabels (files : Files) (words : SourceWords) (source : Source) (graph : Aig) (roots : RootsValue) : Type 0 where
   pub graph_is : HasGraph files words source graph roots
-  pub rows : List (List (List ℕ))
-  pub labels : LabelsValue
-  pub labelled : IsLabelled graph words.k rows labels
+  pub labels : List ℕ
+  pub labelled : AreLabelsBy words.rule graph words.k labels
 
 -- past the netlist, the list and the mapping
 pub record HasMapped (files : Files) (words : SourceWords) (source : Source) (template : TemplateValue) : Type 0 where
@@ -139,15 +137,15 @@ pub record IsBuildingSettled (source : Source) : Type 0 where
   pub not_both : (g : Aig) (roots : RootsValue) (r : RefusalValue) → IsBuilt source g roots → IsUnbuilt source r → ⊥
 
 -- the labels of its nodes
-pub record IsLabellingSettled (source : Source) (k : ℕ) : Type 0 where
+pub record IsLabellingSettled (rule : Rule) (source : Source) (k : ℕ) : Type 0 where
   pub building : IsBuildingSettled source
-  pub not_both : (g : Aig) (roots : RootsValue) (rows : List (List (List ℕ))) (labels : LabelsValue) (r : RefusalValue) → IsBuilt source g roots → IsLabelled g k rows labels → IsUnlabelled source k r → ⊥
-  pub one_refusal : (r s : RefusalValue) → IsUnlabelled source k r → IsUnlabelled source k s → r ≡ s
+  pub not_both : (g : Aig) (roots : RootsValue) (labels : List ℕ) (r : RefusalValue) → IsBuilt source g roots → AreLabelsBy rule g k labels → IsUnlabelled rule source k r → ⊥
+  pub one_refusal : (r s : RefusalValue) → IsUnlabelled rule source k r → IsUnlabelled rule source k s → r ≡ s
 
 -- what a command makes of a source circuit
 abbrev pub IsMakingSettled : Aim → Rule → Source → ℕ → Type 0
 IsMakingSettled ToGraph rule source k = IsBuildingSettled source
-IsMakingSettled ToLabels rule source k = IsLabellingSettled source k
+IsMakingSettled ToLabels rule source k = IsLabellingSettled rule source k
 IsMakingSettled ToTables rule source k = IsMappingSettled rule source k
 
 -- the netlist that files hold

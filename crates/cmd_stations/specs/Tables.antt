@@ -12,6 +12,7 @@ use Rattle.tl_io.specs.Shelf.{Files}
 use Rattle.aig_core.specs.Aig.{Aig, first_and, AreNormal}
 use Rattle.aig_core.specs.Roots.{RootsValue, AreRoots, roots_of}
 use Rattle.aig_build.specs.NetlistGraph.{IsGraphOf, HasOneGraph}
+use Rattle.cut_sets.specs.Labels.{label_at, AreLeastHeights}
 use Rattle.aig_build.specs.NetlistCycle.{HasSourceCycles}
 use Rattle.cover_pick.specs.declared.rule.Rule.{Rule}
 use Rattle.cover_pick.specs.Template.{TemplateValue}
@@ -27,7 +28,7 @@ use Rattle.ppc_file.specs.PackFile.{IsPackFile}
 use Rattle.cmd_stations.specs.Packs.{present_bytes}
 use Rattle.cmd_stations.specs.Source.{SourceWords, HasNetlist, HasSource, HasMapped, IsNetlistSettled, AreParamsSettled, IsSourceSettled, HasGraph, HasLabels}
 use Rattle.cmd_stations.specs.SourceCircuit.{shape_of}
-use Rattle.cmd_stations.specs.Mapped.{IsChosen, IsLeastMapping, IsMapped, ToTables, IsLabelled, ToGraph, ToLabels, IsBuilt}
+use Rattle.cmd_stations.specs.Mapped.{IsChosen, IsLeastMapping, IsMapped, ToTables, AreLabelsBy, ToGraph, ToLabels, IsBuilt}
 use Rattle.cmd_stations.specs.Tunable.{IsTunable}
 use Rattle.cmd_stations.specs.declared.graphs.BuiltSource.{BuiltSource}
 use Rattle.cmd_stations.specs.declared.labelling.LabelledSource.{LabelledSource}
@@ -110,9 +111,10 @@ pub record ComesToGraph (files : Files) (words : SourceWords) (b : BuiltSource) 
   pub has : HasGraph files words b.source b.graph b.roots
   pub settled : IsSourceSettled ToGraph files words
 
-pub record IsLabelledSource (k : ℕ) (l : LabelledSource) : Type 0 where
+pub record IsLabelledSource (rule : Rule) (k : ℕ) (l : LabelledSource) : Type 0 where
   pub built : IsBuiltSource l.built
-  pub labelled : IsLabelled l.built.graph k l.table l.labels
+  pub labelled : AreLabelsBy rule l.built.graph k l.labels
+  pub heights : AreLeastHeights l.built.graph k (label_at l.labels)
 
 -- and past its labels
 pub record ComesToLabels (files : Files) (words : SourceWords) (l : LabelledSource) : Type 0 where

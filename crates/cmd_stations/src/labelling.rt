@@ -5,7 +5,8 @@ ghost use Rattle.cut_sets.specs.declared.limits.TheConstants.{MOST_LEAVES};
 ghost use Rattle.cmd_base.specs.Walk.{Told, Explains, KeepsFiles};
 ghost use Rattle.cmd_stations.specs.Source.{source_seen, IsLabellingSettled, source_reading};
 ghost use Rattle.cmd_stations.specs.Stops.{Stops};
-ghost use Rattle.cmd_stations.specs.Mapped.{IsLabelled, ToLabels, IsBuilt, IsUnlabelled};
+ghost use Rattle.cut_sets.specs.Labels.{label_at, AreLeastHeights};
+ghost use Rattle.cmd_stations.specs.Mapped.{AreLabelsBy, HasManyCutsBy, HasOneLimit, ToLabels, IsBuilt, IsUnlabelled};
 ghost use Rattle.cmd_stations.specs.Tables.{IsReadSource, IsLabelledSource, ComesToLabels};
 ghost use Rattle.aig_core.specs.Aig.{first_and, AreNormal};
 ghost use Rattle.aig_core.specs.Roots.{AreRoots, roots_of};
@@ -18,30 +19,54 @@ use crate::stop::Stop;
 use crate::words::SourceWords;
 use aig_core::{Graph, Roots};
 use cmd_base::{File, Outcome};
-use cut_enum::{CutTable, enumerate};
-use depth_label::{Labels, labels};
+use cover_pick::Rule;
+use cut_enum::enumerate;
+use cut_sets::NodeLabels;
+use depth_label::labels;
+use flow_label::labels_by_flow;
 use std::alloc::Global;
 use tl_io::Shelf;
 
-/// A source circuit with its graph, and with the minimal cuts and the labels of the graph's nodes.
+/// A source circuit with its graph, and with the labels of the graph's nodes.
 #[derive(Drop)]
 pub struct LabelledSource {
     pub built: BuiltSource,
-    pub table: CutTable,
-    pub labels: Labels,
+    pub labels: NodeLabels,
 }
 
-// A graph with its roots, and the minimal cuts and the labels of its nodes.
+// A graph with its roots, and the labels of its nodes.
 #[derive(Drop)]
 struct LabelledGraph {
     graph: Graph,
     roots: Roots,
-    table: CutTable,
-    labels: Labels,
+    labels: NodeLabels,
+}
+
+// The labels of a graph's nodes: from the table of all minimal cuts for the rule of the fewest leaves, and otherwise by flow.
+fn label_graph(alloc: Global, rule: Rule, graph: &Graph, k: u8) -> Result<NodeLabels, Stop>
+    requires least { 2 ≤ k }
+    requires most { k ≤ MOST_LEAVES }
+    ensures labelled { IfOk result (λ labels. AreLabelsBy rule graph.now k labels) }
+    ensures heights { IfOk result (λ labels. AreLeastHeights graph.now k (label_at labels)) }
+    ensures err { IfErr result (Stops (λ r. HasManyCutsBy rule graph.now k r)) }
+    ensures settled { MatchResult result (λ _. HasOneLimit rule graph.now k) (Stops (λ _. HasOneLimit rule graph.now k)) }
+{
+    match rule {
+        Rule::FewestLeaves => {
+            let table = enumerate(alloc, graph, k)?;
+            let labels = labels(alloc, graph, &table)?;
+            drop(table);
+            Ok(labels.into_node_labels())
+        }
+        Rule::LeastCost => {
+            let labels = labels_by_flow(alloc, graph, k)?;
+            Ok(labels.into_labels())
+        }
+    }
 }
 
 // The graph of a source circuit, labelled.
-fn label_source(alloc: Global, source: &Source, k: u8) -> Result<LabelledGraph, Stop>
+fn label_source(alloc: Global, rule: Rule, source: &Source, k: u8) -> Result<LabelledGraph, Stop>
     requires least { 2 ≤ k }
     requires most { k ≤ MOST_LEAVES }
     requires read { IsReadSource source.now }
@@ -49,17 +74,16 @@ fn label_source(alloc: Global, source: &Source, k: u8) -> Result<LabelledGraph, 
     ensures cycles { IfOk result (λ l. HasSourceCycles source.now.netlist.library source.now.netlist.flat source.now.params.list l.graph l.roots) }
     ensures lits { IfOk result (λ l. AreRoots l.graph (roots_of l.roots)) }
     ensures normal { IfOk result (λ l. AreNormal (first_and l.graph) l.graph.pairs) }
-    ensures labelled { IfOk result (λ l. IsLabelled l.graph k l.table l.labels) }
-    ensures err { IfErr result (Stops (IsUnlabelled source.now k)) }
-    ensures settled { MatchResult result (λ _. IsLabellingSettled source.now k) (Stops (λ _. IsLabellingSettled source.now k)) }
+    ensures labelled { IfOk result (λ l. AreLabelsBy rule l.graph k l.labels) }
+    ensures heights { IfOk result (λ l. AreLeastHeights l.graph k (label_at l.labels)) }
+    ensures err { IfErr result (Stops (IsUnlabelled rule source.now k)) }
+    ensures settled { MatchResult result (λ _. IsLabellingSettled rule source.now k) (Stops (λ _. IsLabellingSettled rule source.now k)) }
 {
     let (graph, roots) = source_graph(alloc, source)?;
-    let table = enumerate(alloc, &graph, k)?;
-    let labels = labels(alloc, &graph, &table)?;
+    let labels = label_graph(alloc, rule, &graph, k)?;
     Ok(LabelledGraph {
         graph,
         roots,
-        table,
         labels,
     })
 }
@@ -75,7 +99,7 @@ pub fn read_labelled<S: Shelf>(
 ) -> Result<LabelledSource, Outcome>
     requires least { 2 ≤ words.now.k }
     requires most { words.now.k ≤ MOST_LEAVES }
-    ensures labelled { IfOk result (IsLabelledSource words.now.k) }
+    ensures labelled { IfOk result (IsLabelledSource words.now.rule words.now.k) }
     ensures comes { IfOk result (λ l. Told (S.seen shelf.old).files (λ files. ComesToLabels files (source_seen words.now) l)) }
     ensures given { OnOk result ((S.seen shelf.new).given ≤ MOST_BYTES) }
     ensures err { IfErr result (Explains (source_reading ToLabels (source_seen words.now)) (S.seen shelf.old) (S.seen shelf.new)) }
@@ -86,12 +110,11 @@ pub fn read_labelled<S: Shelf>(
         Ok(source) => source,
         Err(outcome) => return Err(outcome),
     };
-    match label_source(alloc, &source, words.k) {
+    match label_source(alloc, words.rule, &source, words.k) {
         Ok(
             LabelledGraph {
                 graph,
                 roots,
-                table,
                 labels,
             },
         ) => Ok(LabelledSource {
@@ -100,7 +123,6 @@ pub fn read_labelled<S: Shelf>(
                 graph,
                 roots,
             },
-            table,
             labels,
         }),
         Err(stop) => {

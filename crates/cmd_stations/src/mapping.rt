@@ -8,6 +8,7 @@ ghost use Rattle.aig_build.specs.NetlistGraph.{IsGraphOf, HasTooManyNodes, HasOn
 ghost use Rattle.aig_build.specs.NetlistCycle.{HasSourceCycles};
 ghost use Rattle.aig_build.specs.Refusals.{refusal_of};
 ghost use Rattle.cut_sets.specs.declared.limits.TheConstants.{MOST_LEAVES};
+ghost use Rattle.cover_pick.specs.declared.rule.Rule.TheVariants.{FewestLeaves, LeastCost};
 ghost use Rattle.cover_pick.specs.Template.{TemplateValue};
 ghost use Rattle.lut_sim.specs.Playable.{IsPlayable};
 ghost use Rattle.cmd_stations.specs.Stops.{Stops};
@@ -22,29 +23,65 @@ use crate::stop::Stop;
 use crate::tables::Tables;
 use aig_core::{Graph, Roots};
 use bit_fun::functions;
-use cover_pick::{Rule, Template, pick_by};
+use cover_pick::{Rule, Template, pick, pick_compact};
 use cut_enum::enumerate;
 use depth_label::labels;
+use flow_label::labels_by_flow;
 use lut_sim::Shape;
 use std::alloc::{AllocError, Global};
+
+// The template over the cuts of the fewest leaves, from the table of all minimal cuts.
+fn choose_fewest(alloc: Global, graph: &Graph, roots: &Roots, k: u8) -> Result<Template, Stop>
+    requires least { 2 ≤ k }
+    requires most { k ≤ MOST_LEAVES }
+    requires roots { AreRoots graph.now (roots_of roots.now) }
+    ensures chosen { IfOk result (λ t. IsChosen FewestLeaves graph.now k roots.now t) }
+    ensures least { IfOk result (λ t. IsLeastMapping graph.now k roots.now t) }
+    ensures err { IfErr result (Stops (IsUnchosen FewestLeaves graph.now k roots.now)) }
+    ensures settled { MatchResult result (λ _. IsGraphSettled FewestLeaves graph.now k roots.now) (Stops (λ _. IsGraphSettled FewestLeaves graph.now k roots.now)) }
+{
+    let table = enumerate(alloc, graph, k)?;
+    let labels = labels(alloc, graph, &table)?;
+    let picked = pick(alloc, graph, roots, &table, &labels);
+    drop(labels);
+    drop(table);
+    let template = picked?;
+    Ok(template)
+}
+
+// The template over the cuts of the least cost, from bounded sets over labels by flow.
+fn choose_cheapest(alloc: Global, graph: &Graph, roots: &Roots, k: u8) -> Result<Template, Stop>
+    requires least { 2 ≤ k }
+    requires most { k ≤ MOST_LEAVES }
+    requires roots { AreRoots graph.now (roots_of roots.now) }
+    requires nodes { length graph.now.pairs ≤ MOST_NODES }
+    ensures chosen { IfOk result (λ t. IsChosen LeastCost graph.now k roots.now t) }
+    ensures least { IfOk result (λ t. IsLeastMapping graph.now k roots.now t) }
+    ensures err { IfErr result (Stops (IsUnchosen LeastCost graph.now k roots.now)) }
+    ensures settled { MatchResult result (λ _. IsGraphSettled LeastCost graph.now k roots.now) (Stops (λ _. IsGraphSettled LeastCost graph.now k roots.now)) }
+{
+    let labels = labels_by_flow(alloc, graph, k)?;
+    let picked = pick_compact(alloc, graph, k, roots, labels.labels(), labels.low_cuts());
+    drop(labels);
+    let template = picked?;
+    Ok(template)
+}
 
 // The template of a graph that a rule chooses.
 fn choose(alloc: Global, rule: Rule, graph: &Graph, roots: &Roots, k: u8) -> Result<Template, Stop>
     requires least { 2 ≤ k }
     requires most { k ≤ MOST_LEAVES }
     requires roots { AreRoots graph.now (roots_of roots.now) }
+    requires nodes { length graph.now.pairs ≤ MOST_NODES }
     ensures chosen { IfOk result (λ t. IsChosen rule graph.now k roots.now t) }
     ensures least { IfOk result (λ t. IsLeastMapping graph.now k roots.now t) }
     ensures err { IfErr result (Stops (IsUnchosen rule graph.now k roots.now)) }
     ensures settled { MatchResult result (λ _. IsGraphSettled rule graph.now k roots.now) (Stops (λ _. IsGraphSettled rule graph.now k roots.now)) }
 {
-    let table = enumerate(alloc, graph, k)?;
-    let labels = labels(alloc, graph, &table)?;
-    let picked = pick_by(alloc, rule, graph, roots, &table, &labels);
-    drop(labels);
-    drop(table);
-    let template = picked?;
-    Ok(template)
+    match rule {
+        Rule::FewestLeaves => choose_fewest(alloc, graph, roots, k),
+        Rule::LeastCost => choose_cheapest(alloc, graph, roots, k),
+    }
 }
 
 // The shape of a graph's sources: the latches, the parameters, and the other inputs.

@@ -1,8 +1,11 @@
 -- The chosen cut by the rule's own words, and that the rule keeps within the required depth.
-use Rattle.cover_pick.proofs.Common.{◌≡◌, ℕ, ◌<◌, ◌≤◌, true, ◌&&◌, ltb, eqb, List, [], ◌∷◌, length, Option, Some, None, refl, sym, ap, ◌∙◌, subst, inl, inr, ◌⊎◌, arith, same_Some, none-some, cases_order, ltb-true, ltb-false, eqb-true, and_parts, and_from, both_ways, lt-ltb, eq-eqb, In, lex, comes_before, IsOrdered, height, choose, better, fewest, rules, zero, suc, get_or, drop, drop_more, IsAt, IsShorter, cases_lt, comes_before, before_trans, less, earlier, cheaper, cheaper_low, cheapest, sum_by, sum_by-cons, cases_eq, flow_at, cost_where, leaf_cost, cut_cost, need}
+use Rattle.cover_pick.proofs.Common.{◌≡◌, ℕ, ◌<◌, ◌≤◌, true, ◌&&◌, ltb, eqb, List, [], ◌∷◌, length, Option, Some, None, refl, sym, ap, ◌∙◌, subst, inl, inr, ◌⊎◌, arith, same_Some, none-some, cases_order, ltb-true, ltb-false, eqb-true, and_parts, and_from, both_ways, lt-ltb, eq-eqb, In, lex, comes_before, IsOrdered, height, choose, better, fewest, rules, zero, suc, get_or, drop, drop_more, IsAt, IsOffer, IsShorter, cases_lt, comes_before, before_trans, cases_Bool, cond, false, less, earlier, cheaper, cheaper_low, cheapest, sum_by, sum_by-cons, cases_eq, flow_at, cost_where, leaf_cost, cut_cost, need}
 use Rattle.cover_pick.specs.Choice.{Precedes, fewer, lower, before, IsChosen}
 use Rattle.cut_enum.proofs.LevelLemmas.{IsRising, IsRising-ordered, first_least}
 use Rattle.cover_pick.specs.declared.choice.Candidate.{Candidate}
+use Rattle.cover_pick.specs.declared.cost.Offer.{Offer}
+use Rattle.std.specs.Prelude.{IfSome}
+use Rattle.cut_sets.proofs.OrderLemmas.{before_none}
 use Rattle.cover_pick.specs.Sharing.{IsNeededAbove, root, leaf, IsLeafCost, shared, free, new, AreLeafCosts, IsCost, IsCheaper, IsCheapest}
 
 before_says : (a b : List ℕ) → comes_before a b ≡ true → (length a < length b) ⊎ ((length a ≡ length b) × (lex a b ≡ true))
@@ -118,6 +121,12 @@ module _ (label : ℕ → ℕ) (r : ℕ) where
   fewest_stops cs (Some b) (Some c) full i up l s h e =
       sym (fewest_longer c (drop i cs) (λ d k. let m : length (get_or cs i []) ≤ length d = later_longer cs i d (IsRising-ordered cs up) l k in omega arith)) ∙ e
 
+-- the place of an offer is one of its list
+pub offer_inside : (cost : List ℕ → ℕ) (cs : List (List ℕ)) (best : Option Offer) (o : Option (List ℕ)) → IsOffer cost cs best o → IfSome best (λ (b : Offer). b.place < length cs)
+offer_inside cost cs None o h = tt
+offer_inside cost cs (Some b) None h = absurd h
+offer_inside cost cs (Some b) (Some c) h = h.0
+
 -- The cut that is found for its cost: there is one where a cut is low enough, it is one of the list, and the first of the least cost.
 module _ (cost : List ℕ → ℕ) (label : ℕ → ℕ) (r : ℕ) where
   high_is : (o : Option (List ℕ)) (e : List ℕ) → r < height label e → cheaper_low cost label r o e ≡ o
@@ -125,12 +134,6 @@ module _ (cost : List ℕ → ℕ) (label : ℕ → ℕ) (r : ℕ) where
 
   low_is : (o : Option (List ℕ)) (e : List ℕ) → height label e ≤ r → cheaper_low cost label r o e ≡ cheaper cost o e
   low_is o e l = choose (λ s. s ≡ cheaper cost o e) (ltb r (height label e)) o (cheaper cost o e) (λ t. absurd (let a : r < height label e = ltb-true r (height label e) t in omega arith)) (λ _. refl)
-
-  less_is : (b e : List ℕ) → cost e < cost b → cheaper cost (Some b) e ≡ Some e
-  less_is b e l = choose (λ s. s ≡ Some e) (ltb (cost e) (cost b)) (Some e) (Some b) (λ _. refl) (λ t. absurd (let a : cost b ≤ cost e = ltb-false (cost e) (cost b) t in omega arith))
-
-  more_is : (b e : List ℕ) → cost b ≤ cost e → cheaper cost (Some b) e ≡ Some b
-  more_is b e l = choose (λ s. s ≡ Some b) (ltb (cost e) (cost b)) (Some e) (Some b) (λ t. absurd (let a : cost e < cost b = ltb-true (cost e) (cost b) t in omega arith)) (λ _. refl)
 
   -- what is found after one more cut, by its cases
   step_is : (P : Option (List ℕ) → Type 0) (b e : List ℕ) → P (Some b) → P (Some e) → P (cheaper_low cost label r (Some b) e)
@@ -166,70 +169,85 @@ module _ (cost : List ℕ → ℕ) (label : ℕ → ℕ) (r : ℕ) where
   cheapest_low [] o c low h = low c h
   cheapest_low (e ∷ cs) o c low h = cheapest_low cs (cheaper_low cost label r o e) c (low_next o e low) h
 
-  -- the cheaper of two, over a third
-  cheaper_less : (c e d : List ℕ) → IsCheaper c e (cost c) (cost e) → cost e < cost d → IsCheaper c d (cost c) (cost d)
-  cheaper_less c e d (less l) m = less (omega arith)
-  cheaper_less c e d (earlier q o) m = less (omega arith)
+  abbrev Cheaper : List ℕ → List ℕ → Type 0
+  Cheaper c d = IsCheaper c d (cost c) (cost d)
 
-  before_next : (c b e : List ℕ) → (c ≡ b) ⊎ (comes_before c b ≡ true) → comes_before b e ≡ true → comes_before c e ≡ true
-  before_next c b e (inl q) t = subst (λ x. comes_before x e ≡ true) (sym q) t
-  before_next c b e (inr s) t = before_trans c b e s t
+  no_later : (c b e : List ℕ) → (c ≡ b) ⊎ (comes_before c b ≡ true) → (b ≡ e) ⊎ (comes_before b e ≡ true) → (c ≡ e) ⊎ (comes_before c e ≡ true)
+  no_later c b e (inl q) h = subst (λ x. (x ≡ e) ⊎ (comes_before x e ≡ true)) (sym q) h
+  no_later c b e (inr s) (inl q) = inr (subst (λ x. comes_before c x ≡ true) q s)
+  no_later c b e (inr s) (inr t) = inr (before_trans c b e s t)
 
-  cheaper_next : (c b e : List ℕ) → IsCheaper c b (cost c) (cost b) → cost b ≤ cost e → comes_before b e ≡ true → IsCheaper c e (cost c) (cost e)
-  cheaper_next c b e (less l) m t = less (omega arith)
-  cheaper_next c b e (earlier q o) m t = search (rules, cases_lt, before_next)
+  cheaper_over : (c b e : List ℕ) → Cheaper c b → Cheaper b e → Cheaper c e
+  cheaper_over c b e (less l) (less m) = less (omega arith)
+  cheaper_over c b e (less l) (earlier q o) = less (omega arith)
+  cheaper_over c b e (earlier q o) (less m) = less (omega arith)
+  cheaper_over c b e (earlier q o) (earlier p t) = earlier (q ∙ p) (no_later c b e o t)
+
+  cheaper_same : (c : List ℕ) → Cheaper c c
+  cheaper_same c = earlier refl (inl refl)
+
+  -- of two cuts the one that is kept is the cheaper
+  record Kept (b e : List ℕ) (o : Option (List ℕ)) : Type 0 where
+    cut : List ℕ
+    is : o ≡ Some cut
+    one : (cut ≡ b) ⊎ (cut ≡ e)
+    over_old : Cheaper cut b
+    over_new : Cheaper cut e
+
+  kept_old : (b e : List ℕ) → Cheaper b e → Kept b e (Some b)
+  kept_old b e h = record { cut = b; is = refl; one = inl refl; over_old = cheaper_same b; over_new = h }
+
+  kept_new : (b e : List ℕ) → Cheaper e b → Kept b e (Some e)
+  kept_new b e h = record { cut = e; is = refl; one = inr refl; over_old = h; over_new = cheaper_same e }
+
+  not_later : (b e : List ℕ) → comes_before e b ≡ false → (b ≡ e) ⊎ (comes_before b e ≡ true)
+  not_later b e h = elim (cases_Bool (comes_before b e)) [ inl t ↦ inr t | inr f ↦ inl (before_none b e f h) ]
+
+  kept_over : (b e : List ℕ) → cost b ≤ cost e → ((eqb (cost e) (cost b)) && comes_before e b) ≡ false → Cheaper b e
+  kept_over b e l t = elim (cases_eq (cost e) (cost b)) [
+    | inl q ↦ elim (cases_Bool (comes_before e b)) [
+      | inl s ↦ absurd (both_ways ((eqb (cost e) (cost b)) && comes_before e b) t (and_from (eqb (cost e) (cost b)) (comes_before e b) (eq-eqb (cost e) (cost b) q) s))
+      | inr s ↦ earlier (sym q) (not_later b e s)
+    ]
+    | inr d ↦ less (omega arith)
+  ]
+
+  kept : (b e : List ℕ) → Kept b e (cheaper cost (Some b) e)
+  kept b e =
+      choose (Kept b e) (ltb (cost e) (cost b)) (Some e) (cond ((eqb (cost e) (cost b)) && comes_before e b) (Some e) (Some b))
+      (λ t. kept_new b e (less (ltb-true (cost e) (cost b) t)))
+      (λ f. choose (Kept b e) ((eqb (cost e) (cost b)) && comes_before e b) (Some e) (Some b)
+      (λ t. let p = and_parts (eqb (cost e) (cost b)) (comes_before e b) t in kept_new b e (earlier (eqb-true (cost e) (cost b) p.0) (inr p.1)))
+      (λ t. kept_old b e (kept_over b e (ltb-false (cost e) (cost b) f) t)))
 
   -- what is found is the first of the least cost
-  pub cheapest_first : (cs : List (List ℕ)) (o : Option (List ℕ)) (c : List ℕ) → IsOrdered cs → ((b e : List ℕ) → o ≡ Some b → In cs e → comes_before b e ≡ true) → ((b : List ℕ) → o ≡ Some b → height label b ≤ r)
+  pub cheapest_first : (cs : List (List ℕ)) (o : Option (List ℕ)) (c : List ℕ) → ((b : List ℕ) → o ≡ Some b → height label b ≤ r)
       → cheapest cost label r o cs ≡ Some c
-      → (d : List ℕ) → In cs d ⊎ (o ≡ Some d) → height label d ≤ r → IsCheaper c d (cost c) (cost d)
-  cheapest_first [] o c up prior lows h d (inl i) l = absurd i
-  cheapest_first [] o c up prior lows h d (inr q) l = let same : c ≡ d = same_Some c d (sym h ∙ q) in earlier (ap cost same) (inl same)
-  cheapest_first (e ∷ cs) None c up prior lows h d i l =
+      → (d : List ℕ) → In cs d ⊎ (o ≡ Some d) → height label d ≤ r → Cheaper c d
+  cheapest_first [] o c lows h d (inl i) l = absurd i
+  cheapest_first [] o c lows h d (inr q) l = subst (λ x. Cheaper c x) (same_Some c d (sym h ∙ q)) (cheaper_same c)
+  cheapest_first (e ∷ cs) None c lows h d (inr q) l = absurd (none-some d q)
+  cheapest_first (e ∷ cs) None c lows h d (inl i) l =
+      let next : (x : List ℕ) → In cs x ⊎ (cheaper_low cost label r None e ≡ Some x) → height label x ≤ r → Cheaper c x = cheapest_first cs (cheaper_low cost label r None e) c (low_next None e lows) h in
+      elim i [
+        | inl q ↦ next d (inr (low_is None e (subst (λ x. height label x ≤ r) q l) ∙ ap (λ x. Some x) (sym q))) l
+        | inr k ↦ next d (inl k) l
+      ]
+  cheapest_first (e ∷ cs) (Some b) c lows h d i l =
+      let next : (x : List ℕ) → In cs x ⊎ (cheaper_low cost label r (Some b) e ≡ Some x) → height label x ≤ r → Cheaper c x = cheapest_first cs (cheaper_low cost label r (Some b) e) c (low_next (Some b) e lows) h in
       elim (cases_lt r (height label e)) [
         | inl high ↦ elim i [
-          | inl j ↦ elim j [
-            | inl q ↦ absurd (let a : height label d ≡ height label e = ap (λ x. height label x) q in omega arith)
-            | inr k ↦ cheapest_first cs None c up.1 (λ b x q k. absurd (none-some b q)) lows (subst (λ s. cheapest cost label r s cs ≡ Some c) (high_is None e high) h) d (inl k) l
-          ]
-          | inr q ↦ absurd (none-some d q)
+          | inl j ↦ elim j [ inl q ↦ absurd (let a : height label d ≡ height label e = ap (λ x. height label x) q in omega arith) | inr k ↦ next d (inl k) l ]
+          | inr q ↦ next d (inr (high_is (Some b) e high ∙ q)) l
         ]
         | inr low ↦ (
-            let next : cheapest cost label r (Some e) cs ≡ Some c = subst (λ s. cheapest cost label r s cs ≡ Some c) (low_is None e low) h in
-            let all : (x : List ℕ) → In cs x ⊎ (Some e ≡ Some x) → height label x ≤ r → IsCheaper c x (cost c) (cost x) = grind (arith, same_Some, cheapest_first cs (Some e) c up.1 (λ b x q k. subst (λ y. comes_before y x ≡ true) (same_Some e b q) (up.0 x k)) (λ b q. subst (λ y. height label y ≤ r) (same_Some e b q) low) next) in
+            let k = kept b e in
+            let is : cheaper_low cost label r (Some b) e ≡ Some k.cut = low_is (Some b) e low ∙ k.is in
+            let over : Cheaper c k.cut = next k.cut (inr is) (low_next (Some b) e lows k.cut is) in
             elim i [
-              | inl j ↦ elim j [ inl q ↦ all d (inr (ap (λ x. Some x) (sym q))) l | inr k ↦ all d (inl k) l ]
-              | inr q ↦ absurd (none-some d q)
+              | inl j ↦ elim j [ inl q ↦ subst (λ x. Cheaper c x) (sym q) (cheaper_over c k.cut e over k.over_new) | inr m ↦ next d (inl m) l ]
+              | inr q ↦ subst (λ x. Cheaper c x) (same_Some b d q) (cheaper_over c k.cut b over k.over_old)
             ])
-      ]
-  cheapest_first (e ∷ cs) (Some b) c up prior lows h d i l =
-      elim (cases_lt r (height label e)) [
-        | inl high ↦ (
-            let all : (x : List ℕ) → In cs x ⊎ (Some b ≡ Some x) → height label x ≤ r → IsCheaper c x (cost c) (cost x) =
-            cheapest_first cs (Some b) c up.1 (λ y x q k. prior y x q (inr k)) lows (subst (λ s. cheapest cost label r s cs ≡ Some c) (high_is (Some b) e high) h) in
-            elim i [
-              | inl j ↦ elim j [ inl q ↦ absurd (let a : height label d ≡ height label e = ap (λ x. height label x) q in omega arith) | inr k ↦ all d (inl k) l ]
-              | inr q ↦ all d (inr q) l
-            ])
-        | inr low ↦ elim (cases_lt (cost e) (cost b)) [
-          | inl m ↦ (
-              let all : (x : List ℕ) → In cs x ⊎ (Some e ≡ Some x) → height label x ≤ r → IsCheaper c x (cost c) (cost x) =
-              cheapest_first cs (Some e) c up.1 (λ y x q k. subst (λ z. comes_before z x ≡ true) (same_Some e y q) (up.0 x k)) (λ y q. subst (λ z. height label z ≤ r) (same_Some e y q) low) (subst (λ s. cheapest cost label r s cs ≡ Some c) (low_is (Some b) e low ∙ less_is b e m) h) in
-              elim i [
-                | inl j ↦ elim j [ inl q ↦ all d (inr (ap (λ x. Some x) (sym q))) l | inr k ↦ all d (inl k) l ]
-                | inr q ↦ (let same : b ≡ d = same_Some b d q in let costs : cost b ≡ cost d = ap cost same in cheaper_less c e d (all e (inr refl) low) (omega arith))
-              ])
-          | inr m ↦ (
-              let all : (x : List ℕ) → In cs x ⊎ (Some b ≡ Some x) → height label x ≤ r → IsCheaper c x (cost c) (cost x) =
-              cheapest_first cs (Some b) c up.1 (λ y x q k. prior y x q (inr k)) lows (subst (λ s. cheapest cost label r s cs ≡ Some c) (low_is (Some b) e low ∙ more_is b e m) h) in
-              elim i [
-                | inl j ↦ elim j [
-                  | inl q ↦ subst (λ x. IsCheaper c x (cost c) (cost x)) (sym q) (cheaper_next c b e (all b (inr refl) (lows b refl)) m (prior b e refl (inl refl)))
-                  | inr k ↦ all d (inl k) l
-                ]
-                | inr q ↦ all d (inr q) l
-              ])
-        ]
       ]
 
 pub above_same : (roots : List ℕ) (cover more : ℕ → Option (List ℕ)) (n m : ℕ) → ((i : ℕ) → n < i → cover i ≡ more i) → IsNeededAbove roots cover n m → IsNeededAbove roots more n m
@@ -283,12 +301,12 @@ module _ (flows : List ℕ) (reqs : List (Option ℕ)) (needed : ℕ → Type 0)
   cost_only c cost a = grind (arith, leaves_only)
 
   -- The cut that is found is the cheapest.
-  pub cheapest_is : (label : ℕ → ℕ) (r : ℕ) (row : List (List ℕ)) (c : List ℕ) → IsOrdered row → cheapest (cut_cost flows reqs) label r None row ≡ Some c → IsCheapest (flow_at flows) needed label r row c
-  cheapest_is label r row c up e = record {
+  pub cheapest_is : (label : ℕ → ℕ) (r : ℕ) (row : List (List ℕ)) (c : List ℕ) → cheapest (cut_cost flows reqs) label r None row ≡ Some c → IsCheapest (flow_at flows) needed label r row c
+  cheapest_is label r row c e = record {
     one = elim (cheapest_in (cut_cost flows reqs) label r row None c e) [ inl i ↦ i | inr q ↦ absurd (none-some c q) ];
     low = cheapest_low (cut_cost flows reqs) label r row None c (λ b q. absurd (none-some b q)) e;
     cost = cut_cost flows reqs c;
     is = record { leaves = sum_by (leaf_cost flows reqs) c; are = leaves_are c; is = refl };
     first = λ d other i l x. subst (λ v. IsCheaper c d (cut_cost flows reqs c) v) (sym (cost_only d other x))
-        (cheapest_first (cut_cost flows reqs) label r row None c up (λ b y q k. absurd (none-some b q)) (λ b q. absurd (none-some b q)) e d (inl i) l);
+        (cheapest_first (cut_cost flows reqs) label r row None c (λ b q. absurd (none-some b q)) e d (inl i) l);
   }

@@ -1,5 +1,5 @@
 -- What the marks and the searches find is the tables and the work by their own words.
-use Rattle.cover_pick.proofs.Common.{◌≡◌, ℕ, ◌-◌, ◌*◌, ◌/◌, ◌%◌, ◌<◌, ◌≤◌, cond, List, [], ◌∷◌, Option, Some, None, refl, sym, ap, ◌∙◌, subst, inl, inr, arith, slice_get, sum_by-cons, same_Some, cases_lt, cases_eq, eq-eqb, Aig, first_and, node_count, IsAnd, AreNormal, Regular, Parameter, Lit, RootsValue, roots_of, AreRoots, In, IsCutTable, OrMemory, source_below, MOST_WORK, refusal_of, PickErr, Work, Memory, Lut, target, Rule, IsPlan, cut_at, and_depths, depths_of, IsPlanned, cone_of, table_work, work_of, IsWork, IsLight, TablesWithin, AreChosen, IsTemplate, AreTimely, IsTooMuch}
+use Rattle.cover_pick.proofs.Common.{◌≡◌, ℕ, ◌-◌, ◌*◌, ◌/◌, ◌%◌, ◌<◌, ◌≤◌, cond, List, [], ◌∷◌, Option, Some, None, refl, sym, ap, ◌∙◌, subst, inl, inr, arith, slice_get, sum_by-cons, same_Some, cases_lt, cases_eq, eq-eqb, Aig, first_and, node_count, IsAnd, AreNormal, Regular, Parameter, Lit, RootsValue, roots_of, AreRoots, In, OrMemory, source_below, MOST_WORK, refusal_of, PickErr, Work, Memory, Lut, target, Supply, IsSupplied, HasPlan, cut_at, and_depths, depths_of, cone_of, table_work, work_of, IsWork, IsLight, TablesWithin, AreChosen, IsTemplate, AreTimely, IsTooMuch}
 use Rattle.cover_pick.specs.Tables.{IsNeeded, root, leaf, IsLeaves, constant, parameter, source, node}
 use Rattle.cover_pick.specs.Marks.{IsMarked, root as marked_root, leaf as marked_leaf, leaves_of, source_leaves, Made, IsMade, tables_of, AreMade}
 use Rattle.cover_pick.proofs.TableLemmas.{tables_needed}
@@ -41,22 +41,22 @@ are_leaves g cuts l c nodes (source s o e) =
     ∙ (ap (λ o. source_leaves o (l / 2) (l % 2)) s.is ∙ (ap (λ t. cond t (Some ((l / 2) ∷ [])) None) (eq-eqb (l % 2) 1 o) ∙ ap (λ x. Some x) (sym e)))
 are_leaves g cuts l c nodes (node at) = leaves_and g cuts l (nodes c at) ∙ at
 
-module _ (rule : Rule) (g : Aig) (rows : List (List (List ℕ))) (label : ℕ → ℕ) (roots : List ℕ) (made : Made) (t : IsCutTable g rows) (lits : AreRoots g roots) (a : IsMade rule g rows label roots made) where
+module _ (supply : Supply) (g : Aig) (label : ℕ → ℕ) (roots : List ℕ) (made : Made) (lits : AreRoots g roots) (a : IsMade supply g label roots made) where
   needed_lit : (l : ℕ) → IsNeeded roots (cut_at a.cuts) l → l < 2 * node_count g
   needed_lit l (root i) = lits l i
   needed_lit l (leaf n m c at i e) =
-      let both = (a.plan.least t.k t.are).is.cuts n c at in
+      let both = (a.plan.least a.serving.k a.serving.served).is.cuts n c at in
       omega (arith, both.0.1, (both.1.below m i).0)
 
-  pub chosen_is : AreChosen rule g rows label roots made.luts made.bits
+  pub chosen_is : AreChosen supply g label roots made.luts made.bits
   chosen_is = record {
-    reqs = and_depths g (depths_of rule g rows label roots a.flows);
+    reqs = and_depths g (depths_of a.rule g a.rows label roots a.flows);
     cover = cut_at a.cuts;
     plan = a.chosen;
     tables = record {
       needed = λ u i. marked_is roots a.cuts u.lit.0 (a.tables.only u i).0;
       leaves = λ u i. leaves_are g a.cuts u.lit.0 u.leaves (a.tables.below u i) (a.tables.only u i).1;
-      all = λ l c needed leaves. a.tables.all l c (needed_lit l needed) (needed_is roots a.cuts l needed) (are_leaves g a.cuts l c (λ d at. ((a.plan.least t.k t.are).is.cuts (l / 2) d at).0) leaves);
+      all = λ l c needed leaves. a.tables.all l c (needed_lit l needed) (needed_is roots a.cuts l needed) (are_leaves g a.cuts l c (λ d at. ((a.plan.least a.serving.k a.serving.served).is.cuts (l / 2) d at).0) leaves);
       ascending = a.tables.ascending;
       bases = a.tables.bases;
       sum = a.tables.sum;
@@ -64,14 +64,14 @@ module _ (rule : Rule) (g : Aig) (rows : List (List (List ℕ))) (label : ℕ �
   }
 
   -- Each is within its node's required depth.
-  pub timely_is : AreTimely rule g rows label roots made.luts
-  timely_is = record {
+  pub timely_is : IsSupplied supply g label → AreTimely supply g label roots made.luts
+  timely_is t = record {
     each = λ reqs cover plan u r i e.
-        let same : reqs (u.lit.0 / 2) ≡ and_depths g (depths_of rule g rows label roots a.flows) (u.lit.0 / 2) =
-        ap (λ d. d (u.lit.0 / 2)) (plan_once rule g rows label roots t reqs (and_depths g (depths_of rule g rows label roots a.flows)) cover (cut_at a.cuts) plan a.chosen).0 in
-        let d = depth_from g (depths_of rule g rows label roots a.flows) (u.lit.0 / 2) r (sym same ∙ e) in
-        let and : IsAnd g (u.lit.0 / 2) = node_of rule g rows label roots a.flows (cut_at a.cuts) a.plan (u.lit.0 / 2) r (sym same ∙ e) in
-        to_tables g t.k roots a.cuts made (a.plan.least t.k t.are).is a.tables (a.plan.timely (u.lit.0 / 2) r and d.1) u.lit.0 refl and (a.tables.only u i).0;
+        let same : reqs (u.lit.0 / 2) ≡ and_depths g (depths_of a.rule g a.rows label roots a.flows) (u.lit.0 / 2) =
+        ap (λ d. d (u.lit.0 / 2)) (plan_once supply g label roots t reqs (and_depths g (depths_of a.rule g a.rows label roots a.flows)) cover (cut_at a.cuts) plan a.chosen).0 in
+        let d = depth_from g (depths_of a.rule g a.rows label roots a.flows) (u.lit.0 / 2) r (sym same ∙ e) in
+        let and : IsAnd g (u.lit.0 / 2) = node_of a.rule g a.rows label roots a.flows (cut_at a.cuts) a.plan (u.lit.0 / 2) r (sym same ∙ e) in
+        to_tables g a.serving.k roots a.cuts made (a.plan.least a.serving.k a.serving.served).is a.tables (a.plan.timely (u.lit.0 / 2) r and d.1) u.lit.0 refl and (a.tables.only u i).0;
   }
 
 pub work_is : (g : Aig) (ts : List Lut) → AreNormal (first_and g) g.pairs → ((t : Lut) → In ts t → t.lit.0 < 2 * node_count g) → IsWork g ts (work_of g ts)
@@ -85,41 +85,45 @@ work_is g (t ∷ ts) normal inside =
       sum_by-cons (λ (u : Lut). table_work g u.lit.0 u.leaves) t ts,
     )
 
-pub light_is : (rule : Rule) (g : Aig) (rows : List (List (List ℕ))) (label : ℕ → ℕ) (roots : List ℕ) (made : Made) → AreNormal (first_and g) g.pairs → IsMade rule g rows label roots made → made.work ≤ MOST_WORK → IsLight g made.luts
-light_is rule g rows label roots made normal a l = record {
+pub light_is : (supply : Supply) (g : Aig) (label : ℕ → ℕ) (roots : List ℕ) (made : Made) → AreNormal (first_and g) g.pairs → IsMade supply g label roots made → made.work ≤ MOST_WORK → IsLight g made.luts
+light_is supply g label roots made normal a l = record {
   work = made.work;
   is = subst (λ w. IsWork g made.luts w) (sym a.tables.work) (work_is g made.luts normal a.tables.below);
   light = l;
 }
 
+-- the tables of a plan's cuts
+abbrev pub made_of : (supply : Supply) (g : Aig) (label : ℕ → ℕ) (roots : List ℕ) (cuts : List (Option (List ℕ))) (made : Made) → HasPlan supply g label roots cuts → AreMade g cuts (IsMarked roots cuts) (2 * node_count g) made → IsMade supply g label roots made
+made_of supply g label roots cuts made h are = record { rule = h.rule; rows = h.rows; serving = h.serving; flows = h.flows; cuts = cuts; plan = h.plan; chosen = h.chosen; tables = are }
+
+pub plan_leaves : (supply : Supply) (g : Aig) (label : ℕ → ℕ) (roots : List ℕ) (cuts : List (Option (List ℕ))) → HasPlan supply g label roots cuts → (c : List ℕ) (m : ℕ) → In cuts (Some c) → In c m → m < node_count g
+plan_leaves supply g label roots cuts h = leaves_inside h.rule g h.rows label roots h.flows cuts h.serving h.plan
+
 -- where the work of the tables that would be made is too much
-pub too_much : (rule : Rule) (g : Aig) (rows : List (List (List ℕ))) (label : ℕ → ℕ) (roots flows : List ℕ) (cuts : List (Option (List ℕ))) → AreNormal (first_and g) g.pairs → IsCutTable g rows → IsPlanned rule g rows label roots flows (cut_at cuts)
-    → IsPlan rule g rows label roots (and_depths g (depths_of rule g rows label roots flows)) (cut_at cuts) → AreRoots g roots → MOST_WORK < (tables_of g roots cuts).work → IsTooMuch rule g rows label roots
-too_much rule g rows label roots flows cuts normal t plan is lits l =
-    let are : AreMade g cuts (IsMarked roots cuts) (2 * node_count g) (tables_of g roots cuts) = tables_needed g roots cuts (leaves_inside rule g rows label roots flows cuts t plan) lits in
-    let made : IsMade rule g rows label roots (tables_of g roots cuts) = record { flows = flows; cuts = cuts; plan = plan; chosen = is; tables = are } in
+pub too_much : (supply : Supply) (g : Aig) (label : ℕ → ℕ) (roots : List ℕ) (cuts : List (Option (List ℕ))) → AreNormal (first_and g) g.pairs → HasPlan supply g label roots cuts → AreRoots g roots → MOST_WORK < (tables_of g roots cuts).work → IsTooMuch supply g label roots
+too_much supply g label roots cuts normal h lits l =
+    let are : AreMade g cuts (IsMarked roots cuts) (2 * node_count g) (tables_of g roots cuts) = tables_needed g roots cuts (plan_leaves supply g label roots cuts h) lits in
     record {
       luts = (tables_of g roots cuts).luts;
       bits = (tables_of g roots cuts).bits;
-      chosen = chosen_is rule g rows label roots (tables_of g roots cuts) t lits made;
+      chosen = chosen_is supply g label roots (tables_of g roots cuts) lits (made_of supply g label roots cuts (tables_of g roots cuts) h are);
       work = (tables_of g roots cuts).work;
       is = subst (λ w. IsWork g (tables_of g roots cuts).luts w) (sym are.work) (work_is g (tables_of g roots cuts).luts normal are.below);
       past = l;
     }
 
-pub too_much_told : (rule : Rule) (g : Aig) (rows : List (List (List ℕ))) (label : ℕ → ℕ) (roots flows : List ℕ) (cuts : List (Option (List ℕ))) → AreNormal (first_and g) g.pairs → IsCutTable g rows → IsPlanned rule g rows label roots flows (cut_at cuts)
-    → IsPlan rule g rows label roots (and_depths g (depths_of rule g rows label roots flows)) (cut_at cuts) → AreRoots g roots
-    → (e : PickErr) → OrMemory refusal_of (λ _. MOST_WORK < (tables_of g roots cuts).work) e → OrMemory refusal_of (λ _. IsTooMuch rule g rows label roots) e
-too_much_told rule g rows label roots flows cuts normal t plan is lits Work l = too_much rule g rows label roots flows cuts normal t plan is lits l
-too_much_told rule g rows label roots flows cuts normal t plan is lits Memory l = tt
+pub too_much_told : (supply : Supply) (g : Aig) (label : ℕ → ℕ) (roots : List ℕ) (cuts : List (Option (List ℕ))) → AreNormal (first_and g) g.pairs → HasPlan supply g label roots cuts → AreRoots g roots
+    → (e : PickErr) → OrMemory refusal_of (λ _. MOST_WORK < (tables_of g roots cuts).work) e → OrMemory refusal_of (λ _. IsTooMuch supply g label roots) e
+too_much_told supply g label roots cuts normal h lits Work l = too_much supply g label roots cuts normal h lits l
+too_much_told supply g label roots cuts normal h lits Memory l = tt
 
-pub template_is : (rule : Rule) (g : Aig) (rows : List (List (List ℕ))) (label : ℕ → ℕ) (roots : RootsValue) (made : Made) (outputs next : List Lit) (depth : ℕ) → IsCutTable g rows → AreRoots g (roots_of roots) → IsMade rule g rows label (roots_of roots) made
+pub template_is : (supply : Supply) (g : Aig) (label : ℕ → ℕ) (roots : RootsValue) (made : Made) (outputs next : List Lit) (depth : ℕ) → AreRoots g (roots_of roots) → IsMade supply g label (roots_of roots) made
     → outputs ≡ roots.outputs → next ≡ roots.next → depth ≡ target g label (roots_of roots)
-    → IsTemplate rule g rows label roots (record { luts = made.luts; outputs = outputs; next = next; bits = made.bits; depth = depth })
-template_is rule g rows label roots made outputs next depth t lits a o n e = record {
-  chosen = chosen_is rule g rows label (roots_of roots) made t lits a;
+    → IsTemplate supply g label roots (record { luts = made.luts; outputs = outputs; next = next; bits = made.bits; depth = depth })
+template_is supply g label roots made outputs next depth lits a o n e = record {
+  chosen = chosen_is supply g label (roots_of roots) made lits a;
   outputs = o;
   next = n;
-  within = subst (λ d. TablesWithin g (roots_of roots) made.luts d) (sym e) (tables_within rule g rows label (roots_of roots) made t a);
-  exact = λ d w. let b : target g label (roots_of roots) ≤ d = tables_exact rule g rows label (roots_of roots) made t a d w in omega arith;
+  within = subst (λ d. TablesWithin g (roots_of roots) made.luts d) (sym e) (tables_within supply g label (roots_of roots) made a);
+  exact = λ d w. let b : target g label (roots_of roots) ≤ d = tables_exact supply g label (roots_of roots) made a d w in omega arith;
 }

@@ -1,5 +1,5 @@
 -- Worked examples: the chosen LUT of the multiplexer whose choice is a parameter, with the complement of its last node as the root; its flows, and what a cut costs.
-use Rattle.cover_pick.proofs.Common.{◌≡◌, ℕ, ◌*◌, ◌/◌, ◌<◌, ◌≤◌, cond, eqb, List, [], ◌∷◌, Option, Some, None, refl, sym, ap, subst, inl, inr, arith, same_Some, none-some, eqb-true, IsSource, Regular, Parameter, In, some_then, none_then, row_at, mux, mux_rows, mux_normal, last_cuts, height, label_of, Lut, FewestLeaves, fan_out, flow_at, flows_below, AtMost, HasRuled, no_flow, IsPlan, IsCone, IsWork, Aig, pair, label_at, AnyHeight, LeastHeight, allowed, flows_by, uses, cost_of, PlanValue, IsFirst}
+use Rattle.cover_pick.proofs.Common.{◌≡◌, ℕ, ◌*◌, ◌/◌, ◌<◌, ◌≤◌, cond, eqb, List, [], ◌∷◌, Option, Some, None, refl, sym, ap, subst, inl, inr, arith, same_Some, none-some, eqb-true, IsSource, Regular, Parameter, In, some_then, none_then, row_at, mux, mux_rows, mux_normal, last_cuts, height, label_of, Lut, FewestLeaves, Rows, fan_out, flow_at, flows_below, AtMost, HasRuled, no_flow, IsPlan, IsCone, IsWork, Aig, pair, label_at, AnyHeight, LeastHeight, allowed_row, flows_by, uses, cost_of, PlanValue, IsFirst}
 use Rattle.depth_label.proofs.Examples.{mux_labels}
 use Rattle.cover_pick.specs.Choice.{Precedes, before, IsChosen}
 use Rattle.cover_pick.specs.Sharing.{IsNeededAbove, shared, free as free_leaf, new, IsCost}
@@ -36,7 +36,7 @@ only_root : (l : ℕ) → In (13 ∷ []) l → l ≡ 13
 only_root l (inl e) = e
 only_root l (inr b) = absurd b
 
-pub mux_plan : IsPlan FewestLeaves mux mux_rows (label_of mux_labels) (13 ∷ []) mux_depths mux_cover
+pub mux_plan : IsPlan (Rows mux_rows) mux (label_of mux_labels) (13 ∷ []) mux_depths mux_cover
 mux_plan = record {
   schedule = record {
     nodes = λ n r e. let six : n ≡ 6 = (depth_at n r e).0 in (omega arith, omega arith);
@@ -100,14 +100,14 @@ pub mux_work : IsWork mux mux_luts 16
 mux_work = (16, 0, record { cone = 6 ∷ 5 ∷ 4 ∷ []; is = mux_cone; work_is = refl }, refl, refl)
 
 -- The flows: a table of one input above each of the two inputs, and one of both above them.
-pub mux_flows : flows_below mux mux_rows (fan_out mux) 7 ≡ 0 ∷ 0 ∷ 0 ∷ 0 ∷ 258 ∷ 258 ∷ 260 ∷ []
+pub mux_flows : flows_below mux AnyHeight (label_of mux_labels) mux_rows (fan_out mux) 7 ≡ 0 ∷ 0 ∷ 0 ∷ 0 ∷ 258 ∷ 258 ∷ 260 ∷ []
 mux_flows = refl
 
 -- A cut of an input and node 5 costs its four bits, and the flow of node 5 unless that is needed already.
-pub shared_cost : IsCost (flow_at (flows_below mux mux_rows (fan_out mux) 7)) (λ m. m ≡ 5) (1 ∷ 5 ∷ []) 4
+pub shared_cost : IsCost (flow_at (flows_below mux AnyHeight (label_of mux_labels) mux_rows (fan_out mux) 7)) (λ m. m ≡ 5) (1 ∷ 5 ∷ []) 4
 shared_cost = record { leaves = 0; are = (0, 0, free_leaf refl refl, (0, 0, shared refl refl, refl, refl), refl); is = refl }
 
-pub new_cost : IsCost (flow_at (flows_below mux mux_rows (fan_out mux) 7)) (λ m. ⊥) (1 ∷ 5 ∷ []) 262
+pub new_cost : IsCost (flow_at (flows_below mux AnyHeight (label_of mux_labels) mux_rows (fan_out mux) 7)) (λ m. ⊥) (1 ∷ 5 ∷ []) 262
 new_cost = record { leaves = 258; are = (0, 258, free_leaf refl refl, (258, 0, new (λ x. x) refl, refl, refl), refl); is = refl }
 
 -- A worked example of two rounds: a node that two nodes read, of which one is needed.
@@ -126,8 +126,14 @@ abbrev pub fork_label : ℕ → ℕ
 fork_label = label_at (0 ∷ 0 ∷ 0 ∷ 0 ∷ 0 ∷ 1 ∷ 1 ∷ 1 ∷ 2 ∷ [])
 
 -- two of these cuts are higher than their node's label
-pub fork_low : allowed LeastHeight fork_label fork_rows ≡ [] ∷ [] ∷ [] ∷ [] ∷ [] ∷ ((2 ∷ 4 ∷ []) ∷ []) ∷ ((2 ∷ 4 ∷ []) ∷ []) ∷ ((1 ∷ 2 ∷ 4 ∷ []) ∷ []) ∷ ((3 ∷ 7 ∷ []) ∷ (1 ∷ 3 ∷ 5 ∷ []) ∷ []) ∷ []
-fork_low = refl
+pub low_six : allowed_row LeastHeight fork_label (fork_label 6) (row_at fork_rows 6) ≡ (2 ∷ 4 ∷ []) ∷ []
+low_six = refl
+
+pub low_seven : allowed_row LeastHeight fork_label (fork_label 7) (row_at fork_rows 7) ≡ (1 ∷ 2 ∷ 4 ∷ []) ∷ []
+low_seven = refl
+
+pub low_eight : allowed_row LeastHeight fork_label (fork_label 8) (row_at fork_rows 8) ≡ (3 ∷ 7 ∷ []) ∷ (1 ∷ 3 ∷ 5 ∷ []) ∷ []
+low_eight = refl
 
 -- The first round: node 5 has two readers, so its 256 + 4 are halved.
 pub first_flows : flows_by fork fork_rows fork_label AnyHeight (fan_out fork) ≡ 0 ∷ 0 ∷ 0 ∷ 0 ∷ 0 ∷ 130 ∷ 260 ∷ 264 ∷ 394 ∷ []

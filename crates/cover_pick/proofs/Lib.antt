@@ -3,7 +3,9 @@ mod ChoiceLemmas
 mod UsesLemmas
 mod WalkLemmas
 mod RuleLemmas
+mod ServedLemmas
 mod RoundLemmas
+mod MakingLemmas
 mod TableLemmas
 pub mod WorkLemmas
 mod SearchLemmas

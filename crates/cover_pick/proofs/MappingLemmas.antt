@@ -1,5 +1,5 @@
 -- The chosen LUTs map the graph, and are a cover of the least depth.
-use Rattle.cover_pick.proofs.Common.{◌≡◌, ℕ, ◌-◌, ◌*◌, ◌/◌, ◌%◌, ◌<◌, ◌≤◌, cond, List, [], ◌∷◌, Option, Some, None, IsSome, refl, sym, ap, ◌∙◌, subst, inl, inr, ◌⊎◌, arith, get_or, slice_get, same_Some, none-some, slice_get-get_or, cases_lt, cases_eq, eq-eqb, ne_eqb, lt-ltb, false≢true, Aig, first_and, node_count, IsAnd, IsSource, Kind, Regular, Parameter, AreRoots, In, AreRows, Lut, target, need, cover_of, chosen, Rule, choice_of, cut_at, depths_of, FromChoice, IsLeastCover, HasTable, rules}
+use Rattle.cover_pick.proofs.Common.{◌≡◌, ℕ, ◌-◌, ◌*◌, ◌/◌, ◌%◌, ◌<◌, ◌≤◌, cond, List, [], ◌∷◌, Option, Some, None, IsSome, refl, sym, ap, ◌∙◌, subst, inl, inr, ◌⊎◌, arith, get_or, slice_get, same_Some, none-some, slice_get-get_or, cases_lt, cases_eq, eq-eqb, ne_eqb, lt-ltb, false≢true, Aig, first_and, node_count, IsAnd, IsSource, Kind, Regular, Parameter, AreRoots, In, Lut, target, need, cover_of, chosen, Supply, IsServed, choice_of, cut_at, depths_of, FromChoice, IsLeastCover, HasTable, rules}
 use Rattle.cover_pick.specs.Mapping.{IsTableOf, source, free, node, IsPlain, HasLut, HasNode, IsMapping, IsLeast}
 use Rattle.cover_pick.specs.Marks.{leaves_of, source_leaves, Made, IsMarked, root, leaf, IsMade}
 use Rattle.cover_pick.proofs.TemplateLemmas.{leaves_and, cut_in}
@@ -25,9 +25,9 @@ regular_leaves l c h0 = grind arith
 pub cover_at : (g : Aig) (choice : ℕ → ℕ → List ℕ) (reqs : List (Option ℕ)) (n : ℕ) (o : Option ℕ) → first_and g ≤ n → need reqs n ≡ o → cover_of g choice reqs n ≡ chosen choice n o
 cover_at g choice reqs n o b e = grind arith
 
-module _ (rule : Rule) (g : Aig) (rows : List (List (List ℕ))) (label : ℕ → ℕ) (roots : List ℕ) (made : Made) (a : IsMade rule g rows label roots made) (k : ℕ) (are : AreRows g k (node_count g) rows) (lits : AreRoots g roots) where
+module _ (supply : Supply) (g : Aig) (label : ℕ → ℕ) (roots : List ℕ) (made : Made) (a : IsMade supply g label roots made) (k : ℕ) (served : IsServed g k label a.rows) (lits : AreRoots g roots) where
   plan : IsLeastCover g k roots (cut_at a.cuts) (target g label roots)
-  plan = a.plan.least k are
+  plan = a.plan.least k served
 
   has_lut : (l : ℕ) (c : List ℕ) → l < 2 * node_count g → IsMarked roots a.cuts l → leaves_of g a.cuts l ≡ Some c → HasLut made.luts l
   has_lut l c b needed e = let h = a.tables.all l c b needed e in record { table = h.by; in' = h.in'; is = h.lit_is }
@@ -78,20 +78,20 @@ module _ (rule : Rule) (g : Aig) (rows : List (List (List ℕ))) (label : ℕ �
   mapping_is = search (rules, table_of, root_has, leaf_has)
 
   -- whence a chosen cut: the node is a root's, or a leaf of another
-  reader_needed : (n r : ℕ) → FromChoice g (choice_of rule g rows label roots a.flows) (need (depths_of rule g rows label roots a.flows)) n r → (l : ℕ) × (l / 2 ≡ n) × IsMarked roots a.cuts l
+  reader_needed : (n r : ℕ) → FromChoice g (choice_of a.rule g a.rows label roots a.flows) (need (depths_of a.rule g a.rows label roots a.flows)) n r → (l : ℕ) × (l / 2 ≡ n) × IsMarked roots a.cuts l
   reader_needed n r f =
-      let c : List ℕ = choice_of rule g rows label roots a.flows f.reader f.depth in
-      let at : cut_at a.cuts f.reader ≡ Some c = a.plan.chosen f.reader ∙ cover_at g (choice_of rule g rows label roots a.flows) (depths_of rule g rows label roots a.flows) f.reader (Some f.depth) f.and.0 f.needed in
+      let c : List ℕ = choice_of a.rule g a.rows label roots a.flows f.reader f.depth in
+      let at : cut_at a.cuts f.reader ≡ Some c = a.plan.chosen f.reader ∙ cover_at g (choice_of a.rule g a.rows label roots a.flows) (depths_of a.rule g a.rows label roots a.flows) f.reader (Some f.depth) f.and.0 f.needed in
       (2 * n, omega arith, leaf c n (cut_in a.cuts f.reader c at) f.leaf refl)
 
-  cut_needed_of : (n : ℕ) (c : List ℕ) (o : Option ℕ) → first_and g ≤ n → cut_at a.cuts n ≡ Some c → need (depths_of rule g rows label roots a.flows) n ≡ o → (l : ℕ) × (l / 2 ≡ n) × IsMarked roots a.cuts l
-  cut_needed_of n c None b e q = absurd (none-some c (sym (a.plan.chosen n ∙ cover_at g (choice_of rule g rows label roots a.flows) (depths_of rule g rows label roots a.flows) n None b q) ∙ e))
+  cut_needed_of : (n : ℕ) (c : List ℕ) (o : Option ℕ) → first_and g ≤ n → cut_at a.cuts n ≡ Some c → need (depths_of a.rule g a.rows label roots a.flows) n ≡ o → (l : ℕ) × (l / 2 ≡ n) × IsMarked roots a.cuts l
+  cut_needed_of n c None b e q = absurd (none-some c (sym (a.plan.chosen n ∙ cover_at g (choice_of a.rule g a.rows label roots a.flows) (depths_of a.rule g a.rows label roots a.flows) n None b q) ∙ e))
   cut_needed_of n c (Some r) b e q = elim (a.plan.schedule.whence n r q) [ inl f ↦ (f.root, f.node, root f.is_root) | inr f ↦ reader_needed n r f ]
 
   node_has : (n : ℕ) (c : List ℕ) → cut_at a.cuts n ≡ Some c → HasNode made.luts n c
   node_has n c e =
       let and : IsAnd g n = (plan.is.cuts n c e).0 in
-      let q = cut_needed_of n c (need (depths_of rule g rows label roots a.flows) n) and.0 e refl in
+      let q = cut_needed_of n c (need (depths_of a.rule g a.rows label roots a.flows) n) and.0 e refl in
       let and_l : IsAnd g (q.0 / 2) = subst (λ i. IsAnd g i) (sym q.1) and in
       let h : HasTable made.luts q.0 c = a.tables.all q.0 c (let b : q.0 / 2 < node_count g = and_l.1 in omega arith) q.2 (leaves_and g a.cuts q.0 and_l ∙ subst (λ i. cut_at a.cuts i ≡ Some c) (sym q.1) e) in
       record { table = h.by; in' = h.in'; node = ap (λ i. i / 2) h.lit_is ∙ q.1; leaves = h.leaves_are }

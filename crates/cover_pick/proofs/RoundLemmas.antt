@@ -1,6 +1,6 @@
 -- The rounds that are made are rounds by their own words, and the flows that are found are those of the first plan of the least cost.
-use Rattle.cover_pick.proofs.Common.{◌≡◌, ℕ, ◌/◌, ◌<◌, ◌≤◌, cond, ltb, Bool, true, false, List, [], ◌∷◌, ◌++◌, Option, refl, sym, ap, ◌∙◌, subst, inl, inr, arith, ltb-true, ltb-false, Aig, first_and, node_count, AreNormal, In, In-append, choose, choose_one, row_at, AreLabels, IsCutTable, Rule, FewestLeaves, LeastCost, Scope, AnyHeight, LeastHeight, flow_at, fan_out, allowed, flows_by, IsPlanBy, uses, cost_of, AreCounted, count_at, AreLeaves, AreUsed, PlanValue, AreRounds, NoneBelow, IsFirst, IsPlan, and_depths, depths_of, plan_of, AreFlows, cut_at, IsPlanned, plan_by, next_flows, cost_by, cheaper_flows, three_rounds, least_flows, flows_for}
-use Rattle.cover_pick.proofs.UsesLemmas.{flows_same, flows_fit, no_flows_fit, counted_all, uses_same, cost_same}
+use Rattle.cover_pick.proofs.Common.{◌≡◌, ℕ, ◌/◌, ◌<◌, ◌≤◌, cond, ltb, Bool, true, false, List, [], ◌∷◌, ◌++◌, Option, refl, sym, ap, ◌∙◌, subst, inl, inr, arith, ltb-true, ltb-false, Aig, first_and, node_count, AreNormal, In, In-append, choose, choose_one, Rule, LeastCost, Scope, AnyHeight, LeastHeight, flow_at, flows_by, IsPlanBy, uses, cost_of, count_at, AreLeaves, AreUsed, PlanValue, AreRounds, NoneBelow, IsFirst, plan_of, AreFlows, cut_at, IsPlanned, plan_by, next_flows, cost_by, cheaper_flows, three_rounds, six_rounds, AreSixRounds, IsServing}
+use Rattle.cover_pick.proofs.UsesLemmas.{flows_same, flows_fit, uses_same, cost_same}
 use Rattle.cover_pick.proofs.RuleLemmas.{plan_all, plan_is}
 
 -- the first of the least cost, in a list alone and among more
@@ -8,19 +8,19 @@ module _ (g : Aig) where
   first_alone : (p : PlanValue) → IsFirst g p (p ∷ [])
   first_alone p = inl (refl, λ r i. absurd i)
 
-  first_low : (p : PlanValue) (ps : List PlanValue) → IsFirst g p ps → NoneBelow g (cost_of g p.cover) ps
+  pub first_low : (p : PlanValue) (ps : List PlanValue) → IsFirst g p ps → NoneBelow g (cost_of g p.cover) ps
   first_low p [] f r i = absurd f
   first_low p (q ∷ qs) (inl f) r (inl e) = let x : cost_of g p.cover ≡ cost_of g q.cover = ap (λ (u : PlanValue). cost_of g u.cover) f.0 in let y : cost_of g r.cover ≡ cost_of g q.cover = ap (λ (u : PlanValue). cost_of g u.cover) e in omega arith
   first_low p (q ∷ qs) (inl f) r (inr i) = f.1 r i
   first_low p (q ∷ qs) (inr f) r (inl e) = let x : cost_of g p.cover < cost_of g q.cover = f.0 in let y : cost_of g r.cover ≡ cost_of g q.cover = ap (λ (u : PlanValue). cost_of g u.cover) e in omega arith
   first_low p (q ∷ qs) (inr f) r (inr i) = first_low p qs f.1 r i
 
-  first_left : (p : PlanValue) (ps qs : List PlanValue) → IsFirst g p ps → NoneBelow g (cost_of g p.cover) qs → IsFirst g p (ps ++ qs)
+  pub first_left : (p : PlanValue) (ps qs : List PlanValue) → IsFirst g p ps → NoneBelow g (cost_of g p.cover) qs → IsFirst g p (ps ++ qs)
   first_left p [] qs f none = absurd f
   first_left p (q ∷ ps) qs (inl f) none = inl (f.0, λ r i. elim (In-append ps qs r i) [ inl a ↦ f.1 r a | inr b ↦ none r b ])
   first_left p (q ∷ ps) qs (inr f) none = inr (f.0, first_left p ps qs f.1 none)
 
-  first_right : (p : PlanValue) (ps qs : List PlanValue) → ((r : PlanValue) → In ps r → cost_of g p.cover < cost_of g r.cover) → IsFirst g p qs → IsFirst g p (ps ++ qs)
+  pub first_right : (p : PlanValue) (ps qs : List PlanValue) → ((r : PlanValue) → In ps r → cost_of g p.cover < cost_of g r.cover) → IsFirst g p qs → IsFirst g p (ps ++ qs)
   first_right p [] qs less f = f
   first_right p (q ∷ ps) qs less f = inr (less q (inl refl), first_right p ps qs (λ r i. less r (inr i)) f)
 
@@ -54,37 +54,41 @@ module _ (g : Aig) (rows : List (List (List ℕ))) (label : ℕ → ℕ) (roots 
       first_cheaper (cheaper_flows g rows label roots flows (next_flows g rows label roots scope flows)) (next_flows g rows label roots scope (next_flows g rows label roots scope flows)) (a ∷ b ∷ []) (c ∷ [])
       (first_cheaper flows (next_flows g rows label roots scope flows) (a ∷ []) (b ∷ []) (first_alone g a) (first_alone g b)) (first_alone g c)
 
-  module _ (inside : (l : ℕ) → In roots l → l / 2 < node_count g) (labels : AreLabels g (row_at rows) label) (normal : AreNormal (first_and g) g.pairs) (t : IsCutTable g rows) where
-    planned_by : (flows : List ℕ) → AreFlows g flows → IsPlanBy LeastCost g rows label roots (flow_at flows) (plan_by g rows label roots flows).reqs (plan_by g rows label roots flows).cover
-    planned_by flows fit = plan_is LeastCost g rows label roots flows (plan_of LeastCost g rows label roots flows) (plan_all LeastCost g rows label roots flows inside labels fit normal t (plan_of LeastCost g rows label roots flows) (λ n. refl))
+  -- six rounds, and the first of them of the least cost
+  abbrev pub six : (ℕ → ℕ) → List PlanValue
+  six counts = three AnyHeight (flows_by g rows label AnyHeight counts) ++ three LeastHeight (flows_by g rows label LeastHeight counts)
 
-    three_are : (scope : Scope) → AreRounds g rows label roots scope (fan_out g) (three scope (flows_by g rows label scope (fan_out g)))
-    three_are scope =
-        let first : List ℕ = flows_by g rows label scope (fan_out g) in
+  pub first_six : (counts : ℕ → ℕ) → IsFirst g (plan_by g rows label roots (six_rounds g rows label roots counts)) (six counts)
+  first_six counts =
+      let any : List ℕ = flows_by g rows label AnyHeight counts in
+      let low : List ℕ = flows_by g rows label LeastHeight counts in
+      first_cheaper (three_rounds g rows label roots AnyHeight any) (three_rounds g rows label roots LeastHeight low) (three AnyHeight any) (three LeastHeight low) (first_three AnyHeight any) (first_three LeastHeight low)
+
+  module _ (inside : (l : ℕ) → In roots l → l / 2 < node_count g) (serving : IsServing LeastCost g label rows) (normal : AreNormal (first_and g) g.pairs) where
+    planned_by : (flows : List ℕ) → AreFlows g flows → IsPlanBy LeastCost g rows label roots (flow_at flows) (plan_by g rows label roots flows).reqs (plan_by g rows label roots flows).cover
+    planned_by flows fit = plan_is LeastCost g rows label roots flows (plan_of LeastCost g rows label roots flows) (plan_all LeastCost g rows label roots flows inside serving fit normal (plan_of LeastCost g rows label roots flows) (λ n. refl))
+
+    three_are : (scope : Scope) (counts : ℕ → ℕ) → AreRounds g rows label roots scope counts (three scope (flows_by g rows label scope counts))
+    three_are scope counts =
+        let first : List ℕ = flows_by g rows label scope counts in
         let second : List ℕ = next_flows g rows label roots scope first in (
-          planned_by first (flows_fit g (allowed scope label rows) (fan_out g)),
+          planned_by first (flows_fit g scope label rows counts),
           (
-            planned_by second (flows_fit g (allowed scope label rows) (uses g (plan_of LeastCost g rows label roots first))),
-            (planned_by (next_flows g rows label roots scope second) (flows_fit g (allowed scope label rows) (uses g (plan_of LeastCost g rows label roots second))), tt),
+            planned_by second (flows_fit g scope label rows (uses g (plan_of LeastCost g rows label roots first))),
+            (planned_by (next_flows g rows label roots scope second) (flows_fit g scope label rows (uses g (plan_of LeastCost g rows label roots second))), tt),
           ),
         )
 
-    least_is : (cover : ℕ → Option (List ℕ)) → IsPlanned LeastCost g rows label roots (least_flows g rows label roots) cover → IsPlan LeastCost g rows label roots (and_depths g (depths_of LeastCost g rows label roots (least_flows g rows label roots))) cover
-    least_is cover p =
-        let any : List ℕ = flows_by g rows label AnyHeight (fan_out g) in
-        let low : List ℕ = flows_by g rows label LeastHeight (fan_out g) in
-        record {
-          any = three AnyHeight any;
-          any_three = refl;
-          any_rounds = three_are AnyHeight;
-          low = three LeastHeight low;
-          low_three = refl;
-          low_rounds = three_are LeastHeight;
-          plan = plan_by g rows label roots (least_flows g rows label roots);
-          first = first_cheaper (three_rounds g rows label roots AnyHeight any) (three_rounds g rows label roots LeastHeight low) (three AnyHeight any) (three LeastHeight low) (first_three AnyHeight any) (first_three LeastHeight low);
-          depths = λ n. refl;
-          cuts = p.chosen;
-        }
+    pub six_are : (counts : ℕ → ℕ) → AreSixRounds g rows label roots counts (six counts)
+    six_are counts = record {
+      any = three AnyHeight (flows_by g rows label AnyHeight counts);
+      any_three = refl;
+      any_rounds = three_are AnyHeight counts;
+      low = three LeastHeight (flows_by g rows label LeastHeight counts);
+      low_three = refl;
+      low_rounds = three_are LeastHeight counts;
+      are = refl;
+    }
 
   cheaper_fit : (a b : List ℕ) → AreFlows g a → AreFlows g b → AreFlows g (cheaper_flows g rows label roots a b)
   cheaper_fit a b x y = choose_one (λ fs. AreFlows g fs) (ltb (cost_by g rows label roots b) (cost_by g rows label roots a)) b a y x
@@ -94,8 +98,12 @@ module _ (g : Aig) (rows : List (List (List ℕ))) (label : ℕ → ℕ) (roots 
       let first : List ℕ = flows_by g rows label scope counts in
       let second : List ℕ = next_flows g rows label roots scope first in
       cheaper_fit (cheaper_flows g rows label roots first second) (next_flows g rows label roots scope second)
-      (cheaper_fit first second (flows_fit g (allowed scope label rows) counts) (flows_fit g (allowed scope label rows) (uses g (plan_of LeastCost g rows label roots first))))
-      (flows_fit g (allowed scope label rows) (uses g (plan_of LeastCost g rows label roots second)))
+      (cheaper_fit first second (flows_fit g scope label rows counts) (flows_fit g scope label rows (uses g (plan_of LeastCost g rows label roots first))))
+      (flows_fit g scope label rows (uses g (plan_of LeastCost g rows label roots second)))
+
+  pub six_fit : (counts : ℕ → ℕ) → AreFlows g (six_rounds g rows label roots counts)
+  six_fit counts =
+      cheaper_fit (three_rounds g rows label roots AnyHeight (flows_by g rows label AnyHeight counts)) (three_rounds g rows label roots LeastHeight (flows_by g rows label LeastHeight counts)) (three_fit AnyHeight counts) (three_fit LeastHeight counts)
 
   -- where a round uses what the one before it does, the rounds from it on are the same
   cheaper_self : (flows : List ℕ) → cheaper_flows g rows label roots flows flows ≡ flows
@@ -116,14 +124,11 @@ module _ (g : Aig) (rows : List (List (List ℕ))) (label : ℕ → ℕ) (roots 
   three_stop_late scope flows e =
       ap (λ fs. cheaper_flows g rows label roots (cheaper_flows g rows label roots flows (next_flows g rows label roots scope flows)) fs) e ∙ cheaper_again flows (next_flows g rows label roots scope flows)
 
-  -- the flows over counted fan-outs, and over the counted uses of a cover
-  pub fan_flows : (scope : Scope) (counts : List ℕ) → AreCounted g (node_count g) counts → flows_by g rows label scope (count_at counts) ≡ flows_by g rows label scope (fan_out g)
-  fan_flows scope counts a = flows_same g (allowed scope label rows) (count_at counts) (fan_out g) (node_count g) (λ n l. counted_all g counts a n l)
-
+  -- the flows over the counted uses of a cover
   pub used_flows : (scope : Scope) (flows counts : List ℕ) (cover : ℕ → Option (List ℕ)) → IsPlanned LeastCost g rows label roots flows cover → AreUsed g cover (node_count g) counts
       → flows_by g rows label scope (count_at counts) ≡ next_flows g rows label roots scope flows
   used_flows scope flows counts cover p u =
-      flows_same g (allowed scope label rows) (count_at counts) (uses g (plan_of LeastCost g rows label roots flows)) (node_count g) (λ n l. u.each n l ∙ uses_same cover (plan_of LeastCost g rows label roots flows) n (node_count g) p.chosen)
+      flows_same g scope label rows (count_at counts) (uses g (plan_of LeastCost g rows label roots flows)) (node_count g) (λ n l. u.each n l ∙ uses_same cover (plan_of LeastCost g rows label roots flows) n (node_count g) p.chosen)
 
   -- the cheaper of two covers is that of the cheaper flows
   pub cheaper_planned : (a b : List ℕ) (first second best : List (Option (List ℕ))) → IsPlanned LeastCost g rows label roots a (cut_at first) → IsPlanned LeastCost g rows label roots b (cut_at second)
@@ -136,39 +141,24 @@ module _ (g : Aig) (rows : List (List (List ℕ))) (label : ℕ → ℕ) (roots 
       subst (λ c. IsPlanned LeastCost g rows label roots (cheaper_flows g rows label roots a b) (cut_at c)) (sym is)
       (both_if (λ fs c. IsPlanned LeastCost g rows label roots fs (cut_at c)) (ltb (cost_by g rows label roots b) (cost_by g rows label roots a)) b a second first q p)
 
-pub leaves_there : (rule : Rule) (g : Aig) (rows : List (List (List ℕ))) (label : ℕ → ℕ) (roots flows : List ℕ) (cover : ℕ → Option (List ℕ)) → IsCutTable g rows → IsPlanned rule g rows label roots flows cover → AreLeaves g cover
+pub leaves_there : (rule : Rule) (g : Aig) (rows : List (List (List ℕ))) (label : ℕ → ℕ) (roots flows : List ℕ) (cover : ℕ → Option (List ℕ)) → IsServing rule g label rows → IsPlanned rule g rows label roots flows cover → AreLeaves g cover
 leaves_there rule g rows label roots flows cover t p =
-    let is = (p.least t.k t.are).is in
+    let is = (p.least t.k t.served).is in
     record {
       inside = λ n m c e i. let both = is.cuts n c e in let a : n < node_count g = both.0.1 in let b : m < n = (both.1.below m i).0 in omega arith;
       ascending = λ n c e. (is.cuts n c e).1.ascending;
     }
 
--- The plan of a rule is by its flows.
-pub rule_plan : (rule : Rule) (g : Aig) (rows : List (List (List ℕ))) (label : ℕ → ℕ) (roots : List ℕ) → ((l : ℕ) → In roots l → l / 2 < node_count g) → AreLabels g (row_at rows) label → AreNormal (first_and g) g.pairs → IsCutTable g rows → (cover : ℕ → Option (List ℕ))
-    → IsPlanned rule g rows label roots (flows_for rule g rows label roots) cover → IsPlan rule g rows label roots (and_depths g (depths_of rule g rows label roots (flows_for rule g rows label roots))) cover
-rule_plan FewestLeaves g rows label roots inside labels normal t cover p = plan_is FewestLeaves g rows label roots [] cover p
-rule_plan LeastCost g rows label roots inside labels normal t cover p = least_is g rows label roots inside labels normal t cover p
-
-pub rule_fit : (rule : Rule) (g : Aig) (rows : List (List (List ℕ))) (label : ℕ → ℕ) (roots : List ℕ) → AreFlows g (flows_for rule g rows label roots)
-rule_fit FewestLeaves g rows label roots = no_flows_fit g
-rule_fit LeastCost g rows label roots =
-    cheaper_fit g rows label roots (three_rounds g rows label roots AnyHeight (flows_by g rows label AnyHeight (fan_out g))) (three_rounds g rows label roots LeastHeight (flows_by g rows label LeastHeight (fan_out g)))
-    (three_fit g rows label roots AnyHeight (fan_out g)) (three_fit g rows label roots LeastHeight (fan_out g))
-
 module _ (g : Aig) (rows : List (List (List ℕ))) (label : ℕ → ℕ) (roots : List ℕ) (scope : Scope) where
   -- the flows of the first round
-  abbrev start : List ℕ
-  start = flows_by g rows label scope (fan_out g)
+  abbrev start : List ℕ → List ℕ
+  start counts = flows_by g rows label scope (count_at counts)
 
   abbrev after : List ℕ → List ℕ
   after flows = next_flows g rows label roots scope flows
 
   abbrev Plans : List ℕ → List (Option (List ℕ)) → Type 0
   Plans flows cuts = IsPlanned LeastCost g rows label roots flows (cut_at cuts)
-
-  pub first_plan : (fans : List ℕ) (first : List (Option (List ℕ))) → AreCounted g (node_count g) fans → Plans (flows_by g rows label scope (count_at fans)) first → Plans start first
-  first_plan fans first a p = subst (λ fs. Plans fs first) (fan_flows g rows label roots scope fans a) p
 
   -- a later round, over the uses of the cover before it
   pub later_plan : (flows used seen : List ℕ) (cuts next : List (Option (List ℕ))) → Plans flows cuts → AreUsed g (cut_at cuts) (node_count g) used → seen ≡ used → Plans (flows_by g rows label scope (count_at seen)) next → Plans (after flows) next
@@ -178,11 +168,11 @@ module _ (g : Aig) (rows : List (List (List ℕ))) (label : ℕ → ℕ) (roots 
   same_after : (flows used counts : List ℕ) (cuts : List (Option (List ℕ))) → Plans flows cuts → AreUsed g (cut_at cuts) (node_count g) used → used ≡ counts → flows_by g rows label scope (count_at counts) ≡ flows → after flows ≡ flows
   same_after flows used counts cuts p u e f = sym (used_flows g rows label roots scope flows used (cut_at cuts) p u) ∙ (ap (λ s. flows_by g rows label scope (count_at s)) e ∙ f)
 
-  pub stop_first : (fans used : List ℕ) (first : List (Option (List ℕ))) → AreCounted g (node_count g) fans → Plans start first → AreUsed g (cut_at first) (node_count g) used → used ≡ fans → Plans (three_rounds g rows label roots scope start) first
-  stop_first fans used first a p u e =
-      subst (λ fs. Plans fs first) (sym (three_stop g rows label roots scope start (same_after start used fans first p u e (fan_flows g rows label roots scope fans a)))) p
+  pub stop_first : (counts used : List ℕ) (first : List (Option (List ℕ))) → Plans (start counts) first → AreUsed g (cut_at first) (node_count g) used → used ≡ counts → Plans (three_rounds g rows label roots scope (start counts)) first
+  stop_first counts used first p u e =
+      subst (λ fs. Plans fs first) (sym (three_stop g rows label roots scope (start counts) (same_after (start counts) used counts first p u e refl))) p
 
-  pub stop_second : (used again : List ℕ) (first second best : List (Option (List ℕ))) → Plans start first → AreUsed g (cut_at first) (node_count g) used → Plans (after start) second → AreUsed g (cut_at second) (node_count g) again → again ≡ used
-      → Plans (cheaper_flows g rows label roots start (after start)) best → Plans (three_rounds g rows label roots scope start) best
-  stop_second used again first second best p u q v e b =
-      subst (λ fs. Plans fs best) (sym (three_stop_late g rows label roots scope start (same_after (after start) again used second q v e (used_flows g rows label roots scope start used (cut_at first) p u)))) b
+  pub stop_second : (counts used again : List ℕ) (first second best : List (Option (List ℕ))) → Plans (start counts) first → AreUsed g (cut_at first) (node_count g) used → Plans (after (start counts)) second → AreUsed g (cut_at second) (node_count g) again → again ≡ used
+      → Plans (cheaper_flows g rows label roots (start counts) (after (start counts))) best → Plans (three_rounds g rows label roots scope (start counts)) best
+  stop_second counts used again first second best p u q v e b =
+      subst (λ fs. Plans fs best) (sym (three_stop_late g rows label roots scope (start counts) (same_after (after (start counts)) again used second q v e (used_flows g rows label roots scope (start counts) used (cut_at first) p u)))) b

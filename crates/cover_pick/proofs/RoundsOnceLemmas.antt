@@ -1,5 +1,5 @@
--- A graph has one plan of each rule for its table, labels and roots: rounds from the same counts on agree plan by plan, so the first ones of the least cost do.
-use Rattle.cover_pick.proofs.Common.{◌≡◌, ℕ, ◌<◌, ◌≤◌, List, [], ◌∷◌, ◌++◌, length, Option, refl, sym, ap, ◌∙◌, subst, inl, inr, arith, Aig, node_count, IsCutTable, Rule, FewestLeaves, LeastCost, Scope, AnyHeight, LeastHeight, flow_at, fan_out, flows_by, IsPlanBy, uses, cost_of, PlanValue, AreRounds, NoneBelow, IsFirst, no_flow, IsPlan, zero, suc, ◌+◌, ◌-◌, Some, None, same_Some, none-some, false≢true, IsAnd, In, row_at, lex_trans, lex-same, before_trans, before-same, target, AtMost, IsRuled, HasRuled, IsNeededAbove, IsCheaper, earlier, less, fun_ext, ap₂, subst₂}
+-- A graph has one plan from each supply for its labels and roots: rounds from the same counts on agree plan by plan, so the first ones of the least cost do.
+use Rattle.cover_pick.proofs.Common.{◌≡◌, ℕ, ◌<◌, ◌≤◌, List, [], ◌∷◌, ◌++◌, length, Option, refl, sym, ap, ◌∙◌, subst, inl, inr, arith, Aig, node_count, Rule, FewestLeaves, LeastCost, Scope, AnyHeight, LeastHeight, flow_at, fan_out, flows_by, IsPlanBy, uses, cost_of, PlanValue, AreRounds, NoneBelow, IsFirst, no_flow, IsPlan, zero, suc, ◌+◌, Some, None, same_Some, none-some, false≢true, IsAnd, In, row_at, lex_trans, lex-same, before_trans, before-same, target, AtMost, IsRuled, HasRuled, IsNeededAbove, IsCheaper, earlier, less, fun_ext, ap₂, subst₂, Bool, false, has_cut, AreServing, AreSixRounds, IsMaking, IsLeastOfMakings, Supply, Rows, Sets, HaveOneMaking, IsSupplied}
 use Rattle.cover_pick.specs.Choice.{Precedes, lower, before, fewer}
 use Rattle.cover_pick.proofs.ChoiceLemmas.{above_same, cost_moved}
 
@@ -40,12 +40,12 @@ record PlansAgree (reqs other : ℕ → Option ℕ) (cover more : ℕ → Option
   depth : reqs n ≡ other n
   cut : cover n ≡ more n
 
-module _ (rule : Rule) (g : Aig) (rows : List (List (List ℕ))) (label : ℕ → ℕ) (roots : List ℕ) (flow : ℕ → ℕ) (t : IsCutTable g rows) where
+module _ (rule : Rule) (g : Aig) (rows : List (List (List ℕ))) (label : ℕ → ℕ) (roots : List ℕ) (flow : ℕ → ℕ) (k : ℕ) (t : AreServing g k label rows) where
   leaf_below : (reqs : ℕ → Option ℕ) (cover : ℕ → Option (List ℕ)) → IsPlanBy rule g rows label roots flow reqs cover → (n r m : ℕ) (c : List ℕ) → reqs n ≡ Some r → cover n ≡ Some c → In c m → m < n
   leaf_below reqs cover p n r m c e at i =
       let h : HasRuled rule flow (IsNeededAbove roots cover n) label r (row_at rows n) (cover n) = p.chosen n r e in
       let and : IsAnd g n = p.schedule.nodes n r e in
-      (((t.are.each n and.1 and).only h.cut (ruled_one rule flow (IsNeededAbove roots cover n) label r (row_at rows n) h.cut h.best)).cut.below m (subst (λ x. In x m) (sym (same_Some h.cut c (sym h.is ∙ at))) i)).0
+      ((t.cuts n h.cut and (ruled_one rule flow (IsNeededAbove roots cover n) label r (row_at rows n) h.cut h.best)).below m (subst (λ x. In x m) (sym (same_Some h.cut c (sym h.is ∙ at))) i)).0
 
   -- where two plans agree above a node, the one has no greater depth there
   depth_most : (reqs other : ℕ → Option ℕ) (cover more : ℕ → Option (List ℕ)) → IsPlanBy rule g rows label roots flow reqs cover → IsPlanBy rule g rows label roots flow other more
@@ -103,10 +103,10 @@ module _ (rule : Rule) (g : Aig) (rows : List (List (List ℕ))) (label : ℕ �
     agree_above (suc f) n l = agree_at n (λ m k. agree_above f m (omega arith))
 
     -- A graph has one plan by these flows.
-    pub depths_once : (n : ℕ) → reqs n ≡ other n
+    depths_once : (n : ℕ) → reqs n ≡ other n
     depths_once n = (agree_above (node_count g) n (omega arith)).depth
 
-    pub cuts_once : (n : ℕ) → cover n ≡ more n
+    cuts_once : (n : ℕ) → cover n ≡ more n
     cuts_once n = (agree_above (node_count g) n (omega arith)).cut
 
 module _ (g : Aig) where
@@ -116,19 +116,19 @@ module _ (g : Aig) where
   none_first (x ∷ ps) v none q (inl f) = subst (λ (u : PlanValue). v ≤ cost_of g u.cover) (sym f.0) (none x (inl refl))
   none_first (x ∷ ps) v none q (inr f) = none_first ps v (λ r i. none r (inr i)) q f.1
 
-  first_once : (ps : List PlanValue) (p q : PlanValue) → IsFirst g p ps → IsFirst g q ps → p ≡ q
+  pub first_once : (ps : List PlanValue) (p q : PlanValue) → IsFirst g p ps → IsFirst g q ps → p ≡ q
   first_once [] p q e f = absurd e
   first_once (x ∷ ps) p q (inl e) (inl f) = e.0 ∙ sym f.0
   first_once (x ∷ ps) p q (inl e) (inr f) = absurd (omega (arith, none_first ps (cost_of g p.cover) e.1 q f.1, ap (λ (u : PlanValue). cost_of g u.cover) e.0, f.0))
   first_once (x ∷ ps) p q (inr e) (inl f) = absurd (omega (arith, none_first ps (cost_of g q.cover) f.1 p e.1, ap (λ (u : PlanValue). cost_of g u.cover) f.0, e.0))
   first_once (x ∷ ps) p q (inr e) (inr f) = first_once ps p q e.1 f.1
 
-module _ (g : Aig) (rows : List (List (List ℕ))) (label : ℕ → ℕ) (roots : List ℕ) (t : IsCutTable g rows) where
+module _ (g : Aig) (rows : List (List (List ℕ))) (label : ℕ → ℕ) (roots : List ℕ) (k : ℕ) (t : AreServing g k label rows) where
   -- plans by the same counts are the same
   round_once : (flow : ℕ → ℕ) (p q : PlanValue) → IsPlanBy LeastCost g rows label roots flow p.reqs p.cover → IsPlanBy LeastCost g rows label roots flow q.reqs q.cover → p ≡ q
   round_once flow p q a b =
-      let reqs : p.reqs ≡ q.reqs = fun_ext (depths_once LeastCost g rows label roots flow t p.reqs q.reqs p.cover q.cover a b) in
-      let cover : p.cover ≡ q.cover = fun_ext (cuts_once LeastCost g rows label roots flow t p.reqs q.reqs p.cover q.cover a b) in
+      let reqs : p.reqs ≡ q.reqs = fun_ext (depths_once LeastCost g rows label roots flow k t p.reqs q.reqs p.cover q.cover a b) in
+      let cover : p.cover ≡ q.cover = fun_ext (cuts_once LeastCost g rows label roots flow k t p.reqs q.reqs p.cover q.cover a b) in
       λ i. record { reqs = reqs i; cover = cover i }
 
   rounds_once : (scope : Scope) (counts : ℕ → ℕ) (ps qs : List PlanValue) → length ps ≡ length qs → AreRounds g rows label roots scope counts ps → AreRounds g rows label roots scope counts qs → ps ≡ qs
@@ -138,13 +138,33 @@ module _ (g : Aig) (rows : List (List (List ℕ))) (label : ℕ → ℕ) (roots 
       ap₂ (λ (x : PlanValue) (xs : List PlanValue). x ∷ xs) s (rounds_once scope (uses g p.cover) ps qs (omega arith) a.1 (subst (λ (u : PlanValue). AreRounds g rows label roots scope (uses g u.cover) qs) (sym s) b.1))
   rounds_once scope counts ps qs l a b = absurd (omega arith)
 
--- A graph has one plan of a rule.
-pub plan_once : (rule : Rule) (g : Aig) (rows : List (List (List ℕ))) (label : ℕ → ℕ) (roots : List ℕ) → IsCutTable g rows → (reqs other : ℕ → Option ℕ) (cover more : ℕ → Option (List ℕ)) → IsPlan rule g rows label roots reqs cover → IsPlan rule g rows label roots other more
+  -- six rounds from the same counts on are the same
+  pub six_once : (counts : ℕ → ℕ) (ps qs : List PlanValue) → AreSixRounds g rows label roots counts ps → AreSixRounds g rows label roots counts qs → ps ≡ qs
+  six_once counts ps qs p q =
+      let any : p.any ≡ q.any = rounds_once AnyHeight counts p.any q.any (p.any_three ∙ sym q.any_three) p.any_rounds q.any_rounds in
+      let low : p.low ≡ q.low = rounds_once LeastHeight counts p.low q.low (p.low_three ∙ sym q.low_three) p.low_rounds q.low_rounds in
+      p.are ∙ (ap₂ (λ (xs ys : List PlanValue). xs ++ ys) any low ∙ sym q.are)
+
+module _ (g : Aig) (k : ℕ) (lows : ℕ → List ℕ) (label : ℕ → ℕ) (roots : List ℕ) (one : HaveOneMaking g k label lows) where
+  -- a graph has one set for each node, so it has one making for the same counts and favoured nodes
+  making_once : (counts : ℕ → ℕ) (favoured : ℕ → Bool) (ps qs : List PlanValue) → IsMaking g k lows label roots counts favoured ps → IsMaking g k lows label roots counts favoured qs → ps ≡ qs
+  making_once counts favoured ps qs p q =
+      let sets : p.sets ≡ q.sets = one.once counts favoured p.sets q.sets p.made q.made in
+      six_once g q.sets label roots k (one.serves counts favoured q.sets q.made) counts ps qs (subst (λ rows. AreSixRounds g rows label roots counts ps) sets p.rounds) q.rounds
+
+  least_once : (reqs other : ℕ → Option ℕ) (cover more : ℕ → Option (List ℕ)) (p : IsLeastOfMakings g k lows label roots reqs cover) (q : IsLeastOfMakings g k lows label roots other more) → p.plan ≡ q.plan
+  least_once reqs other cover more p q =
+      let first : p.first ≡ q.first = making_once (fan_out g) (λ m. false) p.first q.first p.first_making q.first_making in
+      let best : p.best ≡ q.best = first_once g q.first p.best q.best (subst (λ xs. IsFirst g p.best xs) first p.best_is) q.best_is in
+      let second : p.second ≡ q.second = making_once (uses g q.best.cover) (λ m. has_cut (q.best.cover m)) p.second q.second
+      (subst (λ (b : PlanValue). IsMaking g k lows label roots (uses g b.cover) (λ m. has_cut (b.cover m)) p.second) best p.second_making) q.second_making in
+      first_once g (q.first ++ q.second) p.plan q.plan (subst₂ (λ (xs ys : List PlanValue). IsFirst g p.plan (xs ++ ys)) first second p.plan_is) q.plan_is
+
+-- A graph has one plan from a supply.
+pub plan_once : (supply : Supply) (g : Aig) (label : ℕ → ℕ) (roots : List ℕ) → IsSupplied supply g label → (reqs other : ℕ → Option ℕ) (cover more : ℕ → Option (List ℕ)) → IsPlan supply g label roots reqs cover → IsPlan supply g label roots other more
     → (reqs ≡ other) × (cover ≡ more)
-plan_once FewestLeaves g rows label roots t reqs other cover more p q =
-    (fun_ext (depths_once FewestLeaves g rows label roots no_flow t reqs other cover more p q), fun_ext (cuts_once FewestLeaves g rows label roots no_flow t reqs other cover more p q))
-plan_once LeastCost g rows label roots t reqs other cover more p q =
-    let any : p.any ≡ q.any = rounds_once g rows label roots t AnyHeight (fan_out g) p.any q.any (p.any_three ∙ sym q.any_three) p.any_rounds q.any_rounds in
-    let low : p.low ≡ q.low = rounds_once g rows label roots t LeastHeight (fan_out g) p.low q.low (p.low_three ∙ sym q.low_three) p.low_rounds q.low_rounds in
-    let s : p.plan ≡ q.plan = first_once g (q.any ++ q.low) p.plan q.plan (subst₂ (λ (xs ys : List PlanValue). IsFirst g p.plan (xs ++ ys)) any low p.first) q.first in
+plan_once (Rows rows) g label roots t reqs other cover more p q =
+    (fun_ext (depths_once FewestLeaves g rows label roots no_flow t.k t.served.serving reqs other cover more p q), fun_ext (cuts_once FewestLeaves g rows label roots no_flow t.k t.served.serving reqs other cover more p q))
+plan_once (Sets k lows) g label roots t reqs other cover more p q =
+    let s : p.plan ≡ q.plan = least_once g k lows label roots t reqs other cover more p q in
     (fun_ext (λ n. p.depths n ∙ (ap (λ (u : PlanValue). u.reqs n) s ∙ sym (q.depths n))), fun_ext (λ n. p.cuts n ∙ (ap (λ (u : PlanValue). u.cover n) s ∙ sym (q.cuts n))))

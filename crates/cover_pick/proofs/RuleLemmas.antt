@@ -1,5 +1,5 @@
 -- What is found by a rule: a cut of the node that is low enough, wherever there is one, and the one that the rule's own words tell.
-use Rattle.cover_pick.proofs.Common.{◌≡◌, ℕ, ◌-◌, ◌+◌, ◌/◌, ◌<◌, ◌≤◌, List, length, Option, Some, None, refl, sym, ap, ◌∙◌, subst, inl, inr, ◌⊎◌, arith, none-some, cases_lt, Aig, first_and, node_count, IsAnd, In, IsOrdered, AreRows, row_at, height, AreLabels, Rule, FewestLeaves, LeastCost, flow_at, IsNeededAbove, IsRuled, target, cut_cost, need, walk_by, met_at, roots_required, cover_of, AreBestPlaces, Chooses, depths_of, AreFlows, zero, suc, [], ◌∷◌, get_or-set_same, get_or-set_other, slice_set, get_or_past, length-set, cases_eq, cut_at, place_at, cut_of, cuts_from, cuts_of, found_for, ltb, ◌*◌, get_or, ltb-true, AreNormal, Lit, AreMinimal, IsCutTable, choose, lits_of, AreRoots, chosen, plan_of, IsLeastCover, IsPlanned, Bool, false, cond, same_Some, AtMost, IsPlanBy, and_depths, In-map, In-get_or, fun_ext}
+use Rattle.cover_pick.proofs.Common.{IsServing, IsServed, ◌≡◌, ℕ, ◌-◌, ◌+◌, ◌/◌, ◌<◌, ◌≤◌, List, length, Option, Some, None, refl, sym, ap, ◌∙◌, subst, inl, inr, ◌⊎◌, arith, none-some, cases_lt, Aig, first_and, node_count, IsAnd, In, IsOrdered, row_at, height, Rule, FewestLeaves, LeastCost, flow_at, IsNeededAbove, IsRuled, target, cut_cost, need, walk_by, met_at, roots_required, cover_of, AreBestPlaces, Chooses, depths_of, AreFlows, zero, suc, [], ◌∷◌, get_or-set_same, get_or-set_other, slice_set, get_or_past, length-set, cases_eq, cut_at, place_at, cut_of, cuts_from, cuts_of, found_for, ltb, ◌*◌, get_or, ltb-true, AreNormal, Lit, choose, lits_of, AreRoots, chosen, plan_of, IsLeastCover, IsPlanned, Bool, false, cond, same_Some, AtMost, IsPlanBy, and_depths, In-map, In-get_or, fun_ext}
 use Rattle.cover_pick.specs.Ruled.{or_empty, found_in, choice_by, found_from, found_of, choice_of}
 use Rattle.cover_pick.proofs.ChoiceLemmas.{best_is, best_in, best_low, best_found, cheapest_found, cheapest_in, cheapest_low, cheapest_is}
 use Rattle.cover_pick.proofs.WalkLemmas.{walk_same, Walked, start_walked, required_walked, Met, met, needed_above, above_needed, schedule_is, template_within, template_cover, target_least, depth_le_required, need_in}
@@ -31,38 +31,39 @@ found_there LeastCost label flows reqs row r b i l =
 
 -- what is found by its rule's own words, where what is needed is what has a required depth
 pub ruled_is : (rule : Rule) (flows : List ℕ) (reqs : List (Option ℕ)) (needed : ℕ → Type 0) → ((m r : ℕ) → need reqs m ≡ Some r → needed m)
-    → ((m : ℕ) → needed m → (flow_at flows m ≡ 0) ⊎ ((r : ℕ) × (need reqs m ≡ Some r))) → (label : ℕ → ℕ) (r : ℕ) (row : List (List ℕ)) (c : List ℕ) → IsOrdered row
+    → ((m : ℕ) → needed m → (flow_at flows m ≡ 0) ⊎ ((r : ℕ) × (need reqs m ≡ Some r))) → (label : ℕ → ℕ) (r : ℕ) (row : List (List ℕ)) (c : List ℕ) → (rule ≡ FewestLeaves → IsOrdered row)
     → found_in rule label flows reqs row r ≡ Some c → IsRuled rule (flow_at flows) needed label r row c
-ruled_is FewestLeaves flows reqs needed to from label r row c up e = best_is label r row c up e
-ruled_is LeastCost flows reqs needed to from label r row c up e = cheapest_is flows reqs needed to from label r row c up e
+ruled_is FewestLeaves flows reqs needed to from label r row c up e = best_is label r row c (up refl) e
+ruled_is LeastCost flows reqs needed to from label r row c up e = cheapest_is flows reqs needed to from label r row c e
 
 module _ (rule : Rule) (g : Aig) (rows : List (List (List ℕ))) (label : ℕ → ℕ) (roots flows : List ℕ) where
   -- what is needed when the walk comes to a node
   abbrev pub state_of : ℕ → List (Option ℕ)
   state_of n = met_at (choice_by rule rows label flows) (first_and g) (length g.pairs) (roots_required g roots (target g label roots)) n
 
-  pub found_at : AreLabels g (row_at rows) label → (n r : ℕ) → IsAnd g n → label n ≤ r → Found rule label flows (state_of n) (row_at rows n) r
-  found_at labels n r and l =
-      let m = labels.met n and in
+  pub found_at : IsServing rule g label rows → (n r : ℕ) → IsAnd g n → label n ≤ r → Found rule label flows (state_of n) (row_at rows n) r
+  found_at serving n r and l =
+      let m = serving.served.serving.low n and in
+      let low : height label m.0 ≡ label n = m.2 in
       found_there rule label flows (state_of n) (row_at rows n) r m.0 m.1 (omega arith)
 
   -- the choice is one of the cuts, low enough, wherever the label is
-  pub choice_keeps : AreLabels g (row_at rows) label → Chooses g (row_at rows) label (choice_of rule g rows label roots flows)
-  choice_keeps labels = record {
-    cut = λ n r and l. let f = found_at labels n r and l in subst (λ o. In (row_at rows n) (or_empty o)) (sym f.is) f.one;
-    low = λ n r and l. let f = found_at labels n r and l in subst (λ o. height label (or_empty o) ≤ r) (sym f.is) f.low;
+  pub choice_keeps : IsServing rule g label rows → Chooses g (row_at rows) label (choice_of rule g rows label roots flows)
+  choice_keeps serving = record {
+    cut = λ n r and l. let f = found_at serving n r and l in subst (λ o. In (row_at rows n) (or_empty o)) (sym f.is) f.one;
+    low = λ n r and l. let f = found_at serving n r and l in subst (λ o. height label (or_empty o) ≤ r) (sym f.is) f.low;
   }
 
-  module _ (inside : (l : ℕ) → In roots l → l / 2 < node_count g) (labels : AreLabels g (row_at rows) label) (k : ℕ) (are : AreRows g k (node_count g) rows) where
+  module _ (inside : (l : ℕ) → In roots l → l / 2 < node_count g) (serving : IsServing rule g label rows) where
     pub walked : Walked g label (choice_of rule g rows label roots flows) roots (target g label roots) 0 (depths_of rule g rows label roots flows)
-    walked = required_walked g k roots (row_at rows) label (choice_of rule g rows label roots flows) inside (λ n and. are.each n and.1 and) (choice_keeps labels)
+    walked = required_walked g serving.k roots (row_at rows) label (choice_of rule g rows label roots flows) inside serving.served.serving.cuts (choice_keeps serving)
 
     met_node : (n : ℕ) → IsAnd g n → (j : ℕ) → first_and g + j ≡ n → Met g label (choice_of rule g rows label roots flows) roots (target g label roots) j (state_of n) (depths_of rule g rows label roots flows)
     met_node n and j e =
         subst (λ i. Met g label (choice_of rule g rows label roots flows) roots (target g label roots) j (state_of i) (depths_of rule g rows label roots flows)) e
-        (met g k roots (row_at rows) label (choice_of rule g rows label roots flows) inside (λ i b. are.each i b.1 b) (choice_keeps labels) (choice_by rule rows label flows) (target g label roots) (length g.pairs)
+        (met g serving.k roots (row_at rows) label (choice_of rule g rows label roots flows) inside serving.served.serving.cuts (choice_keeps serving) (choice_by rule rows label flows) (target g label roots) (length g.pairs)
         (roots_required g roots (target g label roots)) (omega arith)
-        (start_walked g k roots (row_at rows) label (choice_of rule g rows label roots flows) inside (λ i b. are.each i b.1 b) (choice_keeps labels)) (λ i r l. refl) j (omega arith))
+        (start_walked g serving.k roots (row_at rows) label (choice_of rule g rows label roots flows) inside serving.served.serving.cuts (choice_keeps serving)) (λ i r l. refl) j (omega arith))
 
     -- The choice of a needed node, by the rule's own words.
     pub choice_ruled : AreFlows g flows → (n r : ℕ) → IsAnd g n → label n ≤ r
@@ -74,21 +75,21 @@ module _ (rule : Rule) (g : Aig) (rows : List (List (List ℕ))) (label : ℕ �
         let j : ℕ = n - first_and g in
         let here : first_and g + j ≡ n = omega (arith, and.0) in
         let at : Met g label choice roots (target g label roots) j (state_of n) last = met_node n and j here in
-        let f = found_at labels n r and l in
+        let f = found_at serving n r and l in
         let to : (m s : ℕ) → need (state_of n) m ≡ Some s → IsNeededAbove roots plan n m =
         (λ m s e. subst (λ i. IsNeededAbove roots plan i m) here
-        (needed_above g k roots (row_at rows) label choice inside (λ i b. are.each i b.1 b) (choice_keeps labels) (target g label roots) j (state_of n) last walked at m s e)) in
+        (needed_above g serving.k roots (row_at rows) label choice inside serving.served.serving.cuts (choice_keeps serving) (target g label roots) j (state_of n) last walked at m s e)) in
         let from : (m : ℕ) → IsNeededAbove roots plan n m → (flow_at flows m ≡ 0) ⊎ ((s : ℕ) × (need (state_of n) m ≡ Some s)) =
         (λ m x. elim (cases_lt m (first_and g)) [
           | inl low ↦ inl (fit.sources m low)
           | inr high ↦ elim (cases_lt m (node_count g)) [
-            | inl b ↦ inr (above_needed g k roots (row_at rows) label choice inside (λ i b. are.each i b.1 b) (choice_keeps labels) (target g label roots) j (state_of n) last walked at m (high, b)
+            | inl b ↦ inr (above_needed g serving.k roots (row_at rows) label choice inside serving.served.serving.cuts (choice_keeps serving) (target g label roots) j (state_of n) last walked at m (high, b)
                 (subst (λ i. IsNeededAbove roots plan i m) (sym here) x))
             | inr past ↦ inl (fit.past m past)
           ]
         ]) in
         subst (λ o. IsRuled rule (flow_at flows) (IsNeededAbove roots plan n) label r (row_at rows n) (or_empty o)) (sym f.is)
-        (ruled_is rule flows (state_of n) (IsNeededAbove roots plan n) to from label r (row_at rows n) f.cut (are.each n and.1 and).ordered f.is)
+        (ruled_is rule flows (state_of n) (IsNeededAbove roots plan n) to from label r (row_at rows n) f.cut (λ e. serving.ordered e n and) f.is)
 
 -- The places that the walk finds are those of the choices.
 pub places_chosen : (rule : Rule) (g : Aig) (rows : List (List (List ℕ))) (label : ℕ → ℕ) (roots flows : List ℕ) (start last places : List (Option ℕ)) → start ≡ roots_required g roots (target g label roots)
@@ -129,60 +130,59 @@ cover_source g choice reqs n l = grind arith
 cover_past : (g : Aig) (choice : ℕ → ℕ → List ℕ) (reqs : List (Option ℕ)) (n : ℕ) → length reqs ≡ node_count g → node_count g ≤ n → cover_of g choice reqs n ≡ None
 cover_past g choice reqs n e l = grind (arith, ltb, get_or_past)
 
--- the facts of a plan, of which the table's number k and the labels are given
-module _ (rule : Rule) (g : Aig) (rows : List (List (List ℕ))) (label : ℕ → ℕ) (roots flows : List ℕ) (inside : (l : ℕ) → In roots l → l / 2 < node_count g) (labels : AreLabels g (row_at rows) label) where
-  pub depths_size : (k : ℕ) → AreRows g k (node_count g) rows → length (depths_of rule g rows label roots flows) ≡ node_count g
-  depths_size k are = (walked rule g rows label roots flows inside labels k are).size
+-- the facts of a plan over rows that serve
+module _ (rule : Rule) (g : Aig) (rows : List (List (List ℕ))) (label : ℕ → ℕ) (roots flows : List ℕ) (inside : (l : ℕ) → In roots l → l / 2 < node_count g) (serving : IsServing rule g label rows) where
+  pub depths_size : length (depths_of rule g rows label roots flows) ≡ node_count g
+  depths_size = (walked rule g rows label roots flows inside serving).size
 
   -- the cut that is found for a node's required depth is its choice
-  best_chosen : (k : ℕ) → AreRows g k (node_count g) rows → (n : ℕ) (o : Option ℕ) → IsAnd g n → need (depths_of rule g rows label roots flows) n ≡ o → found_for (found_of rule g rows label roots flows n) o ≡ chosen (choice_of rule g rows label roots flows) n o
-  best_chosen k are n None and e = refl
-  best_chosen k are n (Some r) and e =
-      let f = found_at rule g rows label roots flows labels n r and ((walked rule g rows label roots flows inside labels k are).low n r and e) in
+  best_chosen : (n : ℕ) (o : Option ℕ) → IsAnd g n → need (depths_of rule g rows label roots flows) n ≡ o → found_for (found_of rule g rows label roots flows n) o ≡ chosen (choice_of rule g rows label roots flows) n o
+  best_chosen n None and e = refl
+  best_chosen n (Some r) and e =
+      let f = found_at rule g rows label roots flows serving n r and ((walked rule g rows label roots flows inside serving).low n r and e) in
       f.is ∙ ap (λ o. Some (or_empty o)) (sym f.is)
 
   -- The cuts at the best places are the plan.
-  pub places_plan : (k : ℕ) → AreRows g k (node_count g) rows → (places : List (Option ℕ)) → AreBestPlaces g rows (found_of rule g rows label roots flows) (depths_of rule g rows label roots flows) (first_and g) places
+  pub places_plan : (places : List (Option ℕ)) → AreBestPlaces g rows (found_of rule g rows label roots flows) (depths_of rule g rows label roots flows) (first_and g) places
       → (n : ℕ) → n < node_count g → cut_at (cuts_of rows places) n ≡ plan_of rule g rows label roots flows n
-  places_plan k are places best n l =
+  places_plan places best n l =
       let depths : List (Option ℕ) = depths_of rule g rows label roots flows in
       let choice : ℕ → ℕ → List ℕ = choice_of rule g rows label roots flows in
       cut_is rows places n ∙ elim (cases_lt n (first_and g)) [
         | inl s ↦ ap (λ p. cut_of (row_at rows n) p) (best.below n s) ∙ sym (cover_source g choice depths n s)
-        | inr a ↦ best.best n a l ∙ (best_chosen k are n (need depths n) (a, l) refl ∙ sym (cover_at g choice depths n (need depths n) a refl))
+        | inr a ↦ best.best n a l ∙ (best_chosen n (need depths n) (a, l) refl ∙ sym (cover_at g choice depths n (need depths n) a refl))
       ]
 
-  plan_least : AreNormal (first_and g) g.pairs → (k : ℕ) → AreRows g k (node_count g) rows → IsLeastCover g k roots (plan_of rule g rows label roots flows) (target g label roots)
-  plan_least normal k are =
+  plan_least : (k : ℕ) → IsServed g k label rows → IsLeastCover g k roots (plan_of rule g rows label roots flows) (target g label roots)
+  plan_least k served =
       let choice : ℕ → ℕ → List ℕ = choice_of rule g rows label roots flows in
-      let chooses : Chooses g (row_at rows) label choice = choice_keeps rule g rows label roots flows labels in
-      let minimal : (n : ℕ) → IsAnd g n → AreMinimal g k n (row_at rows n) = (λ n and. are.each n and.1 and) in
-      let is_cover = template_cover g k roots (row_at rows) label choice inside minimal chooses in
-      let is_within = template_within g k roots (row_at rows) label choice inside minimal chooses in
+      let chooses : Chooses g (row_at rows) label choice = choice_keeps rule g rows label roots flows serving in
+      let is_cover = template_cover g k roots (row_at rows) label choice inside served.serving.cuts chooses in
+      let is_within = template_within g k roots (row_at rows) label choice inside served.serving.cuts chooses in
       record {
         is = is_cover;
         within = is_within;
-        least = record { cover = plan_of rule g rows label roots flows; is = is_cover; within = is_within; least = target_least g k roots (row_at rows) label choice inside minimal chooses normal labels };
+        least = record { cover = plan_of rule g rows label roots flows; is = is_cover; within = is_within; least = target_least g k roots (row_at rows) label choice inside served.serving.cuts chooses served.heights };
       }
 
   -- what is planned is known of each cover that is the plan
-  pub plan_all : AreFlows g flows → AreNormal (first_and g) g.pairs → IsCutTable g rows → (cover : ℕ → Option (List ℕ)) → ((n : ℕ) → cover n ≡ plan_of rule g rows label roots flows n) → IsPlanned rule g rows label roots flows cover
-  plan_all fit normal t cover same = subst (IsPlanned rule g rows label roots flows) (fun_ext (λ n. sym (same n))) (record {
+  pub plan_all : AreFlows g flows → AreNormal (first_and g) g.pairs → (cover : ℕ → Option (List ℕ)) → ((n : ℕ) → cover n ≡ plan_of rule g rows label roots flows n) → IsPlanned rule g rows label roots flows cover
+  plan_all fit normal cover same = subst (IsPlanned rule g rows label roots flows) (fun_ext (λ n. sym (same n))) (record {
     chosen = λ n. refl;
-    schedule = schedule_is g t.k roots (row_at rows) label (choice_of rule g rows label roots flows) inside (λ n and. t.are.each n and.1 and) (choice_keeps rule g rows label roots flows labels) (target g label roots) (depths_of rule g rows label roots flows)
-        (walked rule g rows label roots flows inside labels t.k t.are);
-    best = λ n r and e. choice_ruled rule g rows label roots flows inside labels t.k t.are fit n r and ((walked rule g rows label roots flows inside labels t.k t.are).low n r and e);
-    size = depths_size t.k t.are;
-    timely = depth_le_required g t.k roots (row_at rows) label (choice_of rule g rows label roots flows) inside (λ n and. t.are.each n and.1 and) (choice_keeps rule g rows label roots flows labels) (target g label roots) (depths_of rule g rows label roots flows)
-        (walked rule g rows label roots flows inside labels t.k t.are);
-    least = plan_least normal;
+    schedule = schedule_is g serving.k roots (row_at rows) label (choice_of rule g rows label roots flows) inside serving.served.serving.cuts (choice_keeps rule g rows label roots flows serving) (target g label roots) (depths_of rule g rows label roots flows)
+        (walked rule g rows label roots flows inside serving);
+    best = λ n r and e. choice_ruled rule g rows label roots flows inside serving fit n r and ((walked rule g rows label roots flows inside serving).low n r and e);
+    size = depths_size;
+    timely = depth_le_required g serving.k roots (row_at rows) label (choice_of rule g rows label roots flows) inside serving.served.serving.cuts (choice_keeps rule g rows label roots flows serving) (target g label roots) (depths_of rule g rows label roots flows)
+        (walked rule g rows label roots flows inside serving);
+    least = plan_least;
   })
 
   -- all nodes' cuts are the plan, where those of the graph are
-  pub cuts_all : IsCutTable g rows → (cuts : List (Option (List ℕ))) → length cuts ≡ node_count g → ((n : ℕ) → n < node_count g → cut_at cuts n ≡ plan_of rule g rows label roots flows n) → (n : ℕ) → cut_at cuts n ≡ plan_of rule g rows label roots flows n
-  cuts_all t cuts e below n = elim (cases_lt n (node_count g)) [
+  pub cuts_all : (cuts : List (Option (List ℕ))) → length cuts ≡ node_count g → ((n : ℕ) → n < node_count g → cut_at cuts n ≡ plan_of rule g rows label roots flows n) → (n : ℕ) → cut_at cuts n ≡ plan_of rule g rows label roots flows n
+  cuts_all cuts e below n = elim (cases_lt n (node_count g)) [
     | inl l ↦ below n l
-    | inr l ↦ get_or_past cuts n None (omega arith) ∙ sym (cover_past g (choice_of rule g rows label roots flows) (depths_of rule g rows label roots flows) n (depths_size t.k t.are) l)
+    | inr l ↦ get_or_past cuts n None (omega arith) ∙ sym (cover_past g (choice_of rule g rows label roots flows) (depths_of rule g rows label roots flows) n depths_size l)
   ]
 
 pub roots_inside : (g : Aig) (roots : List ℕ) → AreRoots g roots → (l : ℕ) → In roots l → l / 2 < node_count g

@@ -1,5 +1,5 @@
 -- The uses of nodes as they are counted, and covers that agree.
-use Rattle.cover_pick.proofs.Common.{◌≡◌, ℕ, zero, suc, ◌+◌, ◌<◌, ◌≤◌, List, [], ◌∷◌, length, Option, Some, None, replicate, drop, get_or, refl, sym, ap, ◌∙◌, subst, inl, inr, arith, length-replicate, get_or-replicate, drop_more, sum_by-cons, cases_eq, eq-eqb, ne_eqb, choose_one, Aig, node_count, In, IsAscending, or_empty, times_in, times_leaf, uses_below, price, cost_below, count_at, count_one, count_each, AreLeaves, AreUsed, ◌-◌, ◌*◌, ◌/◌, eqb, cond, get_or-set_same, get_or-set_other, take, sum_by, length-set, take_all, get_or_past, sum_by_more, get_or_from_slice_get, cases_lt, choose, first_and, pair_of, Pair, times_read, fan_out, count_pair, AreCounted, rules, min, max, ltb, Bool, true, false, ◌++◌, div-le_self, length_push, get_or_append_left, get_or_push, drop_all, ltb-false, choose_both, row_at, height, MOST_FLOW, flow_at, cut_flow, least_flow, node_flow, flows_below, Scope, AnyHeight, LeastHeight, cuts_within, allowed_row, allowed_from, allowed_flow, AreCapped, AreFlows, fun_ext}
+use Rattle.cover_pick.proofs.Common.{◌≡◌, ℕ, zero, suc, ◌+◌, ◌<◌, ◌≤◌, List, [], ◌∷◌, length, Option, Some, None, replicate, drop, get_or, refl, sym, ap, ◌∙◌, subst, inl, inr, arith, length-replicate, get_or-replicate, drop_more, sum_by-cons, cases_eq, eq-eqb, ne_eqb, choose_one, Aig, node_count, In, IsAscending, or_empty, times_in, times_leaf, uses_below, price, cost_below, count_at, count_one, count_each, AreLeaves, AreUsed, ◌-◌, ◌*◌, ◌/◌, eqb, cond, get_or-set_same, get_or-set_other, take, sum_by, length-set, take_all, get_or_past, sum_by_more, get_or_from_slice_get, cases_lt, choose, first_and, pair_of, Pair, times_read, fan_out, count_pair, AreCounted, rules, min, max, ltb, Bool, true, false, ◌++◌, div-le_self, length_push, get_or_append_left, get_or_push, drop_all, ltb-false, choose_both, row_at, height, MOST_FLOW, flow_at, cut_flow, least_flow, node_flow, flows_below, Scope, AnyHeight, LeastHeight, cuts_within, allowed_row, allowed_flow, AreCapped, AreFlows, fun_ext, AreNormal, slice_get, slice_get_within, uses, favoured_in, has_cut, cut_at}
 
 abbrev pub one_if : ℕ → ℕ → ℕ
 one_if n m = cond (eqb n m) 1 0
@@ -152,11 +152,11 @@ pub least_capped : (flows : List ℕ) (cs : List (List ℕ)) → least_flow flow
 least_capped flows [] = omega arith
 least_capped flows (c ∷ cs) = let a : least_flow flows cs ≤ MOST_FLOW = least_capped flows cs in omega arith
 
-node_capped : (g : Aig) (rows : List (List (List ℕ))) (fans : ℕ → ℕ) (flows : List ℕ) (n : ℕ) → node_flow g rows fans flows n ≤ MOST_FLOW
-node_capped g rows fans flows n =
-    choose (λ v. v ≤ MOST_FLOW) (ltb n (first_and g)) 0 (least_flow flows (row_at rows n) / max 1 (fans n)) (λ _. omega arith)
-    (λ _. let a : least_flow flows (row_at rows n) ≤ MOST_FLOW = least_capped flows (row_at rows n) in
-    let b : least_flow flows (row_at rows n) / max 1 (fans n) ≤ least_flow flows (row_at rows n) = div-le_self (least_flow flows (row_at rows n)) (max 1 (fans n)) in omega arith)
+node_capped : (g : Aig) (scope : Scope) (label : ℕ → ℕ) (rows : List (List (List ℕ))) (fans : ℕ → ℕ) (flows : List ℕ) (n : ℕ) → node_flow g scope label rows fans flows n ≤ MOST_FLOW
+node_capped g scope label rows fans flows n =
+    choose (λ v. v ≤ MOST_FLOW) (ltb n (first_and g)) 0 (least_flow flows (allowed_row scope label (label n) (row_at rows n)) / max 1 (fans n)) (λ _. omega arith)
+    (λ _. let a : least_flow flows (allowed_row scope label (label n) (row_at rows n)) ≤ MOST_FLOW = least_capped flows (allowed_row scope label (label n) (row_at rows n)) in
+    let b : least_flow flows (allowed_row scope label (label n) (row_at rows n)) / max 1 (fans n) ≤ least_flow flows (allowed_row scope label (label n) (row_at rows n)) = div-le_self (least_flow flows (allowed_row scope label (label n) (row_at rows n))) (max 1 (fans n)) in omega arith)
 
 pub capped_push : (flows : List ℕ) (flow : ℕ) → AreCapped flows → flow ≤ MOST_FLOW → AreCapped (flows ++ flow ∷ [])
 capped_push flows flow a l m =
@@ -169,86 +169,133 @@ capped_push flows flow a l m =
       ]
     ]
 
-module _ (g : Aig) (rows : List (List (List ℕ))) (fans : ℕ → ℕ) where
-  flows_long : (k : ℕ) → length (flows_below g rows fans k) ≡ k
+module _ (g : Aig) (scope : Scope) (label : ℕ → ℕ) (rows : List (List (List ℕ))) (fans : ℕ → ℕ) where
+  flows_long : (k : ℕ) → length (flows_below g scope label rows fans k) ≡ k
   flows_long zero = refl
-  flows_long (suc k) = length_push (flows_below g rows fans k) (node_flow g rows fans (flows_below g rows fans k) k) ∙ (let e : length (flows_below g rows fans k) ≡ k = flows_long k in let f : length (flows_below g rows fans k) + 1 ≡ suc k = omega arith in f)
+  flows_long (suc k) = length_push (flows_below g scope label rows fans k) (node_flow g scope label rows fans (flows_below g scope label rows fans k) k) ∙ (let e : length (flows_below g scope label rows fans k) ≡ k = flows_long k in let f : length (flows_below g scope label rows fans k) + 1 ≡ suc k = omega arith in f)
 
-  pub flows_capped : (k : ℕ) → AreCapped (flows_below g rows fans k)
+  pub flows_capped : (k : ℕ) → AreCapped (flows_below g scope label rows fans k)
   flows_capped zero m = omega arith
-  flows_capped (suc k) m = capped_push (flows_below g rows fans k) (node_flow g rows fans (flows_below g rows fans k) k) (flows_capped k) (node_capped g rows fans (flows_below g rows fans k) k) m
+  flows_capped (suc k) m = capped_push (flows_below g scope label rows fans k) (node_flow g scope label rows fans (flows_below g scope label rows fans k) k) (flows_capped k) (node_capped g scope label rows fans (flows_below g scope label rows fans k) k) m
 
   -- the flow of a node is that over the flows below it
-  pub flow_is : (k n : ℕ) → n < k → flow_at (flows_below g rows fans k) n ≡ node_flow g rows fans (flows_below g rows fans n) n
+  pub flow_is : (k n : ℕ) → n < k → flow_at (flows_below g scope label rows fans k) n ≡ node_flow g scope label rows fans (flows_below g scope label rows fans n) n
   flow_is zero n l = absurd (omega arith)
   flow_is (suc k) n l =
-      let below : List ℕ = flows_below g rows fans k in
+      let below : List ℕ = flows_below g scope label rows fans k in
       let long : length below ≡ k = flows_long k in
       elim (cases_lt n k) [
-        | inl b ↦ get_or_append_left below (node_flow g rows fans below k ∷ []) 0 n (omega arith) ∙ flow_is k n b
+        | inl b ↦ get_or_append_left below (node_flow g scope label rows fans below k ∷ []) 0 n (omega arith) ∙ flow_is k n b
         | inr b ↦ (let same : n ≡ k = omega arith in
-            get_or_push below (node_flow g rows fans below k) 0 n (let e : length below ≡ n = omega arith in e) ∙ ap (λ i. node_flow g rows fans (flows_below g rows fans i) i) (sym same))
+            get_or_push below (node_flow g scope label rows fans below k) 0 n (let e : length below ≡ n = omega arith in e) ∙ ap (λ i. node_flow g scope label rows fans (flows_below g scope label rows fans i) i) (sym same))
       ]
 
   -- a source has no flow, nor has what is no node
-  pub source_free : (k n : ℕ) → n < first_and g → flow_at (flows_below g rows fans k) n ≡ 0
+  pub source_free : (k n : ℕ) → n < first_and g → flow_at (flows_below g scope label rows fans k) n ≡ 0
   source_free k n s =
       elim (cases_lt n k) [
-        | inl l ↦ flow_is k n l ∙ choose (λ v. v ≡ 0) (ltb n (first_and g)) 0 (least_flow (flows_below g rows fans n) (row_at rows n) / max 1 (fans n)) (λ _. refl)
+        | inl l ↦ flow_is k n l ∙ choose (λ v. v ≡ 0) (ltb n (first_and g)) 0 (least_flow (flows_below g scope label rows fans n) (allowed_row scope label (label n) (row_at rows n)) / max 1 (fans n)) (λ _. refl)
             (λ t. absurd (let a : first_and g ≤ n = ltb-false n (first_and g) t in omega arith))
-        | inr l ↦ get_or_past (flows_below g rows fans k) n 0 (let e : length (flows_below g rows fans k) ≡ k = flows_long k in omega arith)
+        | inr l ↦ get_or_past (flows_below g scope label rows fans k) n 0 (let e : length (flows_below g scope label rows fans k) ≡ k = flows_long k in omega arith)
       ]
 
-pub node_same : (g : Aig) (rows : List (List (List ℕ))) (fans more : ℕ → ℕ) (flows : List ℕ) (n : ℕ) → fans n ≡ more n → node_flow g rows fans flows n ≡ node_flow g rows more flows n
-node_same g rows fans more flows n e =
-    choose_both (λ x y. x ≡ y) (ltb n (first_and g)) 0 (least_flow flows (row_at rows n) / max 1 (fans n)) 0 (least_flow flows (row_at rows n) / max 1 (more n)) refl (ap (λ i. least_flow flows (row_at rows n) / max 1 i) e)
+pub node_same : (g : Aig) (scope : Scope) (label : ℕ → ℕ) (rows : List (List (List ℕ))) (fans more : ℕ → ℕ) (flows : List ℕ) (n : ℕ) → fans n ≡ more n → node_flow g scope label rows fans flows n ≡ node_flow g scope label rows more flows n
+node_same g scope label rows fans more flows n e =
+    choose_both (λ x y. x ≡ y) (ltb n (first_and g)) 0 (least_flow flows (allowed_row scope label (label n) (row_at rows n)) / max 1 (fans n)) 0 (least_flow flows (allowed_row scope label (label n) (row_at rows n)) / max 1 (more n)) refl (ap (λ i. least_flow flows (allowed_row scope label (label n) (row_at rows n)) / max 1 i) e)
 
-pub flows_same : (g : Aig) (rows : List (List (List ℕ))) (counts more : ℕ → ℕ) (k : ℕ) → ((n : ℕ) → n < k → counts n ≡ more n) → flows_below g rows counts k ≡ flows_below g rows more k
-flows_same g rows counts more zero e = refl
-flows_same g rows counts more (suc k) e =
-    ap (λ fs. fs ++ node_flow g rows counts fs k ∷ []) (flows_same g rows counts more k (λ n l. e n (omega arith)))
-    ∙ ap (λ x. flows_below g rows more k ++ x ∷ []) (node_same g rows counts more (flows_below g rows more k) k (e k (omega arith)))
+pub flows_same : (g : Aig) (scope : Scope) (label : ℕ → ℕ) (rows : List (List (List ℕ))) (counts more : ℕ → ℕ) (k : ℕ) → ((n : ℕ) → n < k → counts n ≡ more n) → flows_below g scope label rows counts k ≡ flows_below g scope label rows more k
+flows_same g scope label rows counts more zero e = refl
+flows_same g scope label rows counts more (suc k) e =
+    ap (λ fs. fs ++ node_flow g scope label rows counts fs k ∷ []) (flows_same g scope label rows counts more k (λ n l. e n (omega arith)))
+    ∙ ap (λ x. flows_below g scope label rows more k ++ x ∷ []) (node_same g scope label rows counts more (flows_below g scope label rows more k) k (e k (omega arith)))
 
 -- flows fit: they are capped, and only AND nodes have any
-pub flows_fit : (g : Aig) (rows : List (List (List ℕ))) (counts : ℕ → ℕ) → AreFlows g (flows_below g rows counts (node_count g))
-flows_fit g rows counts = record {
-  capped = flows_capped g rows counts (node_count g);
-  sources = source_free g rows counts (node_count g);
-  past = λ n l. get_or_past (flows_below g rows counts (node_count g)) n 0 (omega (arith, flows_long g rows counts (node_count g)));
+pub flows_fit : (g : Aig) (scope : Scope) (label : ℕ → ℕ) (rows : List (List (List ℕ))) (counts : ℕ → ℕ) → AreFlows g (flows_below g scope label rows counts (node_count g))
+flows_fit g scope label rows counts = record {
+  capped = flows_capped g scope label rows counts (node_count g);
+  sources = source_free g scope label rows counts (node_count g);
+  past = λ n l. get_or_past (flows_below g scope label rows counts (node_count g)) n 0 (omega (arith, flows_long g scope label rows counts (node_count g)));
 }
 
 pub no_flows_fit : (g : Aig) → AreFlows g []
 no_flows_fit g = record { capped = λ m. omega arith; sources = λ m l. refl; past = λ m l. refl }
-
--- the row of a node among the allowed cuts
-pub allowed_at_from : (scope : Scope) (label : ℕ → ℕ) (n : ℕ) (rows : List (List (List ℕ))) (i m : ℕ) → n + i ≡ m → row_at (allowed_from scope label n rows) i ≡ allowed_row scope label m (row_at rows i)
-allowed_at_from AnyHeight label n [] i m e = refl
-allowed_at_from LeastHeight label n [] i m e = refl
-allowed_at_from scope label n (row ∷ rows) zero m e = ap (λ j. allowed_row scope label j row) (let f : n ≡ m = omega arith in f)
-allowed_at_from scope label n (row ∷ rows) (suc i) m e = allowed_at_from scope label (n + 1) rows i m (omega arith)
 
 -- the least flow with one more cut, that is allowed or not
 allowed_if : (flows : List ℕ) (b : Bool) (c : List ℕ) (cs : List (List ℕ)) → least_flow flows cs ≤ MOST_FLOW → least_flow flows (cond b cs (c ∷ cs)) ≡ min (cond b MOST_FLOW (cut_flow flows c)) (least_flow flows cs)
 allowed_if flows true c cs l = omega (arith, l)
 allowed_if flows false c cs l = refl
 
-allowed_more : (scope : Scope) (label : ℕ → ℕ) (n : ℕ) (flows c : List ℕ) (cs : List (List ℕ)) → least_flow flows (allowed_row scope label n (c ∷ cs)) ≡ min (allowed_flow scope label n flows c) (least_flow flows (allowed_row scope label n cs))
+allowed_more : (scope : Scope) (label : ℕ → ℕ) (n : ℕ) (flows c : List ℕ) (cs : List (List ℕ)) → least_flow flows (allowed_row scope label (label n) (c ∷ cs)) ≡ min (allowed_flow scope label n flows c) (least_flow flows (allowed_row scope label (label n) cs))
 allowed_more AnyHeight label n flows c cs = refl
 allowed_more LeastHeight label n flows c cs = allowed_if flows (ltb (label n) (height label c)) c (cuts_within label (label n) cs) (least_capped flows (cuts_within label (label n) cs))
 
-pub allowed_next : (scope : Scope) (label : ℕ → ℕ) (n : ℕ) (flows : List ℕ) (row : List (List ℕ)) (i least whole cost next : ℕ) → i < length row → min least (least_flow flows (allowed_row scope label n (drop i row))) ≡ whole → cost ≡ allowed_flow scope label n flows (get_or row i []) → next ≡ min least cost
-    → min next (least_flow flows (allowed_row scope label n (drop (i + 1) row))) ≡ whole
+pub allowed_next : (scope : Scope) (label : ℕ → ℕ) (n : ℕ) (flows : List ℕ) (row : List (List ℕ)) (i least whole cost next : ℕ) → i < length row → min least (least_flow flows (allowed_row scope label (label n) (drop i row))) ≡ whole → cost ≡ allowed_flow scope label n flows (get_or row i []) → next ≡ min least cost
+    → min next (least_flow flows (allowed_row scope label (label n) (drop (i + 1) row))) ≡ whole
 allowed_next scope label n flows row i least whole cost next l e is low =
-    let rest : least_flow flows (allowed_row scope label n (drop i row)) ≡ min (allowed_flow scope label n flows (get_or row i [])) (least_flow flows (allowed_row scope label n (drop (i + 1) row))) =
-    ap (λ cs. least_flow flows (allowed_row scope label n cs)) (drop_more row i [] l) ∙ allowed_more scope label n flows (get_or row i []) (drop (i + 1) row) in
+    let rest : least_flow flows (allowed_row scope label (label n) (drop i row)) ≡ min (allowed_flow scope label n flows (get_or row i [])) (least_flow flows (allowed_row scope label (label n) (drop (i + 1) row))) =
+    ap (λ cs. least_flow flows (allowed_row scope label (label n) cs)) (drop_more row i [] l) ∙ allowed_more scope label n flows (get_or row i []) (drop (i + 1) row) in
     omega arith
 
-allowed_none : (scope : Scope) (label : ℕ → ℕ) (n : ℕ) → allowed_row scope label n [] ≡ []
+allowed_none : (scope : Scope) (label : ℕ → ℕ) (n : ℕ) → allowed_row scope label (label n) [] ≡ []
 allowed_none AnyHeight label n = refl
 allowed_none LeastHeight label n = refl
 
-pub allowed_end : (scope : Scope) (label : ℕ → ℕ) (n : ℕ) (flows : List ℕ) (row : List (List ℕ)) (i least whole : ℕ) → length row ≤ i → least ≤ MOST_FLOW → min least (least_flow flows (allowed_row scope label n (drop i row))) ≡ whole → least ≡ whole
+pub allowed_end : (scope : Scope) (label : ℕ → ℕ) (n : ℕ) (flows : List ℕ) (row : List (List ℕ)) (i least whole : ℕ) → length row ≤ i → least ≤ MOST_FLOW → min least (least_flow flows (allowed_row scope label (label n) (drop i row))) ≡ whole → least ≡ whole
 allowed_end scope label n flows row i least whole l capped e =
-    let rest : least_flow flows (allowed_row scope label n (drop i row)) ≡ MOST_FLOW =
-    ap (λ cs. least_flow flows (allowed_row scope label n cs)) (drop_all i row l) ∙ ap (λ cs. least_flow flows cs) (allowed_none scope label n) in
+    let rest : least_flow flows (allowed_row scope label (label n) (drop i row)) ≡ MOST_FLOW =
+    ap (λ cs. least_flow flows (allowed_row scope label (label n) cs)) (drop_all i row l) ∙ ap (λ cs. least_flow flows cs) (allowed_none scope label n) in
     omega arith
+
+-- what is no node has no readers
+read_none : (m : ℕ) (ps : List Pair) → ((i : ℕ) (p : Pair) → slice_get ps i ≡ Some p → (p.x.0 / 2 < m) × (p.y.0 / 2 < m)) → sum_by (times_read m) ps ≡ 0
+read_none m [] below = refl
+read_none m (p ∷ ps) below =
+    let b = below 0 p refl in
+    let x : one_if (p.x.0 / 2) m ≡ 0 = rw (ne_eqb (p.x.0 / 2) m (λ e. omega (arith, b.0))) refl in
+    let y : one_if (p.y.0 / 2) m ≡ 0 = rw (ne_eqb (p.y.0 / 2) m (λ e. omega (arith, b.1))) refl in
+    omega (arith, sum_by-cons (times_read m) p ps, read_none m ps (λ i q e. below (suc i) q e))
+
+fan_out_past : (g : Aig) → AreNormal (first_and g) g.pairs → (m : ℕ) → node_count g ≤ m → fan_out g m ≡ 0
+fan_out_past g normal m past = read_none m g.pairs (λ i p e.
+    let n = normal.each i p e in
+    let inside : i < length g.pairs = slice_get_within g.pairs i p e in
+    let x : p.x.0 / 2 < p.y.0 / 2 = n.ordered in
+    let y : p.y.0 / 2 < first_and g + i = n.below in
+    (omega arith, omega arith))
+
+-- counted fan-outs as a function
+pub counts_are : (g : Aig) → AreNormal (first_and g) g.pairs → (counts : List ℕ) → AreCounted g (node_count g) counts → count_at counts ≡ fan_out g
+counts_are g normal counts a = fun_ext (λ m. elim (cases_lt m (node_count g)) [
+  | inl l ↦ counted_all g counts a m l
+  | inr past ↦ get_or_past counts m 0 (omega (arith, a.size)) ∙ sym (fan_out_past g normal m past)
+])
+
+times_out : (m : ℕ) (xs : List ℕ) → ((i : ℕ) → In xs i → i < m) → times_in m xs ≡ 0
+times_out m [] below = refl
+times_out m (x ∷ xs) below =
+    let l : x < m = below x (inl refl) in
+    let first : one_if x m ≡ 0 = rw (ne_eqb x m (λ e. omega arith)) refl in
+    omega (arith, times_cons m x xs, times_out m xs (λ i j. below i (inr j)))
+
+module _ (g : Aig) (cover : ℕ → Option (List ℕ)) (leaves : AreLeaves g cover) where
+  leaf_past : (m n : ℕ) (o : Option (List ℕ)) → node_count g ≤ m → cover n ≡ o → times_leaf m o ≡ 0
+  leaf_past m n None past e = refl
+  leaf_past m n (Some c) past e = times_out m c (λ i j. omega (arith, leaves.inside n i c e j))
+
+  uses_past : (m n : ℕ) → node_count g ≤ m → uses_below cover m n ≡ 0
+  uses_past m zero past = refl
+  uses_past m (suc n) past = omega (arith, uses_past m n past, leaf_past m n (cover n) past refl)
+
+  -- counted uses as a function
+  pub used_are : (counts : List ℕ) → AreUsed g cover (node_count g) counts → count_at counts ≡ uses g cover
+  used_are counts u = fun_ext (λ m. elim (cases_lt m (node_count g)) [
+    | inl l ↦ u.each m l
+    | inr past ↦ get_or_past counts m 0 (omega (arith, u.size)) ∙ sym (uses_past m (node_count g) past)
+  ])
+
+-- the nodes that have a cut as a function
+pub needed_are : (g : Aig) (cuts : List (Option (List ℕ))) (needed : List Bool) → length cuts ≡ node_count g → length needed ≡ node_count g → ((m : ℕ) → m < node_count g → favoured_in needed m ≡ has_cut (cut_at cuts m)) → favoured_in needed ≡ (λ m. has_cut (cut_at cuts m))
+needed_are g cuts needed long size each = fun_ext (λ m. elim (cases_lt m (node_count g)) [
+  | inl l ↦ each m l
+  | inr past ↦ get_or_past needed m false (omega arith) ∙ ap has_cut (sym (get_or_past cuts m None (omega arith)))
+])

@@ -1,9 +1,8 @@
 -- The walk of required depths: what it keeps, and that its cuts are a cover of the least depth.
-use Rattle.cover_pick.proofs.Common.{◌≡◌, ℕ, zero, suc, ◌+◌, ◌-◌, ◌/◌, ◌<◌, ◌≤◌, min, ltb, List, [], ◌∷◌, length, Option, Some, None, IsSome, refl, sym, ap, ◌∙◌, subst, inl, inr, ◌⊎◌, arith, get_or-set_same, get_or-set_other, replicate, length-replicate, get_or-replicate, get_or_past, length-set, same_Some, none-some, cases_lt, cases_eq, ltb-true, ltb-false, Aig, first_and, node_count, IsAnd, AreNormal, Regular, source_below, In, IsCut, AreMinimal, IsCover, HasDepth, source, free, table, RootsWithin, greatest, height, AreLabels, choose, source_level, root_level, target, need, least_of, require, require_each, visit, walk, require_root, require_roots, roots_required, required, chosen, cover_of, AtMost, FromRoot, Chooses, IsWalked, rules, ◌%◌, IsSource, walk_by, met_at}
+use Rattle.cover_pick.proofs.Common.{◌≡◌, ℕ, zero, suc, ◌+◌, ◌-◌, ◌/◌, ◌<◌, ◌≤◌, min, ltb, List, [], ◌∷◌, length, Option, Some, None, IsSome, refl, sym, ap, ◌∙◌, subst, inl, inr, ◌⊎◌, arith, get_or-set_same, get_or-set_other, replicate, length-replicate, get_or-replicate, get_or_past, length-set, same_Some, none-some, cases_lt, cases_eq, ltb-true, ltb-false, Aig, first_and, node_count, IsAnd, Regular, source_below, In, IsCut, IsCover, HasDepth, source, free, table, RootsWithin, greatest, height, choose, source_level, root_level, target, need, least_of, require, require_each, visit, walk, require_root, require_roots, roots_required, required, chosen, cover_of, AtMost, FromRoot, Chooses, IsWalked, rules, ◌%◌, IsSource, walk_by, met_at}
 use Rattle.cut_sets.specs.Labels.{AreLeastHeights}
 use Rattle.cut_sets.proofs.HeightLemmas.{greatest_le, greatest_in}
 use Rattle.cut_sets.proofs.LeastHeightLemmas.{label_le_depth}
-use Rattle.depth_label.proofs.DepthLemmas.{labels_least_heights}
 use Rattle.cover_pick.specs.Sharing.{IsNeededAbove, root, leaf}
 
 pub level_complemented : (g : Aig) (l : ℕ) → IsSource g Regular (l / 2) → l % 2 ≡ 1 → source_level g l ≡ 1
@@ -125,9 +124,9 @@ HasDepth-more g cover (suc e) (table c at sub) le = table c at (λ m i. HasDepth
 
 module _ (g : Aig) (k : ℕ) (roots : List ℕ) (cuts : ℕ → List (List ℕ)) (label : ℕ → ℕ) (choice : ℕ → ℕ → List ℕ)
     (inside : (l : ℕ) → In roots l → l / 2 < node_count g)
-    (minimal : (n : ℕ) → IsAnd g n → AreMinimal g k n (cuts n)) (chooses : Chooses g cuts label choice) where
+    (are_cuts : (n : ℕ) (c : List ℕ) → IsAnd g n → In (cuts n) c → IsCut g k n c) (chooses : Chooses g cuts label choice) where
   choice_cut : (n r : ℕ) → IsAnd g n → label n ≤ r → IsCut g k n (choice n r)
-  choice_cut n r and l = ((minimal n and).only (choice n r) (chooses.cut n r and l)).cut
+  choice_cut n r and l = are_cuts n (choice n r) and (chooses.cut n r and l)
 
   pub leaf_below : (n r m : ℕ) → IsAnd g n → label n ≤ r → In (choice n r) m → m < n
   leaf_below n r m and l i = ((choice_cut n r and l).below m i).0
@@ -274,10 +273,8 @@ module _ (g : Aig) (k : ℕ) (roots : List ℕ) (cuts : ℕ → List (List ℕ))
   template_cover = is_cover (target g label roots) (required g choice roots (target g label roots)) required_walked
 
   -- and the target at most the depth of any cover.
-  pub target_least : AreNormal (first_and g) g.pairs → AreLabels g cuts label → (cover : ℕ → Option (List ℕ)) (d : ℕ) → IsCover g k roots cover → RootsWithin g cover roots d → target g label roots ≤ d
-  target_least normal labels cover d is within =
-      let are : AreLeastHeights g k label = labels_least_heights g normal k cuts label minimal labels in
-      grind (arith, greatest_le, ltb, level_within, ltb-false, label_le_depth g k label are roots cover is)
+  pub target_least : AreLeastHeights g k label → (cover : ℕ → Option (List ℕ)) (d : ℕ) → IsCover g k roots cover → RootsWithin g cover roots d → target g label roots ≤ d
+  target_least are cover d is within = grind (arith, greatest_le, ltb, level_within, ltb-false, label_le_depth g k label are roots cover is)
 
 -- a node is taken in the same way by two choices that are the same there
 pub visit_same : (choice other : ℕ → ℕ → List ℕ) (n : ℕ) (o : Option ℕ) (reqs : List (Option ℕ)) → ((r : ℕ) → choice n r ≡ other n r) → visit choice n o reqs ≡ visit other n o reqs
@@ -326,7 +323,7 @@ pub record Met (g : Aig) (label : ℕ → ℕ) (choice : ℕ → ℕ → List �
 
 module _ (g : Aig) (k : ℕ) (roots : List ℕ) (cuts : ℕ → List (List ℕ)) (label : ℕ → ℕ) (choice : ℕ → ℕ → List ℕ)
     (inside : (l : ℕ) → In roots l → l / 2 < node_count g)
-    (minimal : (n : ℕ) → IsAnd g n → AreMinimal g k n (cuts n)) (chooses : Chooses g cuts label choice) where
+    (are_cuts : (n : ℕ) (c : List ℕ) → IsAnd g n → In (cuts n) c → IsCut g k n c) (chooses : Chooses g cuts label choice) where
   -- a node that is taken, and all above it, keep their required depths
   visit_above : (t j : ℕ) (reqs : List (Option ℕ)) (o : Option ℕ) → j < length g.pairs → Walked g label choice roots t (suc j) reqs → need reqs (first_and g + j) ≡ o
       → (i : ℕ) → first_and g + j ≤ i → need (visit choice (first_and g + j) o reqs) i ≡ need reqs i
@@ -337,7 +334,7 @@ module _ (g : Aig) (k : ℕ) (roots : List ℕ) (cuts : ℕ → List (List ℕ))
   walk_above t zero reqs b w i l = refl
   walk_above t (suc j) reqs b w i l =
       walk_above t j (visit choice (first_and g + j) (need reqs (first_and g + j)) reqs) (omega arith)
-      (visit_walked g k roots cuts label choice inside minimal chooses t j reqs (need reqs (first_and g + j)) (omega arith) w refl) i (omega arith)
+      (visit_walked g k roots cuts label choice inside are_cuts chooses t j reqs (need reqs (first_and g + j)) (omega arith) w refl) i (omega arith)
       ∙ visit_above t j reqs (need reqs (first_and g + j)) (omega arith) w refl i (omega arith)
 
   module _ (by : List (Option ℕ) → ℕ → ℕ → List ℕ) where
@@ -348,7 +345,7 @@ module _ (g : Aig) (k : ℕ) (roots : List ℕ) (cuts : ℕ → List (List ℕ))
         let next : List (Option ℕ) = visit choice (first_and g + m) (need reqs (first_and g + m)) reqs in
         let by_next : List (Option ℕ) = visit (by reqs) (first_and g + m) (need reqs (first_and g + m)) reqs in
         let same : next ≡ by_next = step_same by (first_and g) choice m reqs a in
-        let w_next : Walked g label choice roots t m next = visit_walked g k roots cuts label choice inside minimal chooses t m reqs (need reqs (first_and g + m)) (omega arith) w refl in
+        let w_next : Walked g label choice roots t m next = visit_walked g k roots cuts label choice inside are_cuts chooses t m reqs (need reqs (first_and g + m)) (omega arith) w refl in
         elim (cases_eq j m) [
           | inl e ↦ subst (λ i. Met g label choice roots t i (met_at by (first_and g) (suc m) reqs (first_and g + i)) (walk choice (first_and g) m next)) (sym e)
               (subst (λ s. Met g label choice roots t m s (walk choice (first_and g) m next)) (sym (met_here by (first_and g) m reqs)) (record {
@@ -367,12 +364,12 @@ module _ (g : Aig) (k : ℕ) (roots : List ℕ) (cuts : ℕ → List (List ℕ))
       | inl f ↦ root f.root f.is_root f.node
       | inr f ↦ (
           let a : first_and g + suc j ≤ f.reader = f.above in
-          leaf f.reader (choice f.reader f.depth) (omega arith) (cover_is g k roots cuts label choice inside minimal chooses t last end f.reader f.depth f.and (at.kept f.reader (omega arith) ∙ f.needed)) f.leaf)
+          leaf f.reader (choice f.reader f.depth) (omega arith) (cover_is g k roots cuts label choice inside are_cuts chooses t last end f.reader f.depth f.and (at.kept f.reader (omega arith) ∙ f.needed)) f.leaf)
     ]
 
     pub above_needed : (m : ℕ) → IsAnd g m → IsNeededAbove roots (cover_of g choice last) (first_and g + j) m → (r : ℕ) × (need reqs m ≡ Some r)
     above_needed m and (root l i e) = let q = at.walked.tops l i (subst (λ n. IsAnd g n) (sym e) and) in (q.by, subst (λ n. need reqs n ≡ Some q.by) e q.is)
     above_needed m and (leaf reader c above cover i) =
-        let q = cover_at g k roots cuts label choice inside minimal chooses t last end reader c cover in
+        let q = cover_at g k roots cuts label choice inside are_cuts chooses t last end reader c cover in
         let p = at.walked.leaves reader q.0 m q.1 (omega arith) (sym (at.kept reader (omega arith)) ∙ q.2) (subst (λ x. In x m) q.3 i) in
         (p.by, p.is)

@@ -1,7 +1,6 @@
 -- How readers are counted: one pair after another, and one chosen cut after another.
 use Rattle.std.specs.Prelude.{◌≡◌, ℕ, ◌+◌, ◌-◌, ◌/◌, ◌<◌, List, [], ◌∷◌, length, sum_by, Option, Some, slice_index_or, slice_set, take}
-use Rattle.cover_pick.specs.Words.{Aig, first_and, node_count, Pair, In, IsAscending}
-use Rattle.cover_pick.specs.Flow.{times_read}
+use Rattle.cover_pick.specs.Words.{Aig, first_and, node_count, Pair, In, IsAscending, times_read}
 use Rattle.cover_pick.specs.Uses.{uses_below}
 
 abbrev pub count_at : List ℕ → ℕ → ℕ

@@ -13,10 +13,12 @@ pub mod Work
 pub mod Template
 pub mod Refusals
 -- What only bodies are compared with.
+pub mod Served
 pub mod Ruled
 pub mod Counts
 pub mod Required
 pub mod Planned
+pub mod Supplied
 pub mod Places
 pub mod Cone
 pub mod Marks

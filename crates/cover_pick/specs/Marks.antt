@@ -4,7 +4,8 @@ use Rattle.cover_pick.specs.Words.{Aig, first_and, node_count, Kind, Regular, Pa
 -- is a literal marked
 pub use Rattle.list_laws.specs.Digits.{bit_in as mark_at}
 use Rattle.cover_pick.specs.Mapping.{AscendByLit, HaveBases, bits_of}
-use Rattle.cover_pick.specs.Rounds.{IsPlan}
+use Rattle.cover_pick.specs.Rounds.{Supply, IsPlan}
+use Rattle.cover_pick.specs.Served.{IsServing}
 use Rattle.cover_pick.specs.Planned.{cut_at, and_depths, depths_of, IsPlanned}
 use Rattle.cover_pick.specs.Tables.{HasTable}
 use Rattle.cover_pick.specs.Cone.{table_work, work_of}
@@ -80,10 +81,13 @@ pub record AreMade (g : Aig) (cuts : List (Option (List ℕ))) (needed : ℕ →
   pub sum : made.bits ≡ bits_of made.luts
   pub work : made.work ≡ work_of g made.luts
 
--- the tables of the marked literals over the cuts that the walk finds by some flows, which are the plan of the rule
-pub record IsMade (rule : Rule) (g : Aig) (rows : List (List (List ℕ))) (label : ℕ → ℕ) (roots : List ℕ) (made : Made) : Type 0 where
+-- the tables of the marked literals over the cuts that the walk finds in some rows by some flows, which are the plan
+pub record IsMade (supply : Supply) (g : Aig) (label : ℕ → ℕ) (roots : List ℕ) (made : Made) : Type 0 where
+  pub rule : Rule
+  pub rows : List (List (List ℕ))
+  pub serving : IsServing rule g label rows
   pub flows : List ℕ
   pub cuts : List (Option (List ℕ))
   pub plan : IsPlanned rule g rows label roots flows (cut_at cuts)
-  pub chosen : IsPlan rule g rows label roots (and_depths g (depths_of rule g rows label roots flows)) (cut_at cuts)
+  pub chosen : IsPlan supply g label roots (and_depths g (depths_of rule g rows label roots flows)) (cut_at cuts)
   pub tables : AreMade g cuts (IsMarked roots cuts) (2 * node_count g) made

@@ -1,8 +1,9 @@
 -- The required depths and the chosen cuts as the walk finds them.
-use Rattle.std.specs.Prelude.{◌≡◌, ℕ, ◌-◌, ◌/◌, ◌<◌, ◌≤◌, if◌then◌else◌, nat_lt, List, length, Option, Some, None, slice_index_or, ◌⊎◌, []}
-use Rattle.cover_pick.specs.Words.{Aig, first_and, node_count, IsAnd, In, IsCover, HasDepth, RootsWithin, IsLeastDepth, AreRows, row_at, height, Rule, FewestLeaves, LeastCost, Scope, AnyHeight, LeastHeight}
+use Rattle.std.specs.Prelude.{◌≡◌, ℕ, ◌-◌, ◌/◌, ◌<◌, ◌≤◌, if◌then◌else◌, nat_lt, List, length, Option, Some, None, slice_index_or, ◌⊎◌}
+use Rattle.cover_pick.specs.Words.{Aig, first_and, node_count, IsAnd, In, IsCover, HasDepth, RootsWithin, IsLeastDepth, row_at, height, flow_at, Rule, LeastCost, Scope, AnyHeight, LeastHeight}
 use Rattle.cover_pick.specs.Target.{target}
-use Rattle.cover_pick.specs.Flow.{flow_at, fan_out, flows_by}
+use Rattle.cover_pick.specs.Flow.{flows_by}
+use Rattle.cover_pick.specs.Served.{IsServed}
 use Rattle.cover_pick.specs.Sharing.{IsNeededAbove}
 use Rattle.cover_pick.specs.Ruled.{AreCapped, choice_of}
 use Rattle.cover_pick.specs.Required.{need, required, cover_of}
@@ -66,7 +67,7 @@ pub record IsPlanned (rule : Rule) (g : Aig) (rows : List (List (List ℕ))) (la
   pub best : (n r : ℕ) → IsAnd g n → need (depths_of rule g rows label roots flows) n ≡ Some r → IsRuled rule (flow_at flows) (IsNeededAbove roots cover n) label r (row_at rows n) (choice_of rule g rows label roots flows n r)
   pub timely : (n r : ℕ) → IsAnd g n → need (depths_of rule g rows label roots flows) n ≡ Some r → HasDepth g cover n r
   pub size : length (depths_of rule g rows label roots flows) ≡ node_count g
-  pub least : (k : ℕ) → AreRows g k (node_count g) rows → IsLeastCover g k roots cover (target g label roots)
+  pub least : (k : ℕ) → IsServed g k label rows → IsLeastCover g k roots cover (target g label roots)
 
 -- the plan that the walk finds by some flows
 abbrev pub plan_by : Aig → List (List (List ℕ)) → (ℕ → ℕ) → List ℕ → List ℕ → PlanValue
@@ -88,12 +89,7 @@ abbrev pub three_rounds : Aig → List (List (List ℕ)) → (ℕ → ℕ) → L
 three_rounds g rows label roots scope flows =
     cheaper_flows g rows label roots (cheaper_flows g rows label roots flows (next_flows g rows label roots scope flows)) (next_flows g rows label roots scope (next_flows g rows label roots scope flows))
 
--- of the rounds over all cuts and those over the cuts of the least height
-abbrev pub least_flows : Aig → List (List (List ℕ)) → (ℕ → ℕ) → List ℕ → List ℕ
-least_flows g rows label roots =
-    cheaper_flows g rows label roots (three_rounds g rows label roots AnyHeight (flows_by g rows label AnyHeight (fan_out g))) (three_rounds g rows label roots LeastHeight (flows_by g rows label LeastHeight (fan_out g)))
-
--- the flows of a rule's plan
-abbrev pub flows_for : Rule → Aig → List (List (List ℕ)) → (ℕ → ℕ) → List ℕ → List ℕ
-flows_for FewestLeaves g rows label roots = []
-flows_for LeastCost g rows label roots = least_flows g rows label roots
+-- of six rounds from these counts on: those over all cuts and those over the cuts of the least height
+abbrev pub six_rounds : Aig → List (List (List ℕ)) → (ℕ → ℕ) → List ℕ → (ℕ → ℕ) → List ℕ
+six_rounds g rows label roots counts =
+    cheaper_flows g rows label roots (three_rounds g rows label roots AnyHeight (flows_by g rows label AnyHeight counts)) (three_rounds g rows label roots LeastHeight (flows_by g rows label LeastHeight counts))

@@ -1,9 +1,9 @@
--- Rounds: plans each of which is made by flows over what the one before it uses, and the first plan of the least cost.
-use Rattle.std.specs.Prelude.{◌≡◌, ℕ, ◌<◌, ◌≤◌, List, [], ◌∷◌, ◌++◌, length, Option, ◌⊎◌}
-use Rattle.cover_pick.specs.Words.{Aig, In, LeastCost, FewestLeaves, Scope, AnyHeight, LeastHeight, Rule}
-use Rattle.cover_pick.specs.Flow.{flow_at, fan_out, flows_by}
+-- Rounds: plans each of which is made by flows over what the one before it uses. Sets of cuts are made twice, with six rounds each, and the first plan of the least cost is taken.
+use Rattle.std.specs.Prelude.{◌≡◌, ℕ, ◌<◌, ◌≤◌, Bool, false, List, [], ◌∷◌, ◌++◌, length, Option, ◌⊎◌}
+use Rattle.cover_pick.specs.Words.{Aig, In, LeastCost, FewestLeaves, Scope, AnyHeight, LeastHeight, flow_at, fan_out, AreSets}
+use Rattle.cover_pick.specs.Flow.{flows_by}
 use Rattle.cover_pick.specs.Schedule.{IsPlanBy}
-use Rattle.cover_pick.specs.Uses.{uses, cost_of}
+use Rattle.cover_pick.specs.Uses.{uses, has_cut, cost_of}
 
 -- required depths and chosen cuts
 pub record PlanValue : Type 0 where
@@ -24,16 +24,32 @@ abbrev pub IsFirst : Aig → PlanValue → List PlanValue → Type 0
 IsFirst g p [] = ⊥
 IsFirst g p (q ∷ qs) = ((p ≡ q) × NoneBelow g (cost_of g p.cover) qs) ⊎ ((cost_of g p.cover < cost_of g q.cover) × IsFirst g p qs)
 
--- The first plan of the least cost of three rounds over all cuts and then three over the cuts of the least height, both from the fan-outs on.
-pub record IsLeastOfRounds (g : Aig) (rows : List (List (List ℕ))) (label : ℕ → ℕ) (roots : List ℕ) (reqs : ℕ → Option ℕ) (cover : ℕ → Option (List ℕ)) : Type 0 where
+-- Six rounds from these counts on: three over all cuts, and three over the cuts of the least height.
+pub record AreSixRounds (g : Aig) (rows : List (List (List ℕ))) (label : ℕ → ℕ) (roots : List ℕ) (counts : ℕ → ℕ) (plans : List PlanValue) : Type 0 where
   pub any : List PlanValue
   pub any_three : length any ≡ 3
-  pub any_rounds : AreRounds g rows label roots AnyHeight (fan_out g) any
+  pub any_rounds : AreRounds g rows label roots AnyHeight counts any
   pub low : List PlanValue
   pub low_three : length low ≡ 3
-  pub low_rounds : AreRounds g rows label roots LeastHeight (fan_out g) low
+  pub low_rounds : AreRounds g rows label roots LeastHeight counts low
+  pub are : plans ≡ any ++ low
+
+-- A making: the sets for these counts and favoured nodes, and six rounds over them from these counts on.
+pub record IsMaking (g : Aig) (k : ℕ) (lows : ℕ → List ℕ) (label : ℕ → ℕ) (roots : List ℕ) (counts : ℕ → ℕ) (favoured : ℕ → Bool) (plans : List PlanValue) : Type 0 where
+  pub sets : List (List (List ℕ))
+  pub made : AreSets g k label lows counts favoured sets
+  pub rounds : AreSixRounds g sets label roots counts plans
+
+-- The first plan of the least cost of two makings: one over the fan-outs, where no node is favoured; and one over what its first plan of the least cost uses, where the nodes are favoured that this plan needs.
+pub record IsLeastOfMakings (g : Aig) (k : ℕ) (lows : ℕ → List ℕ) (label : ℕ → ℕ) (roots : List ℕ) (reqs : ℕ → Option ℕ) (cover : ℕ → Option (List ℕ)) : Type 0 where
+  pub first : List PlanValue
+  pub first_making : IsMaking g k lows label roots (fan_out g) (λ m. false) first
+  pub best : PlanValue
+  pub best_is : IsFirst g best first
+  pub second : List PlanValue
+  pub second_making : IsMaking g k lows label roots (uses g best.cover) (λ m. has_cut (best.cover m)) second
   pub plan : PlanValue
-  pub first : IsFirst g plan (any ++ low)
+  pub plan_is : IsFirst g plan (first ++ second)
   pub depths : (n : ℕ) → reqs n ≡ plan.reqs n
   pub cuts : (n : ℕ) → cover n ≡ plan.cover n
 
@@ -41,7 +57,12 @@ pub record IsLeastOfRounds (g : Aig) (rows : List (List (List ℕ))) (label : �
 abbrev pub no_flow : ℕ → ℕ
 no_flow m = 0
 
--- The required depths and the chosen cuts of a rule: the fewest leaves need no flows, and the least cost is that of six plans, each by flows of its own.
-abbrev pub IsPlan : Rule → Aig → List (List (List ℕ)) → (ℕ → ℕ) → List ℕ → (ℕ → Option ℕ) → (ℕ → Option (List ℕ)) → Type 0
-IsPlan FewestLeaves g rows label roots reqs cover = IsPlanBy FewestLeaves g rows label roots no_flow reqs cover
-IsPlan LeastCost g rows label roots reqs cover = IsLeastOfRounds g rows label roots reqs cover
+-- What a plan is chosen from: rows of all nodes' cuts, of which those of the fewest leaves are chosen; or bounded sets for LUTs of at most k inputs, made over these low cuts, of which those of the least cost are chosen.
+pub data Supply : Type 0 where
+  Rows : List (List (List ℕ)) → Supply
+  Sets : ℕ → (ℕ → List ℕ) → Supply
+
+-- The required depths and the chosen cuts: the fewest leaves need no flows, and the least cost is that of twelve plans, each by flows of its own.
+abbrev pub IsPlan : Supply → Aig → (ℕ → ℕ) → List ℕ → (ℕ → Option ℕ) → (ℕ → Option (List ℕ)) → Type 0
+IsPlan (Rows rows) g label roots reqs cover = IsPlanBy FewestLeaves g rows label roots no_flow reqs cover
+IsPlan (Sets k lows) g label roots reqs cover = IsLeastOfMakings g k lows label roots reqs cover

@@ -1,12 +1,11 @@
 -- How the cut of a node is found by a rule, in the walk of the required depths.
 use Rattle.std.specs.Prelude.{ℕ, List, length, Option, None, ◌≡◌, ◌<◌, ◌&&◌, if◌then◌else◌, ◌==◌, nat_lt, [], ◌∷◌, Some, slice_index_or, ◌+◌, ◌^◌, ◌≤◌, sum_by}
-use Rattle.cover_pick.specs.Words.{Aig, first_and, row_at, Rule, FewestLeaves, LeastCost, height, MOST_FLOW}
+use Rattle.cover_pick.specs.Words.{Aig, first_and, row_at, Rule, FewestLeaves, LeastCost, height, comes_before, flow_at, MOST_FLOW}
 pub use Rattle.depth_label.specs.Fold.{or_empty}
 use Rattle.cover_pick.specs.Target.{target}
 use Rattle.cover_pick.specs.Required.{met_at, roots_required, need}
 use Rattle.cover_pick.specs.declared.choice.Candidate.{Candidate}
 use Rattle.cover_pick.specs.declared.cost.Offer.{Offer}
-use Rattle.cover_pick.specs.Flow.{flow_at}
 
 -- what a leaf of this flow costs, which is needed by a depth, or not yet
 abbrev pub cost_where : Option ℕ → ℕ → ℕ
@@ -23,10 +22,10 @@ cut_cost flows reqs c = 2 ^ length c + sum_by (leaf_cost flows reqs) c
 abbrev pub AreCapped : List ℕ → Type 0
 AreCapped flows = (m : ℕ) → flow_at flows m ≤ MOST_FLOW
 
--- the cheaper of a cut that was found and a later one
+-- the cheaper of a cut that was found and another one, and of two of the same cost the first in the order of cuts
 abbrev pub cheaper : (List ℕ → ℕ) → Option (List ℕ) → List ℕ → Option (List ℕ)
 cheaper cost None c = Some c
-cheaper cost (Some b) c = if nat_lt (cost c) (cost b) then Some c else Some b
+cheaper cost (Some b) c = if nat_lt (cost c) (cost b) then Some c else if (cost c == cost b) && comes_before c b then Some c else Some b
 
 -- the same where the later one is low enough
 abbrev pub cheaper_low : (List ℕ → ℕ) → (ℕ → ℕ) → ℕ → Option (List ℕ) → List ℕ → Option (List ℕ)

@@ -1,7 +1,7 @@
 -- The chosen template of a graph for some roots.
 use Rattle.std.specs.Prelude.{◌≡◌, ℕ, suc, ◌*◌, ◌/◌, ◌%◌, ◌<◌, ◌≤◌, List, [], Option, Some}
-use Rattle.cover_pick.specs.Words.{Aig, first_and, IsAnd, IsSource, Regular, Lit, RootsValue, roots_of, In, Rule, MOST_WORK, Lut}
-use Rattle.cover_pick.specs.Rounds.{IsPlan}
+use Rattle.cover_pick.specs.Words.{Aig, first_and, IsAnd, IsSource, Regular, Lit, RootsValue, roots_of, In, MOST_WORK, Lut}
+use Rattle.cover_pick.specs.Rounds.{Supply, IsPlan}
 use Rattle.cover_pick.specs.Tables.{HasTable, AreTables}
 use Rattle.cover_pick.specs.Work.{IsWork}
 
@@ -24,29 +24,29 @@ pub record TablesWithin (g : Aig) (roots : List ℕ) (luts : List Lut) (d : ℕ)
   pub nodes : (l : ℕ) → In roots l → IsAnd g (l / 2) → TableDepth g luts l d
 
 -- the tables of the needed literals over the chosen cuts of the needed nodes, and their bits
-pub record AreChosen (rule : Rule) (g : Aig) (rows : List (List (List ℕ))) (label : ℕ → ℕ) (roots : List ℕ) (luts : List Lut) (bits : ℕ) : Type 0 where
+pub record AreChosen (supply : Supply) (g : Aig) (label : ℕ → ℕ) (roots : List ℕ) (luts : List Lut) (bits : ℕ) : Type 0 where
   pub reqs : ℕ → Option ℕ
   pub cover : ℕ → Option (List ℕ)
-  pub plan : IsPlan rule g rows label roots reqs cover
+  pub plan : IsPlan supply g label roots reqs cover
   pub tables : AreTables g roots cover luts bits
 
 -- The chosen template: the tables of the needed literals over the chosen cuts, and the depth of the roots' tables. That this depth is the target is a law (`depth_is_target`).
-pub record IsTemplate (rule : Rule) (g : Aig) (rows : List (List (List ℕ))) (label : ℕ → ℕ) (roots : RootsValue) (t : TemplateValue) : Type 0 where
-  pub chosen : AreChosen rule g rows label (roots_of roots) t.luts t.bits
+pub record IsTemplate (supply : Supply) (g : Aig) (label : ℕ → ℕ) (roots : RootsValue) (t : TemplateValue) : Type 0 where
+  pub chosen : AreChosen supply g label (roots_of roots) t.luts t.bits
   pub outputs : t.outputs ≡ roots.outputs
   pub next : t.next ≡ roots.next
   pub within : TablesWithin g (roots_of roots) t.luts t.depth
   pub exact : (d : ℕ) → TablesWithin g (roots_of roots) t.luts d → t.depth ≤ d
 
 -- the depth of an AND node's table is at most the node's required depth
-pub record AreTimely (rule : Rule) (g : Aig) (rows : List (List (List ℕ))) (label : ℕ → ℕ) (roots : List ℕ) (luts : List Lut) : Type 0 where
-  pub each : (reqs : ℕ → Option ℕ) (cover : ℕ → Option (List ℕ)) → IsPlan rule g rows label roots reqs cover → (t : Lut) (r : ℕ) → In luts t → reqs (t.lit.0 / 2) ≡ Some r → TableDepth g luts t.lit.0 r
+pub record AreTimely (supply : Supply) (g : Aig) (label : ℕ → ℕ) (roots : List ℕ) (luts : List Lut) : Type 0 where
+  pub each : (reqs : ℕ → Option ℕ) (cover : ℕ → Option (List ℕ)) → IsPlan supply g label roots reqs cover → (t : Lut) (r : ℕ) → In luts t → reqs (t.lit.0 / 2) ≡ Some r → TableDepth g luts t.lit.0 r
 
 -- the work of the chosen tables is too much
-pub record IsTooMuch (rule : Rule) (g : Aig) (rows : List (List (List ℕ))) (label : ℕ → ℕ) (roots : List ℕ) : Type 0 where
+pub record IsTooMuch (supply : Supply) (g : Aig) (label : ℕ → ℕ) (roots : List ℕ) : Type 0 where
   pub luts : List Lut
   pub bits : ℕ
-  pub chosen : AreChosen rule g rows label roots luts bits
+  pub chosen : AreChosen supply g label roots luts bits
   pub work : ℕ
   pub is : IsWork g luts work
   pub past : MOST_WORK < work

@@ -1,5 +1,5 @@
 -- How often a cover uses each node, and what a cover costs.
-use Rattle.std.specs.Prelude.{ℕ, zero, suc, ◌+◌, ◌^◌, if◌then◌else◌, ◌==◌, List, length, sum_by, Option, Some, None}
+use Rattle.std.specs.Prelude.{ℕ, zero, suc, ◌+◌, ◌^◌, Bool, true, false, if◌then◌else◌, ◌==◌, List, length, sum_by, Option, Some, None}
 use Rattle.cover_pick.specs.Words.{Aig, node_count, TABLE_PRICE}
 
 -- how often a node is among some leaves: a cut names no leaf twice
@@ -18,6 +18,11 @@ uses_below cover m (suc n) = uses_below cover m n + times_leaf m (cover n)
 -- how many nodes of a graph have chosen a cut with this node as a leaf
 abbrev pub uses : Aig → (ℕ → Option (List ℕ)) → ℕ → ℕ
 uses g cover m = uses_below cover m (node_count g)
+
+-- has a node a chosen cut
+abbrev pub has_cut : Option (List ℕ) → Bool
+has_cut None = false
+has_cut (Some c) = true
 
 -- what the table of a chosen cut costs, its bits counted
 abbrev pub price : Option (List ℕ) → ℕ

@@ -1,17 +1,16 @@
 //! The rule of the least cost: what a cut costs if some nodes are needed already, and the cheapest cut.
-ghost use Rattle.std.specs.Prelude.{◌≡◌, ℕ, ◌+◌, ◌*◌, ◌<◌, ◌≤◌, ◌^◌, List, [], length, Option, Some, None, sum_by, slice_index_or};
+ghost use Rattle.std.specs.Prelude.{◌≡◌, ◌⊎◌, ◌↔◌, true, ℕ, ◌+◌, ◌*◌, ◌<◌, ◌≤◌, ◌^◌, List, [], length, Option, Some, None, IfSome, sum_by, slice_index_or};
 ghost use Rattle.cut_sets.specs.declared.limits.TheConstants.{MOST_LEAVES};
 ghost use Rattle.cut_sets.specs.Rows.{row_at};
-ghost use Rattle.cut_sets.specs.Labels.{height};
-ghost use Rattle.depth_label.specs.Label.{label_of};
-ghost use Rattle.cover_pick.specs.declared.limits.TheConstants.{MOST_FLOW};
-ghost use Rattle.cover_pick.specs.Flow.{flow_at};
+ghost use Rattle.cut_sets.specs.Labels.{height, label_at};
+ghost use Rattle.cut_sets.specs.Sets.{before};
+ghost use Rattle.bounded_cuts.specs.declared.limits.TheConstants.{MOST_FLOW};
+ghost use Rattle.bounded_cuts.specs.Flow.{flow_at};
 ghost use Rattle.cover_pick.specs.Required.{need as need_of};
 ghost use Rattle.cover_pick.specs.Ruled.{AreCapped, IsOffer, cost_where as the_cost_where, leaf_cost as the_leaf_cost, cut_cost as the_cut_cost, cheaper as the_cheaper, cheaper_low as the_cheaper_low, cheapest as the_cheapest};
 
 use crate::tables::table_bits;
-use cut_enum::CutTable;
-use depth_label::Labels;
+use cut_sets::{CutRows, NodeLabels, comes_before};
 
 // A cut of a node by its place, with its cost.
 #[derive(Clone, Copy)]
@@ -47,40 +46,54 @@ fn leaves_cost(flows: &[u64], reqs: &[Option<u32>], leaves: &[u32]) -> u64
 }
 
 // The cost of a cut: the bits of its LUT plus the costs of its leaves.
-pub fn cut_cost(table: &CutTable, flows: &[u64], reqs: &[Option<u32>], n: u32, i: u32) -> u64
-    requires inside { i < length (row_at table.now n) }
+pub fn cut_cost(rows: &CutRows, flows: &[u64], reqs: &[Option<u32>], n: u32, i: u32) -> u64
+    requires inside { i < length (row_at rows.now n) }
     requires capped { AreCapped flows.now }
-    ensures value { result ≡ the_cut_cost flows.now reqs.now (slice_index_or (row_at table.now n) i []) }
+    ensures value { result ≡ the_cut_cost flows.now reqs.now (slice_index_or (row_at rows.now n) i []) }
     ensures small { result ≤ 2 ^ 44 }
 {
-    let bits = table_bits(table.leaf_count(n, i)) as u64;
-    bits + leaves_cost(flows, reqs, table.leaves(n, i))
+    let bits = table_bits(rows.leaves(n, i).len()) as u64;
+    bits + leaves_cost(flows, reqs, rows.leaves(n, i))
 }
 
-// The cheaper of the best cut so far and a later one.
+// Whether a cut of this cost is chosen before the best cut so far: it costs less, or as much and comes before it in the order of
+// cuts.
+fn comes_first(rows: &CutRows, n: u32, i: u32, cost: u64, best: Offer) -> bool
+    requires inside { i < length (row_at rows.now n) }
+    requires best { best.place < length (row_at rows.now n) }
+    ensures { result ≡ true ↔ (cost < best.cost) ⊎ ((cost ≡ best.cost) × (before (slice_index_or (row_at rows.now n) i []) (slice_index_or (row_at rows.now n) best.place []) ≡ true)) }
+{
+    if cost == best.cost {
+        return comes_before(rows.leaves(n, i), rows.leaves(n, best.place));
+    }
+    cost < best.cost
+}
+
+// The cheaper of the best cut so far and another one.
 fn cheaper(
-    table: &CutTable,
+    rows: &CutRows,
     flows: &[u64],
     reqs: &[Option<u32>],
     n: u32,
     best: Option<Offer>,
     i: u32,
 ) -> Option<Offer>
-    requires inside { i < length (row_at table.now n) }
+    requires inside { i < length (row_at rows.now n) }
+    requires best { IfSome best (λ b. b.place < length (row_at rows.now n)) }
     requires capped { AreCapped flows.now }
-    ensures { (o : Option (List ℕ)) → IsOffer (the_cut_cost flows.now reqs.now) (row_at table.now n) best o → IsOffer (the_cut_cost flows.now reqs.now) (row_at table.now n) result (the_cheaper (the_cut_cost flows.now reqs.now) o (slice_index_or (row_at table.now n) i [])) }
+    ensures { (o : Option (List ℕ)) → IsOffer (the_cut_cost flows.now reqs.now) (row_at rows.now n) best o → IsOffer (the_cut_cost flows.now reqs.now) (row_at rows.now n) result (the_cheaper (the_cut_cost flows.now reqs.now) o (slice_index_or (row_at rows.now n) i [])) }
 {
-    let cost = cut_cost(table, flows, reqs, n, i);
+    let cost = cut_cost(rows, flows, reqs, n, i);
     match best {
-        Some(b) if b.cost <= cost => Some(b),
+        Some(b) if !comes_first(rows, n, i, cost, b) => Some(b),
         _ => Some(Offer { place: i, cost }),
     }
 }
 
-// The cheaper of the best cut so far and a later one, ignoring the later one if it is too high.
+// The cheaper of the best cut so far and another one, ignoring the other one if it is too high.
 fn cheaper_low(
-    table: &CutTable,
-    labels: &Labels,
+    rows: &CutRows,
+    labels: &NodeLabels,
     flows: &[u64],
     reqs: &[Option<u32>],
     n: u32,
@@ -88,31 +101,32 @@ fn cheaper_low(
     best: Option<Offer>,
     i: u32,
 ) -> Option<Offer>
-    requires inside { i < length (row_at table.now n) }
+    requires inside { i < length (row_at rows.now n) }
+    requires best { IfSome best (λ b. b.place < length (row_at rows.now n)) }
     requires capped { AreCapped flows.now }
-    ensures { (o : Option (List ℕ)) → IsOffer (the_cut_cost flows.now reqs.now) (row_at table.now n) best o → IsOffer (the_cut_cost flows.now reqs.now) (row_at table.now n) result (the_cheaper_low (the_cut_cost flows.now reqs.now) (label_of labels.now) r o (slice_index_or (row_at table.now n) i [])) }
+    ensures { (o : Option (List ℕ)) → IsOffer (the_cut_cost flows.now reqs.now) (row_at rows.now n) best o → IsOffer (the_cut_cost flows.now reqs.now) (row_at rows.now n) result (the_cheaper_low (the_cut_cost flows.now reqs.now) (label_at labels.now) r o (slice_index_or (row_at rows.now n) i [])) }
 {
-    if labels.height(table, n, i) > r {
+    if labels.cut_height(rows.leaves(n, i)) > r {
         return best;
     }
-    cheaper(table, flows, reqs, n, best, i)
+    cheaper(rows, flows, reqs, n, best, i)
 }
 
 // The cheapest cut of a node for a required depth, if one is low enough.
 pub fn cheapest(
-    table: &CutTable,
-    labels: &Labels,
+    rows: &CutRows,
+    labels: &NodeLabels,
     flows: &[u64],
     reqs: &[Option<u32>],
     n: u32,
     r: u32,
 ) -> Option<Offer>
     requires { AreCapped flows.now }
-    ensures { IsOffer (the_cut_cost flows.now reqs.now) (row_at table.now n) result (the_cheapest (the_cut_cost flows.now reqs.now) (label_of labels.now) r None (row_at table.now n)) }
+    ensures { IsOffer (the_cut_cost flows.now reqs.now) (row_at rows.now n) result (the_cheapest (the_cut_cost flows.now reqs.now) (label_at labels.now) r None (row_at rows.now n)) }
 {
     let mut best = None;
-    for i in 0..table.count(n) {
-        best = cheaper_low(table, labels, flows, reqs, n, r, best, i);
+    for i in 0..rows.count(n) {
+        best = cheaper_low(rows, labels, flows, reqs, n, r, best, i);
     }
     best
 }

@@ -2,24 +2,25 @@
 ghost use Rattle.std.specs.Prelude.{◌≡◌, Option, None, List, length, IfOk, slice_index_or};
 ghost use Rattle.aig_core.specs.Aig.{first_and, node_count, AreNormal};
 ghost use Rattle.aig_core.specs.Roots.{lits_of, AreRoots};
-ghost use Rattle.depth_label.specs.Label.{label_of, IsCutTable, AreLabelled};
+ghost use Rattle.cut_sets.specs.Labels.{label_at};
+ghost use Rattle.cover_pick.specs.Served.{IsServing};
 ghost use Rattle.cover_pick.specs.Places.{place_at as the_place_at};
 ghost use Rattle.cover_pick.specs.Planned.{cut_at, AreFlows, IsPlanned};
 
-use crate::limits::TABLE_PRICE;
 use crate::required::chosen_places;
 use crate::rule::Rule;
 use crate::tables::table_bits;
 use aig_core::{Graph, Lit};
-use cut_enum::{Cut, CutTable};
-use depth_label::Labels;
+use bounded_cuts::TABLE_PRICE;
+use cut_enum::Cut;
+use cut_sets::{CutRows, NodeLabels};
 use std::alloc::{AllocError, Global};
 use std::marker::Model;
 
-/// The chosen cut of each needed AND node, by its place in the table of cuts.
+/// The chosen cut of each needed AND node, by its place in the node's row.
 #[derive(Drop)]
 pub struct ChosenCuts<'a> {
-    table: &'a CutTable,
+    rows: &'a CutRows,
     places: Vec<Option<u32>>,
 }
 
@@ -29,9 +30,9 @@ impl<'a> Model for ChosenCuts<'a> {
 
     ghost Value = { List (Option (List ℕ)) };
 
-    ghost view = { λ c. cuts_of c.table.now c.places.items };
+    ghost view = { λ c. cuts_of c.rows.now c.places.items };
 
-    ghost invariant = { λ c. ArePlaces c.table.now c.places.items };
+    ghost invariant = { λ c. ArePlaces c.rows.now c.places.items };
 }
 
 // The place of a node's cut, if it has one.
@@ -45,15 +46,15 @@ impl<'a> ChosenCuts<'a> {
     ghost use Rattle.std.specs.Prelude.{◌≡◌, ◌≤◌, ◌^◌};
     ghost use Rattle.depth_label.specs.Fold.{or_empty};
     ghost use Rattle.cover_pick.specs.Planned.{cut_at};
-    ghost use Rattle.cover_pick.specs.Uses.{price as the_price};
+    ghost use Rattle.cover_pick.specs.Uses.{has_cut, price as the_price};
 
     /// The chosen cut of a node, or `None` if it isn't a needed AND node.
-    pub fn cut(&self, n: u32) -> Option<Cut>
+    pub fn cut(&self, alloc: Global, n: u32) -> Option<Cut>
         ensures { result ≡ cut_at self.now n }
     {
         match place_at(&self.places, n) {
             None => None,
-            Some(place) => Some(self.table.cut(n, place)),
+            Some(place) => Some(Cut::of(alloc, self.rows.leaves(n, place))),
         }
     }
 
@@ -64,8 +65,15 @@ impl<'a> ChosenCuts<'a> {
     {
         match place_at(&self.places, n) {
             None => 0,
-            Some(place) => TABLE_PRICE + table_bits(self.table.leaf_count(n, place)) as u64,
+            Some(place) => TABLE_PRICE + table_bits(self.rows.leaves(n, place).len()) as u64,
         }
+    }
+
+    /// Whether a node has a chosen cut.
+    pub fn is_chosen(&self, n: u32) -> bool
+        ensures { result ≡ has_cut (cut_at self.now n) }
+    {
+        place_at(&self.places, n).is_some()
     }
 
     /// The leaves of a node's chosen cut, without a copy. Empty for a node without one.
@@ -74,7 +82,7 @@ impl<'a> ChosenCuts<'a> {
     {
         match place_at(&self.places, n) {
             None => &[],
-            Some(place) => self.table.leaves(n, place),
+            Some(place) => self.rows.leaves(n, place),
         }
     }
 }
@@ -84,19 +92,18 @@ pub fn cuts_by<'a>(
     alloc: Global,
     rule: Rule,
     graph: &Graph,
-    table: &'a CutTable,
-    labels: &Labels,
+    rows: &'a CutRows,
+    labels: &NodeLabels,
     roots: &[Lit],
     flows: &[u64],
 ) -> Result<ChosenCuts<'a>, AllocError>
-    requires table { IsCutTable graph.now table.now }
-    requires labels { AreLabelled graph.now table.now labels.now }
+    requires serving { IsServing rule graph.now (label_at labels.now) rows.now }
     requires roots { AreRoots graph.now (lits_of roots.now) }
     requires flows { AreFlows graph.now flows.now }
-    ensures plan { IfOk result (λ cuts. IsPlanned rule graph.now table.now (label_of labels.now) (lits_of roots.now) flows.now (cut_at cuts)) }
+    ensures plan { IfOk result (λ cuts. IsPlanned rule graph.now rows.now (label_at labels.now) (lits_of roots.now) flows.now (cut_at cuts)) }
     ensures len { IfOk result (λ cuts. length cuts ≡ node_count graph.now) }
     ensures normal { IfOk result (λ _. AreNormal (first_and graph.now) graph.now.pairs) }
 {
-    let places = chosen_places(alloc, rule, graph, table, labels, roots, flows)?;
-    Ok(ChosenCuts { table, places })
+    let places = chosen_places(alloc, rule, graph, rows, labels, roots, flows)?;
+    Ok(ChosenCuts { rows, places })
 }

@@ -25,26 +25,27 @@
 //! 1. `target`: the target of the roots.
 //! 2. `rule`, `choice`: the rules, and the choice of a cut for a required depth. Each rule is one definition: `IsChosen` of
 //!    `specs/Choice.antt` for the fewest leaves, and `IsCheapest` of `specs/Sharing.antt` for the least cost, over the flows
-//!    of `specs/Flow.antt`. `Chooses` of `specs/Planned.antt` is all that the theorem needs of a rule.
-//! 3. `scope`, `flow`, `cost`: the flows over some counts, in one pass up, and the cheapest cut of a node.
+//!    of crate `bounded_cuts`. `Chooses` of `specs/Planned.antt` is all that the theorem needs of a rule.
+//! 3. `flow`, `cost`: the flows over some counts, in one pass up, and the cheapest cut of a node.
 //! 4. `required`: the required depths and the choices, each once, in one pass down from the last AND node.
-//! 5. `cuts`: the chosen cuts, each by its place in the table of cuts.
-//! 6. `uses`, `rounds`: how often a cover uses each node, what the cover costs, and the cover of the least cost. The flows of a
-//!    round are over the uses in the cover of the round before it.
+//! 5. `cuts`: the chosen cuts, each by its place among its node's cuts.
+//! 6. `uses`, `rounds`, `makings`: how often a cover uses each node, what the cover costs, and the cover of the least cost. The
+//!    flows of a round are over the uses in the cover of the round before it. Bounded sets of cuts (crate `bounded_cuts`) are
+//!    made twice, the second time over what the best cover so far uses.
 //! 7. `needed`, `tables`: the needed literals and their LUTs, in ascending order.
 //! 8. `cone`: the AND nodes in the cone of a LUT, each visited once.
 //!
 //! # What is proved
 //!
-//! The contract of `pick_by` says three things about its LUTs: the rule chooses them (`specs/Template.antt`, `IsTemplate`),
+//! The contracts of `pick` and `pick_compact` say three things about their LUTs: the rule chooses them (`specs/Template.antt`, `IsTemplate`),
 //! they map the graph (`specs/Mapping.antt`, `IsMapping`), and no cover of the graph is less deep (`IsLeast`, same file). The
 //! rule is defined by relations alone, independently of the pass that finds the answer: required depths and chosen cuts by
 //! `IsPlan` (`specs/Rounds.antt`), the LUTs by `AreTables`, and the work by the cones as sets of nodes (`specs/Work.antt`).
 //! `IsPlan` is `IsPlanBy` some flows (`specs/Schedule.antt`), and `specs/Rounds.antt` says which flows these are for the least
-//! cost. The least depth holds of every plan by flows. A graph with its cuts, labels and roots has exactly one plan, one
-//! template and one work. So too much work is always reported.
+//! cost. The least depth holds of every plan by flows. A graph with its labels, roots and table of cuts, or low cuts, has
+//! exactly one plan, one template and one work. So too much work is always reported.
 //!
-//! `proofs/Examples.antt` has the plan, the LUT and the work of a small graph, and `proofs/RoundExamples.antt` has two rounds.
+//! `proofs/Examples.antt` has the plan, the LUT and the work of a small graph, and two rounds over another one.
 #![tactic(auto)]
 
 mod choice;
@@ -54,11 +55,11 @@ mod cuts;
 mod flow;
 mod limits;
 mod lut;
+mod makings;
 mod needed;
 mod required;
 mod rounds;
 mod rule;
-mod scope;
 mod tables;
 mod target;
 mod template;
@@ -66,4 +67,4 @@ mod uses;
 
 pub use lut::{Lut, PickErr};
 pub use rule::Rule;
-pub use template::{Template, pick, pick_by};
+pub use template::{Template, pick, pick_compact};

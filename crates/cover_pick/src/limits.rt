@@ -1,10 +1,4 @@
-//! Limits on the work of the LUTs and on costs.
+//! The limit on the work of the LUTs.
 
 /// The maximal work of all LUTs together.
 pub const MOST_WORK: u64 = 33_554_432;
-
-/// The cost of a LUT, not counting its bits.
-pub const TABLE_PRICE: u64 = 256;
-
-/// The maximal flow of a node. So the cost of a cut fits 64 bits.
-pub const MOST_FLOW: u64 = 1_099_511_627_776;

@@ -3,7 +3,8 @@ ghost use Rattle.std.specs.Prelude.{◌≡◌, ℕ, ◌+◌, ◌-◌, ◌/◌, �
 ghost use Rattle.aig_core.specs.Aig.{first_and, node_count, AreNormal, IsAnd};
 ghost use Rattle.aig_core.specs.Roots.{lits_of, AreRoots};
 ghost use Rattle.cut_sets.specs.Rows.{row_at};
-ghost use Rattle.depth_label.specs.Label.{label_of, IsCutTable, AreLabelled};
+ghost use Rattle.cut_sets.specs.Labels.{label_at};
+ghost use Rattle.cover_pick.specs.Served.{IsServing};
 ghost use Rattle.cover_pick.specs.Ruled.{AreCapped, found_in, found_from, found_of, choice_by};
 ghost use Rattle.cover_pick.specs.Required.{need, least_of as the_least, require as with_required, require_each as with_each_required, visit as visited, walk_by as walked, require_root as with_root, require_roots as with_roots};
 ghost use Rattle.cover_pick.specs.Planned.{depths_of};
@@ -13,8 +14,7 @@ use crate::choice::choose;
 use crate::rule::Rule;
 use crate::target::target;
 use aig_core::{Graph, Lit};
-use cut_enum::CutTable;
-use depth_label::Labels;
+use cut_sets::{CutRows, NodeLabels};
 use std::alloc::{AllocError, Global};
 
 // The lesser of a depth and another one that may be missing.
@@ -49,24 +49,24 @@ fn require_each(reqs: &mut [Option<u32>], leaves: &[u32], r: u32)
 fn visit(
     rule: Rule,
     graph: &Graph,
-    table: &CutTable,
-    labels: &Labels,
+    rows: &CutRows,
+    labels: &NodeLabels,
     flows: &[u64],
     reqs: &mut [Option<u32>],
     n: u32,
 ) -> Option<u32>
-    requires table { IsCutTable graph.now table.now }
+    requires serving { IsServing rule graph.now (label_at labels.now) rows.now }
     requires capped { AreCapped flows.now }
     requires node { IsAnd graph.now n }
     requires len { length reqs.old ≡ node_count graph.now }
-    ensures reqs { reqs.new ≡ visited (choice_by rule table.now (label_of labels.now) flows.now reqs.old) n (need reqs.old n) reqs.old }
+    ensures reqs { reqs.new ≡ visited (choice_by rule rows.now (label_at labels.now) flows.now reqs.old) n (need reqs.old n) reqs.old }
     ensures above { (m : ℕ) → n ≤ m → need reqs.new m ≡ need reqs.old m }
-    ensures best { cut_of (row_at table.now n) result ≡ found_for (found_in rule (label_of labels.now) flows.now reqs.old (row_at table.now n)) (need reqs.old n) }
-    ensures inside { (i : ℕ) → result ≡ Some i → i < length (row_at table.now n) }
+    ensures best { cut_of (row_at rows.now n) result ≡ found_for (found_in rule (label_at labels.now) flows.now reqs.old (row_at rows.now n)) (need reqs.old n) }
+    ensures inside { (i : ℕ) → result ≡ Some i → i < length (row_at rows.now n) }
 {
     let r = reqs[n as usize]?;
-    let place = choose(rule, table, labels, flows, reqs, n, r)?;
-    require_each(reqs, table.leaves(n, place), r.saturating_sub(1));
+    let place = choose(rule, rows, labels, flows, reqs, n, r)?;
+    require_each(reqs, rows.leaves(n, place), r.saturating_sub(1));
     Some(place)
 }
 
@@ -74,24 +74,24 @@ fn visit(
 fn walk(
     rule: Rule,
     graph: &Graph,
-    table: &CutTable,
-    labels: &Labels,
+    rows: &CutRows,
+    labels: &NodeLabels,
     flows: &[u64],
     reqs: &mut [Option<u32>],
     places: &mut [Option<u32>],
 )
-    requires table { IsCutTable graph.now table.now }
+    requires serving { IsServing rule graph.now (label_at labels.now) rows.now }
     requires capped { AreCapped flows.now }
     requires len { length reqs.old ≡ node_count graph.now }
-    requires places { AreBestPlaces graph.now table.now (found_from rule graph.now table.now (label_of labels.now) flows.now reqs.old) reqs.old (node_count graph.now) places.old }
-    ensures reqs { reqs.new ≡ walked (choice_by rule table.now (label_of labels.now) flows.now) (first_and graph.now) (length graph.now.pairs) reqs.old }
-    ensures places { AreBestPlaces graph.now table.now (found_from rule graph.now table.now (label_of labels.now) flows.now reqs.old) reqs.new (first_and graph.now) places.new }
+    requires places { AreBestPlaces graph.now rows.now (found_from rule graph.now rows.now (label_at labels.now) flows.now reqs.old) reqs.old (node_count graph.now) places.old }
+    ensures reqs { reqs.new ≡ walked (choice_by rule rows.now (label_at labels.now) flows.now) (first_and graph.now) (length graph.now.pairs) reqs.old }
+    ensures places { AreBestPlaces graph.now rows.now (found_from rule graph.now rows.now (label_at labels.now) flows.now reqs.old) reqs.new (first_and graph.now) places.new }
 {
     let first = graph.sources() + 1;
     let count = graph.len() - first;
     for i in 0..count {
         let n = first + (count - 1 - i);
-        places[n as usize] = visit(rule, graph, table, labels, flows, reqs, n);
+        places[n as usize] = visit(rule, graph, rows, labels, flows, reqs, n);
     }
 }
 
@@ -122,22 +122,21 @@ pub fn chosen_places(
     alloc: Global,
     rule: Rule,
     graph: &Graph,
-    table: &CutTable,
-    labels: &Labels,
+    rows: &CutRows,
+    labels: &NodeLabels,
     roots: &[Lit],
     flows: &[u64],
 ) -> Result<Vec<Option<u32>>, AllocError>
-    requires table { IsCutTable graph.now table.now }
-    requires labels { AreLabelled graph.now table.now labels.now }
+    requires serving { IsServing rule graph.now (label_at labels.now) rows.now }
     requires roots { AreRoots graph.now (lits_of roots.now) }
     requires capped { AreCapped flows.now }
-    ensures places { IfOk result (λ places. AreBestPlaces graph.now table.now (found_of rule graph.now table.now (label_of labels.now) (lits_of roots.now) flows.now) (depths_of rule graph.now table.now (label_of labels.now) (lits_of roots.now) flows.now) (first_and graph.now) places.items) }
+    ensures places { IfOk result (λ places. AreBestPlaces graph.now rows.now (found_of rule graph.now rows.now (label_at labels.now) (lits_of roots.now) flows.now) (depths_of rule graph.now rows.now (label_at labels.now) (lits_of roots.now) flows.now) (first_and graph.now) places.items) }
     ensures normal { IfOk result (λ _. AreNormal (first_and graph.now) graph.now.pairs) }
 {
     let t = target(graph, labels, roots);
     let mut depths = vec![in alloc; None; graph.len() as usize]?;
     let mut places = vec![in alloc; None; graph.len() as usize]?;
     require_roots(graph, roots, t, &mut depths);
-    walk(rule, graph, table, labels, flows, &mut depths, &mut places);
+    walk(rule, graph, rows, labels, flows, &mut depths, &mut places);
     Ok(places)
 }

@@ -45,7 +45,7 @@ fn leaves_of(alloc: Global, graph: &Graph, cuts: &ChosenCuts, lit: Lit) -> Optio
         return Some(Cut::empty(alloc));
     }
     if n > graph.sources() {
-        return cuts.cut(n);
+        return cuts.cut(alloc, n);
     }
     match graph.kind(n) {
         Kind::Regular => {

@@ -2,11 +2,11 @@
 ghost use Rattle.std.specs.Prelude.{◌≡◌, ℕ, ◌/◌, ◌<◌};
 ghost use Rattle.aig_core.specs.Aig.{first_and};
 ghost use Rattle.aig_core.specs.Roots.{lits_of};
-ghost use Rattle.depth_label.specs.Label.{label_of};
+ghost use Rattle.cut_sets.specs.Labels.{label_at};
 ghost use Rattle.cover_pick.specs.Target.{source_level as the_source_level, root_level as the_root_level, target as the_target};
 
 use aig_core::{Graph, Kind, Lit};
-use depth_label::Labels;
+use cut_sets::NodeLabels;
 
 // The level of a root that is a source.
 fn source_level(graph: &Graph, root: Lit) -> u32
@@ -24,8 +24,8 @@ fn source_level(graph: &Graph, root: Lit) -> u32
 }
 
 // The level of a root.
-fn root_level(graph: &Graph, labels: &Labels, root: Lit) -> u32
-    ensures { result ≡ the_root_level graph.now (label_of labels.now) root.0 }
+fn root_level(graph: &Graph, labels: &NodeLabels, root: Lit) -> u32
+    ensures { result ≡ the_root_level graph.now (label_at labels.now) root.0 }
 {
     if root.0 / 2 <= graph.sources() {
         return source_level(graph, root);
@@ -34,8 +34,8 @@ fn root_level(graph: &Graph, labels: &Labels, root: Lit) -> u32
 }
 
 // The greatest level of the roots.
-pub fn target(graph: &Graph, labels: &Labels, roots: &[Lit]) -> u32
-    ensures { result ≡ the_target graph.now (label_of labels.now) (lits_of roots.now) }
+pub fn target(graph: &Graph, labels: &NodeLabels, roots: &[Lit]) -> u32
+    ensures { result ≡ the_target graph.now (label_at labels.now) (lits_of roots.now) }
 {
     let mut most = 0;
     for root in roots {

@@ -1,24 +1,32 @@
 //! The chosen template, and the public calls.
-ghost use Rattle.std.specs.Prelude.{◌≡◌, ◌⊎◌, ℕ, IfOk, IfErr};
+ghost use Rattle.std.specs.Prelude.{◌≡◌, ◌⊎◌, ◌*◌, ◌≤◌, ℕ, length, IfOk, IfErr};
 ghost use Rattle.aig_core.specs.Aig.{node_count};
 ghost use Rattle.aig_core.specs.Roots.{lits_of, roots_of, AreRoots};
 ghost use Rattle.cut_enum.specs.Table.{AreRows};
 ghost use Rattle.depth_label.specs.Label.{label_of, IsCutTable, AreLabelled};
 ghost use Rattle.tl_fault.specs.OrMemory.{OrMemory};
 ghost use Rattle.cover_pick.specs.Refusals.{refusal_of};
-ghost use Rattle.cover_pick.specs.declared.rule.Rule.TheVariants.{FewestLeaves};
+ghost use Rattle.cut_sets.specs.Labels.{label_at, AreLeastHeights};
+ghost use Rattle.cut_sets.specs.declared.limits.TheConstants.{MOST_CUTS, MOST_LEAVES};
+ghost use Rattle.bounded_cuts.specs.Making.{AreLows, low_in};
+ghost use Rattle.bounded_cuts.specs.Sets.{places};
+ghost use Rattle.cover_pick.specs.Rounds.{Supply, Rows, Sets};
 ghost use Rattle.cover_pick.specs.Mapping.{IsMapping, IsLeast};
 ghost use Rattle.cover_pick.specs.Work.{IsLight};
 ghost use Rattle.cover_pick.specs.Template.{TemplateValue, IsTemplate, AreTimely, IsTooMuch};
 ghost use Rattle.cover_pick.specs.Marks.{IsMade};
+ghost use Rattle.cover_pick.specs.Supplied.{IsSupplied};
 
+use crate::cuts::cuts_by;
 use crate::lut::{Lut, PickErr};
-use crate::rounds::chosen_cuts;
+use crate::makings::cheapest_tables;
 use crate::rule::Rule;
 use crate::tables::{Tables, make_tables};
 use crate::target::target;
 use aig_core::{Graph, Lit, Roots};
+use bounded_cuts::set_laws;
 use cut_enum::CutTable;
+use cut_sets::{FlatCut, NodeLabels};
 use depth_label::Labels;
 use std::alloc::{AllocError, Global};
 use std::marker::Model;
@@ -51,10 +59,9 @@ fn all_roots(alloc: Global, roots: &Roots) -> Result<Vec<Lit>, AllocError>
     Ok(all)
 }
 
-// The LUTs of the needed literals over the chosen cuts, unless their work exceeds the limit.
-fn chosen_tables(
+// The LUTs of the needed literals over the cuts of the fewest leaves, unless their work exceeds the limit.
+fn fewest_tables(
     alloc: Global,
-    rule: Rule,
     graph: &Graph,
     table: &CutTable,
     labels: &Labels,
@@ -63,37 +70,37 @@ fn chosen_tables(
     requires table { IsCutTable graph.now table.now }
     requires labels { AreLabelled graph.now table.now labels.now }
     requires roots { AreRoots graph.now (lits_of roots.now) }
-    ensures ok { IfOk result (λ made. IsMade rule graph.now table.now (label_of labels.now) (lits_of roots.now) made) }
+    ensures ok { IfOk result (λ made. IsMade (Rows table.now) graph.now (label_of labels.now) (lits_of roots.now) made) }
     ensures light { IfOk result (λ made. IsLight graph.now made.luts) }
-    ensures err { IfErr result (OrMemory refusal_of (λ _. IsTooMuch rule graph.now table.now (label_of labels.now) (lits_of roots.now))) }
+    ensures err { IfErr result (OrMemory refusal_of (λ _. IsTooMuch (Rows table.now) graph.now (label_of labels.now) (lits_of roots.now))) }
 {
-    let cuts = chosen_cuts(alloc, rule, graph, table, labels, roots)?;
+    // The contract of this call says that the graph's pairs are normal, which the least depth needs.
+    let _count = graph.len();
+    let labels = labels.node_labels();
+    let rule = Rule::FewestLeaves;
+    let cuts = cuts_by(alloc, rule, graph, table.rows(), labels, roots, &[])?;
     let made = make_tables(alloc, graph, &cuts, roots)?;
     Ok(made)
 }
 
-// The template, unless its work exceeds the limit.
+// The template of these LUTs.
 fn template_of(
     alloc: Global,
-    rule: Rule,
     graph: &Graph,
+    labels: &NodeLabels,
     roots: &Roots,
-    table: &CutTable,
-    labels: &Labels,
-) -> Result<Template, PickErr>
-    requires table { IsCutTable graph.now table.now }
-    requires labels { AreLabelled graph.now table.now labels.now }
+    all: &[Lit],
+    made: Tables,
+) -> Result<Template, AllocError>
+    requires all { lits_of all.now ≡ roots_of roots.now }
     requires roots { AreRoots graph.now (roots_of roots.now) }
-    ensures template { IfOk result (λ t. IsTemplate rule graph.now table.now (label_of labels.now) roots.now t) }
-    ensures timely { IfOk result (λ t. AreTimely rule graph.now table.now (label_of labels.now) (roots_of roots.now) t.luts) }
-    ensures light { IfOk result (λ t. IsLight graph.now t.luts) }
-    ensures work { IfErr result (OrMemory refusal_of (λ _. IsTooMuch rule graph.now table.now (label_of labels.now) (roots_of roots.now))) }
+    ensures template { IfOk result (λ t. (supply : Supply) → IsMade supply graph.now (label_at labels.now) (roots_of roots.now) made → IsTemplate supply graph.now (label_at labels.now) roots.now t) }
+    ensures timely { IfOk result (λ t. (supply : Supply) → IsMade supply graph.now (label_at labels.now) (roots_of roots.now) made → IsSupplied supply graph.now (label_at labels.now) → AreTimely supply graph.now (label_at labels.now) (roots_of roots.now) t.luts) }
+    ensures luts { IfOk result (λ t. t.luts ≡ made.luts) }
 {
-    let all = all_roots(alloc, roots)?;
-    let depth = target(graph, labels, &all);
+    let depth = target(graph, labels, all);
     let outputs = Vec::from_slice(alloc, &roots.outputs)?;
     let next = Vec::from_slice(alloc, &roots.next)?;
-    let made = chosen_tables(alloc, rule, graph, table, labels, &all)?;
     Ok(Template {
         luts: made.luts,
         outputs,
@@ -103,24 +110,62 @@ fn template_of(
     })
 }
 
-/// The template of a graph for the roots, chosen by `rule`, with the least depth that the cuts of the graph allow.
+// The template over the cuts of the fewest leaves.
+fn fewest_template(
+    alloc: Global,
+    graph: &Graph,
+    roots: &Roots,
+    table: &CutTable,
+    labels: &Labels,
+) -> Result<Template, PickErr>
+    requires table { IsCutTable graph.now table.now }
+    requires labels { AreLabelled graph.now table.now labels.now }
+    requires roots { AreRoots graph.now (roots_of roots.now) }
+    ensures template { IfOk result (λ t. IsTemplate (Rows table.now) graph.now (label_of labels.now) roots.now t) }
+    ensures timely { IfOk result (λ t. IsSupplied (Rows table.now) graph.now (label_of labels.now) → AreTimely (Rows table.now) graph.now (label_of labels.now) (roots_of roots.now) t.luts) }
+    ensures light { IfOk result (λ t. IsLight graph.now t.luts) }
+    ensures work { IfErr result (OrMemory refusal_of (λ _. IsTooMuch (Rows table.now) graph.now (label_of labels.now) (roots_of roots.now))) }
+{
+    let all = all_roots(alloc, roots)?;
+    let made = fewest_tables(alloc, graph, table, labels, &all)?;
+    let template = template_of(alloc, graph, labels.node_labels(), roots, &all, made)?;
+    Ok(template)
+}
+
+// The template over the cuts of the least cost.
+fn compact_template(
+    alloc: Global,
+    graph: &Graph,
+    k: u8,
+    roots: &Roots,
+    labels: &NodeLabels,
+    lows: &[FlatCut],
+) -> Result<Template, PickErr>
+    requires least { 2 ≤ k }
+    requires few { k ≤ MOST_LEAVES }
+    requires labels { AreLeastHeights graph.now k (label_at labels.now) }
+    requires lows { AreLows graph.now k (label_at labels.now) lows.now }
+    requires room { places k * length graph.now.pairs ≤ MOST_CUTS }
+    requires roots { AreRoots graph.now (roots_of roots.now) }
+    ensures template { IfOk result (λ t. IsTemplate (Sets k (low_in lows.now)) graph.now (label_at labels.now) roots.now t) }
+    ensures timely { IfOk result (λ t. IsSupplied (Sets k (low_in lows.now)) graph.now (label_at labels.now) → AreTimely (Sets k (low_in lows.now)) graph.now (label_at labels.now) (roots_of roots.now) t.luts) }
+    ensures light { IfOk result (λ t. IsLight graph.now t.luts) }
+    ensures work { IfErr result (OrMemory refusal_of (λ _. IsTooMuch (Sets k (low_in lows.now)) graph.now (label_at labels.now) (roots_of roots.now))) }
+{
+    let all = all_roots(alloc, roots)?;
+    let made = cheapest_tables(alloc, graph, k, labels, lows, &all)?;
+    let template = template_of(alloc, graph, labels, roots, &all, made)?;
+    Ok(template)
+}
+
+/// The template of a graph for the roots by the rule of the fewest leaves, with the least depth that the cuts of the graph allow.
 ///
 /// The target is the greatest level over the roots: the label of an AND root, 1 for a complemented regular source, and 0 for
 /// any other root. The AND nodes are visited in descending order. The node of a root is required at the target. If a node is
 /// required at depth r, the leaves of its chosen cut are required at r - 1. The chosen cut is one of the minimal cuts with a
 /// height of at most the required depth, so a node off the critical path takes a cheaper LUT (Cong and Ding 1994, with the
-/// area recovery by required depths of later mappers). Of these cuts
-///
-/// - `FewestLeaves` takes one with the fewest leaves, then the least height, then the lexicographically least;
-/// - `LeastCost` takes one with the least cost, then the fewest leaves, then the lexicographically least. A cut of m leaves
-///   costs 2^m plus the flows of its leaves, without those that a root or the chosen cut of a node above needs. The *flow* of
-///   an AND node is the least over its cuts of 256 + 2^m plus the flows of the leaves, at most 2^40, divided by a count of its
-///   readers (by 1 if it is 0) and rounded down (the area flow of Manohararajah, Brown and Vranesic, 2006).
-///
-/// `LeastCost` works in six rounds, each of which gives a cover. The first three take flows over all cuts, the other three
-/// only over the cuts of the least height, at most their node's label. The first round of each three counts the fan-outs of a
-/// node, and each later one the chosen cuts in the cover before it that have the node as a leaf. A cover costs 256 + 2^m for
-/// each chosen cut of m leaves, and the first of the six covers with the least cost is taken.
+/// area recovery by required depths of later mappers): one with the fewest leaves, then the least height, then the
+/// lexicographically least.
 ///
 /// Each root and each leaf of a chosen cut has a LUT, except positive regular sources, which are wires.
 ///
@@ -131,41 +176,9 @@ fn template_of(
 ///
 /// # Complexity
 ///
-/// `FewestLeaves` reads the minimal cuts of a needed node once, up to the first with more leaves than the chosen one. In each
-/// of at most six rounds `LeastCost` reads those of each AND node once, and those of a needed node once more. A round with the
-/// same counts as the one before it is left out. Each AND node in the cone of a LUT is read once for that LUT. So the table of
-/// cuts and the work bound the time; at most the limit and one more cone of the work is counted.
-pub fn pick_by(
-    alloc: Global,
-    rule: Rule,
-    graph: &Graph,
-    roots: &Roots,
-    table: &CutTable,
-    labels: &Labels,
-) -> Result<Template, PickErr>
-    requires table { IsCutTable graph.now table.now }
-    requires labels { AreLabelled graph.now table.now labels.now }
-    requires roots { AreRoots graph.now (roots_of roots.now) }
-    ensures template { IfOk result (λ t. IsTemplate rule graph.now table.now (label_of labels.now) roots.now t) }
-    ensures timely { IfOk result (λ t. AreTimely rule graph.now table.now (label_of labels.now) (roots_of roots.now) t.luts) }
-
-    // Exactly one template exists. It maps the graph with the least depth over all covers, whatever the call returns.
-    ensures mapping { (t : TemplateValue) → IsTemplate rule graph.now table.now (label_of labels.now) roots.now t → (k : ℕ) → AreRows graph.now k (node_count graph.now) table.now → IsMapping graph.now k (roots_of roots.now) t.luts t.bits }
-    ensures least { (t : TemplateValue) → IsTemplate rule graph.now table.now (label_of labels.now) roots.now t → (k : ℕ) → AreRows graph.now k (node_count graph.now) table.now → IsLeast graph.now k (roots_of roots.now) t.luts t.depth }
-    ensures once { (t u : TemplateValue) → IsTemplate rule graph.now table.now (label_of labels.now) roots.now t → IsTemplate rule graph.now table.now (label_of labels.now) roots.now u → t ≡ u }
-
-    // The limit on the work, in both directions.
-    ensures light { IfOk result (λ t. IsLight graph.now t.luts) }
-    ensures work { IfErr result (OrMemory refusal_of (λ _. IsTooMuch rule graph.now table.now (label_of labels.now) (roots_of roots.now))) }
-    ensures excluded { (t : TemplateValue) → IsTemplate rule graph.now table.now (label_of labels.now) roots.now t → IsLight graph.now t.luts → IsTooMuch rule graph.now table.now (label_of labels.now) (roots_of roots.now) → ⊥ }
-    ensures too_much { IsTooMuch rule graph.now table.now (label_of labels.now) (roots_of roots.now) → (result ≡ Err PickErr.Work) ⊎ (result ≡ Err PickErr.Memory) }
-{
-    // The contract of this call says that the graph's pairs are normal, which the laws need.
-    let _count = graph.len();
-    template_of(alloc, rule, graph, roots, table, labels)
-}
-
-/// The template of a graph for the roots by the rule of the fewest leaves: `pick_by` with `FewestLeaves`.
+/// The minimal cuts of a needed node are read once, up to the first with more leaves than the chosen one. Each AND node in the
+/// cone of a LUT is read once for that LUT. So the table of cuts and the work bound the time; at most the limit and one more
+/// cone of the work is counted.
 pub fn pick(
     alloc: Global,
     graph: &Graph,
@@ -176,19 +189,78 @@ pub fn pick(
     requires table { IsCutTable graph.now table.now }
     requires labels { AreLabelled graph.now table.now labels.now }
     requires roots { AreRoots graph.now (roots_of roots.now) }
-    ensures template { IfOk result (λ t. IsTemplate FewestLeaves graph.now table.now (label_of labels.now) roots.now t) }
-    ensures timely { IfOk result (λ t. AreTimely FewestLeaves graph.now table.now (label_of labels.now) (roots_of roots.now) t.luts) }
+    ensures template { IfOk result (λ t. IsTemplate (Rows table.now) graph.now (label_of labels.now) roots.now t) }
+    ensures timely { IfOk result (λ t. AreTimely (Rows table.now) graph.now (label_of labels.now) (roots_of roots.now) t.luts) }
 
     // Exactly one template exists. It maps the graph with the least depth over all covers, whatever the call returns.
-    ensures mapping { (t : TemplateValue) → IsTemplate FewestLeaves graph.now table.now (label_of labels.now) roots.now t → (k : ℕ) → AreRows graph.now k (node_count graph.now) table.now → IsMapping graph.now k (roots_of roots.now) t.luts t.bits }
-    ensures least { (t : TemplateValue) → IsTemplate FewestLeaves graph.now table.now (label_of labels.now) roots.now t → (k : ℕ) → AreRows graph.now k (node_count graph.now) table.now → IsLeast graph.now k (roots_of roots.now) t.luts t.depth }
-    ensures once { (t u : TemplateValue) → IsTemplate FewestLeaves graph.now table.now (label_of labels.now) roots.now t → IsTemplate FewestLeaves graph.now table.now (label_of labels.now) roots.now u → t ≡ u }
+    ensures mapping { (t : TemplateValue) → IsTemplate (Rows table.now) graph.now (label_of labels.now) roots.now t → (k : ℕ) → AreRows graph.now k (node_count graph.now) table.now → IsMapping graph.now k (roots_of roots.now) t.luts t.bits }
+    ensures least { (t : TemplateValue) → IsTemplate (Rows table.now) graph.now (label_of labels.now) roots.now t → (k : ℕ) → AreRows graph.now k (node_count graph.now) table.now → IsLeast graph.now k (roots_of roots.now) t.luts t.depth }
+    ensures once { (t u : TemplateValue) → IsTemplate (Rows table.now) graph.now (label_of labels.now) roots.now t → IsTemplate (Rows table.now) graph.now (label_of labels.now) roots.now u → t ≡ u }
 
     // The limit on the work, in both directions.
     ensures light { IfOk result (λ t. IsLight graph.now t.luts) }
-    ensures work { IfErr result (OrMemory refusal_of (λ _. IsTooMuch FewestLeaves graph.now table.now (label_of labels.now) (roots_of roots.now))) }
-    ensures excluded { (t : TemplateValue) → IsTemplate FewestLeaves graph.now table.now (label_of labels.now) roots.now t → IsLight graph.now t.luts → IsTooMuch FewestLeaves graph.now table.now (label_of labels.now) (roots_of roots.now) → ⊥ }
-    ensures too_much { IsTooMuch FewestLeaves graph.now table.now (label_of labels.now) (roots_of roots.now) → (result ≡ Err PickErr.Work) ⊎ (result ≡ Err PickErr.Memory) }
+    ensures work { IfErr result (OrMemory refusal_of (λ _. IsTooMuch (Rows table.now) graph.now (label_of labels.now) (roots_of roots.now))) }
+    ensures excluded { (t : TemplateValue) → IsTemplate (Rows table.now) graph.now (label_of labels.now) roots.now t → IsLight graph.now t.luts → IsTooMuch (Rows table.now) graph.now (label_of labels.now) (roots_of roots.now) → ⊥ }
+    ensures too_much { IsTooMuch (Rows table.now) graph.now (label_of labels.now) (roots_of roots.now) → (result ≡ Err PickErr.Work) ⊎ (result ≡ Err PickErr.Memory) }
 {
-    pick_by(alloc, Rule::FewestLeaves, graph, roots, table, labels)
+    // The contract of this call says that the graph's pairs are normal, which the least depth needs.
+    let _count = graph.len();
+    fewest_template(alloc, graph, roots, table, labels)
+}
+
+/// The template of a graph for the roots by the rule of the least cost, over bounded sets of cuts, for LUTs of at most `k` inputs.
+///
+/// Required depths are those of [`pick`]. The chosen cut is one of the node's set with a height of at most the required depth,
+/// and of these one with the least cost, then the fewest leaves, then the lexicographically least. A cut of m leaves costs 2^m
+/// plus the flows of its leaves, without those that a root or the chosen cut of a node above needs. The *flow* of an AND node is
+/// the least over its set of 256 + 2^m plus the flows of the leaves, at most 2^40, divided by a count of its readers (by 1 if it
+/// is 0) and rounded down (the area flow of Manohararajah, Brown and Vranesic, 2006).
+///
+/// The sets are made twice (crate `bounded_cuts`), and each time six rounds give a cover each. The first three take flows over
+/// all cuts, the other three only over the cuts of the least height, at most their node's label. The first round of each three
+/// counts the readers as the sets do, and each later one the chosen cuts in the cover before it that have the node as a leaf. A
+/// cover costs 256 + 2^m for each chosen cut of m leaves. The first sets are for the fan-outs; the second ones for the uses in
+/// the first of the least cost of the six covers, whose nodes cost nothing in the sets' last taking. The first of the least cost
+/// of all twelve covers is taken.
+///
+/// # Errors
+///
+/// As those of [`pick`].
+///
+/// # Complexity
+///
+/// Linear in the graph for a given `k`, but for the work of the LUTs: a set has at most 2k + 4 cuts. A round with the same counts
+/// as the one before it is left out.
+pub fn pick_compact(
+    alloc: Global,
+    graph: &Graph,
+    k: u8,
+    roots: &Roots,
+    labels: &NodeLabels,
+    lows: &[FlatCut],
+) -> Result<Template, PickErr>
+    requires least { 2 ≤ k }
+    requires few { k ≤ MOST_LEAVES }
+    requires labels { AreLeastHeights graph.now k (label_at labels.now) }
+    requires lows { AreLows graph.now k (label_at labels.now) lows.now }
+    requires room { places k * length graph.now.pairs ≤ MOST_CUTS }
+    requires roots { AreRoots graph.now (roots_of roots.now) }
+    ensures template { IfOk result (λ t. IsTemplate (Sets k (low_in lows.now)) graph.now (label_at labels.now) roots.now t) }
+    ensures timely { IfOk result (λ t. AreTimely (Sets k (low_in lows.now)) graph.now (label_at labels.now) (roots_of roots.now) t.luts) }
+
+    // Exactly one template exists. It maps the graph with the least depth over all covers, whatever the call returns.
+    ensures mapping { (t : TemplateValue) → IsTemplate (Sets k (low_in lows.now)) graph.now (label_at labels.now) roots.now t → IsMapping graph.now k (roots_of roots.now) t.luts t.bits }
+    ensures least { (t : TemplateValue) → IsTemplate (Sets k (low_in lows.now)) graph.now (label_at labels.now) roots.now t → IsLeast graph.now k (roots_of roots.now) t.luts t.depth }
+    ensures once { (t u : TemplateValue) → IsTemplate (Sets k (low_in lows.now)) graph.now (label_at labels.now) roots.now t → IsTemplate (Sets k (low_in lows.now)) graph.now (label_at labels.now) roots.now u → t ≡ u }
+
+    // The limit on the work, in both directions.
+    ensures light { IfOk result (λ t. IsLight graph.now t.luts) }
+    ensures work { IfErr result (OrMemory refusal_of (λ _. IsTooMuch (Sets k (low_in lows.now)) graph.now (label_at labels.now) (roots_of roots.now))) }
+    ensures excluded { (t : TemplateValue) → IsTemplate (Sets k (low_in lows.now)) graph.now (label_at labels.now) roots.now t → IsLight graph.now t.luts → IsTooMuch (Sets k (low_in lows.now)) graph.now (label_at labels.now) (roots_of roots.now) → ⊥ }
+    ensures too_much { IsTooMuch (Sets k (low_in lows.now)) graph.now (label_at labels.now) (roots_of roots.now) → (result ≡ Err PickErr.Work) ⊎ (result ≡ Err PickErr.Memory) }
+{
+    let _count = graph.len();
+    // The contract of this call says that a graph has one set for each node, and that sets serve.
+    set_laws(graph, k, labels, lows);
+    compact_template(alloc, graph, k, roots, labels, lows)
 }

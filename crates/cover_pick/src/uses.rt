@@ -1,9 +1,9 @@
 //! How often chosen cuts use each node, and what they cost.
-ghost use Rattle.std.specs.Prelude.{◌≡◌, ℕ, ◌+◌, ◌<◌, ◌^◌, length, IfOk, slice_index_or};
+ghost use Rattle.std.specs.Prelude.{◌≡◌, ℕ, ◌+◌, ◌<◌, ◌^◌, false, length, IfOk, slice_index_or};
 ghost use Rattle.aig_core.specs.Aig.{node_count};
 ghost use Rattle.cover_pick.specs.Planned.{cut_at};
 ghost use Rattle.cover_pick.specs.Counts.{count_at, count_each as each_counted, AreLeaves, AreUsed};
-ghost use Rattle.cover_pick.specs.Uses.{times_in, cost_of as the_cost_of};
+ghost use Rattle.cover_pick.specs.Uses.{times_in, has_cut, cost_of as the_cost_of};
 
 use crate::cuts::ChosenCuts;
 use crate::flow::count_one;
@@ -40,6 +40,22 @@ pub fn uses(alloc: Global, graph: &Graph, cuts: &ChosenCuts) -> Result<Vec<u32>,
     let mut counts = vec![in alloc; 0; graph.len() as usize]?;
     count_cuts(graph, cuts, &mut counts);
     Ok(counts)
+}
+
+// Whether each node has a chosen cut.
+pub fn needed_nodes(
+    alloc: Global,
+    graph: &Graph,
+    cuts: &ChosenCuts,
+) -> Result<Vec<bool>, AllocError>
+    ensures each { IfOk result (λ needed. (m : ℕ) → m < node_count graph.now → slice_index_or needed.items m false ≡ has_cut (cut_at cuts.now m)) }
+    ensures len { IfOk result (λ needed. length needed.items ≡ node_count graph.now) }
+{
+    let mut needed = Vec::new(alloc);
+    for n in 0..graph.len() {
+        needed.push(cuts.is_chosen(n))?;
+    }
+    Ok(needed)
 }
 
 // What the LUTs of the chosen cuts cost together.

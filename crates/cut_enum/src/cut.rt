@@ -138,8 +138,8 @@ impl Cut {
         Cut { leaves, signature }
     }
 
-    // The cut of these leaves.
-    pub(crate) fn of(alloc: Global, leaves: &[u32]) -> Cut
+    /// The cut of these leaves. It allocates no memory.
+    pub fn of(alloc: Global, leaves: &[u32]) -> Cut
         requires few { length leaves.now ≤ MOST_LEAVES }
         requires ascending { IsAscending leaves.now }
         ensures { result ≡ leaves.now }

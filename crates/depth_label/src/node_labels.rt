@@ -39,6 +39,13 @@ impl Labels {
         &self.labels
     }
 
+    /// The labels alone, without the best cuts.
+    pub fn into_node_labels(self) -> NodeLabels
+        ensures { result ≡ self.labels }
+    {
+        self.labels
+    }
+
     /// The label of a node: 0 for a source, otherwise the least height of its minimal cuts. Past the last node it is 0.
     ///
     /// Constant time.

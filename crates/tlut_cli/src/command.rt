@@ -31,11 +31,11 @@ pub enum Command<'a> {
 }
 
 // Reads one of the commands about certificates.
-fn read_cert_command(words: &[String]) -> Option<Command<'_>>
-    ensures value { option_map (λ c. command_seen c) result ≡ cert_commands (map string_bytes words.now) }
+fn read_cert_command(rule: Rule, words: &[String]) -> Option<Command<'_>>
+    ensures value { option_map (λ c. command_seen c) result ≡ cert_commands rule (map string_bytes words.now) }
     ensures range { (ports : ℕ) → IfSome result (HasRange ports) }
 {
-    if let Some(words) = read_prove(words) {
+    if let Some(words) = read_prove(rule, words) {
         return Some(Command::Prove(words));
     }
     match read_audit(words) {
@@ -49,7 +49,7 @@ fn read_later(rule: Rule, words: &[String]) -> Option<Command<'_>>
     ensures value { option_map (λ c. command_seen c) result ≡ later_commands rule (map string_bytes words.now) }
     ensures range { (ports : ℕ) → IfSome result (HasRange ports) }
 {
-    if let Some(command) = read_cert_command(words) {
+    if let Some(command) = read_cert_command(rule, words) {
         return Some(command);
     }
     if let Some(words) = read_graph_words(words) {

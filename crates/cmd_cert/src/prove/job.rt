@@ -4,6 +4,7 @@ ghost use Rattle.tl_text.specs.declared.logical_lines.TheConstants.{MOST_BYTES};
 ghost use Rattle.tl_io.specs.Port.{PortSeen};
 ghost use Rattle.aig_core.specs.Roots.{roots_of};
 ghost use Rattle.cut_sets.specs.Covers.{IsLeastDepth};
+ghost use Rattle.cover_pick.specs.declared.rule.Rule.{Rule};
 ghost use Rattle.cert_check.specs.Valid.{IsValid};
 ghost use Rattle.cert_check.specs.WrittenText.{IsWritable, cert_text};
 ghost use Rattle.cmd_base.specs.Walk.{outside, KeepsFiles, Ends, Explains, Told, HasLaws};
@@ -22,7 +23,7 @@ use crate::words::CertWords;
 use cert_check::Certificate;
 use cmd_base::Outcome;
 use cmd_stations::{LabelledSource, read_labelled};
-use flow_cert::certify;
+use flow_cert::certify_by_flow;
 use std::alloc::{AllocError, Global};
 use tl_io::{Failed, Shelf, Sink};
 
@@ -37,19 +38,12 @@ pub struct Proof {
 // The certificate of a labelled source circuit, and its line.
 fn make_proof(alloc: Global, labelled: LabelledSource, k: u8) -> Result<Proof, AllocError>
     requires size { IsTableSize k }
-    requires labelled { IsLabelledSource k labelled }
+    requires labelled { (rule : Rule) × IsLabelledSource rule k labelled }
     ensures labelled { IfOk result (λ p. p.labelled ≡ labelled) }
-    ensures proof { IfOk result (IsProof k) }
+    ensures proof { IfOk result (λ p. (rule : Rule) → IsLabelledSource rule k labelled → IsProof rule k p) }
 {
     let built = &labelled.built;
-    let certified = certify(
-        alloc,
-        &built.graph,
-        &built.roots,
-        &labelled.table,
-        &labelled.labels,
-        k,
-    );
+    let certified = certify_by_flow(alloc, &built.graph, &built.roots, &labelled.labels, k);
     let cert = match certified {
         Ok(cert) => cert,
         Err(error) => {
@@ -74,7 +68,7 @@ fn make_proof(alloc: Global, labelled: LabelledSource, k: u8) -> Result<Proof, A
 // Reads a source circuit, and makes its certificate.
 fn read_proof<S: Shelf>(alloc: Global, words: &CertWords, shelf: &mut S) -> Result<Proof, Outcome>
     requires { IsTableSize words.now.source.k }
-    ensures proof { IfOk result (IsProof words.now.source.k) }
+    ensures proof { IfOk result (IsProof words.now.source.rule words.now.source.k) }
     ensures comes { IfOk result (λ p. Told (S.seen shelf.old).files (λ files. ComesToLabels files (cert_seen words.now).source p.labelled)) }
     ensures given { OnOk result ((S.seen shelf.new).given ≤ MOST_BYTES) }
     ensures err { IfErr result (Explains (source_reading ToLabels (cert_seen words.now).source) (S.seen shelf.old) (S.seen shelf.new)) }

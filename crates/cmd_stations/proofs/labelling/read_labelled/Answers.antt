@@ -10,7 +10,7 @@ returns-in-Ok-label_source-clause-comes g c files told =
     let comes = c.in-Ok.ensures.source files told in
     let made = c.in-Ok-label_source.field-0 in
     record {
-      has = record { graph_is = record { has = comes.has; built = c.in-Ok-label_source.ensures.built }; rows = made.table; labels = made.labels; labelled = c.in-Ok-label_source.ensures.labelled };
+      has = record { graph_is = record { has = comes.has; built = c.in-Ok-label_source.ensures.built }; labels = made.labels; labelled = c.in-Ok-label_source.ensures.labelled };
       settled = making_settles ToLabels files (source_seen c.args.words.now) c.in-Ok.source comes c.in-Ok-label_source.ensures.settled;
     }
 

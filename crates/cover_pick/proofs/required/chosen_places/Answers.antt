@@ -1,12 +1,12 @@
-use Rattle.cover_pick.proofs.Common.{rules, ◌≡◌, ◌∙◌, ℕ, List, None, length, drop, replicate, sym, ap, subst, take_at, first_and, node_count, lits_of, label_of, target, require_roots, roots_required, found_of, depths_of, AreBestPlaces}
+use Rattle.cover_pick.proofs.Common.{rules, ◌≡◌, ◌∙◌, ℕ, List, None, length, drop, replicate, sym, ap, subst, take_at, first_and, node_count, lits_of, label_at, target, require_roots, roots_required, found_of, depths_of, AreBestPlaces}
 use Rattle.cover_pick.proofs.RuleLemmas.{places_chosen}
 use Rattle.cover_pick.proofs.required.chosen_places.Goals as goal
 
 pub returns-clause-places : goal.returns-clause-places
 returns-clause-places c =
     let g = c.args.graph.now in
-    let rows = c.args.table.now in
-    let label : ℕ → ℕ = label_of c.args.labels.now in
+    let rows = c.args.rows.now in
+    let label : ℕ → ℕ = label_at c.args.labels.now in
     let roots : List ℕ = lits_of c.args.roots.now in
     let long : length c.walk.new.places ≡ c.in_ok-places.places.len = search rules in
     let whole : length c.require_roots.new.reqs ≡ c.in_ok-depths.depths.len = search rules in

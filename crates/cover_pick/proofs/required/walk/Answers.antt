@@ -1,4 +1,4 @@
-use Rattle.cover_pick.proofs.Common.{arith, ◌∙◌, ◌+◌, ◌-◌, ◌≡◌, ℕ, suc, List, Option, length, ap, subst, sym, slice_set, first_and, node_count, row_at, label_of, choice_by, found_in, found_from, need, walk_by, met_at, found_for, AreBestPlaces}
+use Rattle.cover_pick.proofs.Common.{arith, ◌∙◌, ◌+◌, ◌-◌, ◌≡◌, ℕ, suc, List, Option, length, ap, subst, sym, slice_set, first_and, node_count, row_at, label_at, choice_by, found_in, found_from, need, walk_by, met_at, found_for, AreBestPlaces}
 use Rattle.cover_pick.proofs.WalkLemmas.{walk_step, met_now, met_later}
 use Rattle.cover_pick.proofs.RuleLemmas.{places_next}
 use Rattle.cover_pick.proofs.required.walk.Goals as goal
@@ -6,20 +6,20 @@ use Rattle.cover_pick.proofs.required.walk.Goals as goal
 pub loop-i-init : goal.loop-i-init
 loop-i-init c =
     let g = c.args.graph.now in
-    let by : List (Option ℕ) → ℕ → ℕ → List ℕ = choice_by c.args.rule c.args.table.now (label_of c.args.labels.now) c.args.flows.now in
+    let by : List (Option ℕ) → ℕ → ℕ → List ℕ = choice_by c.args.rule c.args.rows.now (label_at c.args.labels.now) c.args.flows.now in
     let all : length g.pairs - 0 ≡ length g.pairs = omega arith in
     let end : node_count g ≡ first_and g + (length g.pairs - 0) = omega arith in
     record {
       reqs = ap (λ j. walk_by by (first_and g) j c.args.reqs.now) all;
       met = λ j l. ap (λ k. met_at by (first_and g) k c.args.reqs.now (first_and g + j)) all;
-      places = subst (λ j. AreBestPlaces g c.args.table.now (found_from c.args.rule g c.args.table.now (label_of c.args.labels.now) c.args.flows.now c.args.reqs.now) c.args.reqs.now j c.args.places.now) end c.requires.places;
+      places = subst (λ j. AreBestPlaces g c.args.rows.now (found_from c.args.rule g c.args.rows.now (label_at c.args.labels.now) c.args.flows.now c.args.reqs.now) c.args.reqs.now j c.args.places.now) end c.requires.places;
     }
 
 pub loop-i-preserved : goal.loop-i-preserved
 loop-i-preserved c =
     let g = c.args.graph.now in
-    let rows = c.args.table.now in
-    let label : ℕ → ℕ = label_of c.args.labels.now in
+    let rows = c.args.rows.now in
+    let label : ℕ → ℕ = label_at c.args.labels.now in
     let by : List (Option ℕ) → ℕ → ℕ → List ℕ = choice_by c.args.rule rows label c.args.flows.now in
     let found : ℕ → ℕ → Option (List ℕ) = found_from c.args.rule g rows label c.args.flows.now c.args.reqs.now in
     let m : ℕ = length g.pairs - c.loop-i.i in
@@ -42,4 +42,4 @@ pub returns-clause-places : goal.returns-clause-places
 returns-clause-places c =
     let g = c.args.graph.now in
     let none : first_and g + (length g.pairs - c.loop-i.i) ≡ first_and g = omega arith in
-    subst (λ j. AreBestPlaces g c.args.table.now (found_from c.args.rule g c.args.table.now (label_of c.args.labels.now) c.args.flows.now c.args.reqs.now) c.loop-i.reqs j c.loop-i.places) none c.loop-i.invariant.places
+    subst (λ j. AreBestPlaces g c.args.rows.now (found_from c.args.rule g c.args.rows.now (label_at c.args.labels.now) c.args.flows.now c.args.reqs.now) c.loop-i.reqs j c.loop-i.places) none c.loop-i.invariant.places

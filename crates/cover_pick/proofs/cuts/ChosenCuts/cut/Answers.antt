@@ -3,10 +3,10 @@ use Rattle.cover_pick.proofs.RuleLemmas.{cut_at_place}
 use Rattle.cover_pick.proofs.cuts.ChosenCuts.cut.Goals as goal
 
 pub returns-in-None : goal.returns-in-None
-returns-in-None c = sym (cut_at_place c.self.inside.table.now c.self.inside.places.items c.deref.result.now c.args.self.now c.args.n c.place_at.result None c.self.view_is c.deref.ensures.value c.place_at.ensures c.in-None.is)
+returns-in-None c = sym (cut_at_place c.self.inside.rows.now c.self.inside.places.items c.deref.result.now c.args.self.now c.args.n c.place_at.result None c.self.view_is c.deref.ensures.value c.place_at.ensures c.in-None.is)
 
 pub returns-in-Some : goal.returns-in-Some
 returns-in-Some c =
-    let rows = c.self.inside.table.now in
+    let rows = c.self.inside.rows.now in
     sym (cut_at_place rows c.self.inside.places.items c.deref.result.now c.args.self.now c.args.n c.place_at.result (Some c.in-Some.place) c.self.view_is c.deref.ensures.value c.place_at.ensures c.in-Some.is
-    ∙ ap (λ x. Some x) (get_or_from_slice_get (row_at rows c.args.n) c.in-Some.place c.cut.result [] c.cut.ensures))
+    ∙ ap (λ x. Some x) (get_or_from_slice_get (row_at rows c.args.n) c.in-Some.place c.leaves.result.now [] c.leaves.ensures.leaves ∙ sym c.of.ensures))

@@ -1,0 +1,14 @@
+mod Common
+mod CostLemmas
+mod KeyLemmas
+mod TakingLemmas
+mod UnionLemmas
+mod CandidateLemmas
+mod PlaceLemmas
+mod SetLemmas
+mod ServingLemmas
+mod OnceLemmas
+mod GrowthLemmas
+mod CutLemmas
+mod ChosenLemmas
+mod MakingLemmas

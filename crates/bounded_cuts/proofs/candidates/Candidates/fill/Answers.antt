@@ -1,0 +1,81 @@
+use Rattle.bounded_cuts.proofs.Common.{rules, ◌≡◌, ◌≤◌, ◌<◌, ◌+◌, ◌*◌, ℕ, List, [], ◌∷◌, length, ap, ◌∙◌, subst, arith, In, length-append, length-map, Candidate, cuts_of, label_at}
+use Rattle.bounded_cuts.specs.Candidates.{WithLow, unions}
+use Rattle.bounded_cuts.proofs.UnionLemmas.{priced_push, unions_length}
+use Rattle.bounded_cuts.proofs.CandidateLemmas.{none_priced, are_unions, low_there, low_missing}
+use Rattle.bounded_cuts.proofs.candidates.Candidates.fill.Goals as goal
+
+pub returns-in_ok-push-clause-are : goal.returns-in_ok-push-clause-are
+returns-in_ok-push-clause-are c =
+    let p = c.args.prices.now in
+    let k : ℕ = c.args.k in
+    let xs = c.fill_front.new.front.items in
+    let ys = c.fill_front-2.new.front.items in
+    let all = c.push_unions.new.all.items in
+    let us : cuts_of all ≡ unions k xs ys = are_unions k c.clear.new.self.items all c.deref.result.now c.deref-2.result.now xs ys c.clear.ensures.items c.deref.ensures.value c.deref-2.ensures.value c.in_ok-push_unions.ensures.cuts in
+    let priced = c.in_ok-push_unions.ensures.priced (none_priced p.labels.now p.flows.now p.low_flows.now p.favoured.now c.clear.new.self.items c.clear.ensures.items) in
+    let none = subst (λ (l : List Candidate). (d : Candidate) → In l d → c.label.result < d.height) c.deref-3.ensures.value (c.has_low.ensures.no (search rules)) in
+    record {
+      pair = c.pair_at-pair.result;
+      is = record { above = c.requires.node.0; is = c.pair_at-pair.ensures.pair };
+      xs = xs;
+      x_front = c.in_ok-fill_front.ensures.hands k c.requires.labels;
+      ys = ys;
+      y_front = c.in_ok-fill_front-2.ensures.hands k c.requires.labels;
+      are = subst (λ (r : ℕ). WithLow (label_at p.labels.now) r c.args.low (unions k xs ys) (cuts_of c.push.new.self.items)) c.label.ensures.value
+          (low_missing p.labels.now p.flows.now p.low_flows.now p.favoured.now c.label.result c.args.low all (unions k xs ys) us priced c.push.new.self.items c.price.result none c.in_ok-push.ensures.items c.price.ensures.cut);
+    }
+
+pub returns-in_ok-push-clause-priced : goal.returns-in_ok-push-clause-priced
+returns-in_ok-push-clause-priced c d m =
+    let p = c.args.prices.now in
+    let priced = c.in_ok-push_unions.ensures.priced (none_priced p.labels.now p.flows.now p.low_flows.now p.favoured.now c.clear.new.self.items c.clear.ensures.items) in
+    priced_push p.labels.now p.flows.now p.low_flows.now p.favoured.now c.push_unions.new.all.items c.price.result c.price.ensures.priced priced d (subst (λ (l : List Candidate). In l d) c.in_ok-push.ensures.items m)
+
+-- there are at most 17 times 17 unions
+few : (k : ℕ) (all : List Candidate) (xs ys : List (List ℕ)) → cuts_of all ≡ unions k xs ys → length xs ≤ 17 → length ys ≤ 17 → length all ≤ 289
+few k all xs ys e lx ly =
+    let n : length (unions k xs ys) ≤ length xs * 17 = unions_length k xs ys 17 ly in
+    let s : length (cuts_of all) ≡ length (unions k xs ys) = ap (λ (l : List (List ℕ)). length l) e in
+    omega (arith, length-map all (λ (d : Candidate). d.cut))
+
+pub returns-in_ok-push-clause-few : goal.returns-in_ok-push-clause-few
+returns-in_ok-push-clause-few c =
+    let k : ℕ = c.args.k in
+    let xs = c.fill_front.new.front.items in
+    let ys = c.fill_front-2.new.front.items in
+    let all = c.push_unions.new.all.items in
+    let us : cuts_of all ≡ unions k xs ys = are_unions k c.clear.new.self.items all c.deref.result.now c.deref-2.result.now xs ys c.clear.ensures.items c.deref.ensures.value c.deref-2.ensures.value c.in_ok-push_unions.ensures.cuts in
+    let most : length all ≤ 289 = few k all xs ys us c.in_ok-fill_front.ensures.few c.in_ok-fill_front-2.ensures.few in
+    let e : length c.push.new.self.items ≡ length all + 1 = ap (λ (l : List Candidate). length l) c.in_ok-push.ensures.items ∙ length-append all (c.price.result ∷ []) in
+    omega arith
+
+pub returns-else-not-has_low-clause-are : goal.returns-else-not-has_low-clause-are
+returns-else-not-has_low-clause-are c =
+    let p = c.args.prices.now in
+    let k : ℕ = c.args.k in
+    let xs = c.fill_front.new.front.items in
+    let ys = c.fill_front-2.new.front.items in
+    let all = c.push_unions.new.all.items in
+    let us : cuts_of all ≡ unions k xs ys = are_unions k c.clear.new.self.items all c.deref.result.now c.deref-2.result.now xs ys c.clear.ensures.items c.deref.ensures.value c.deref-2.ensures.value c.in_ok-push_unions.ensures.cuts in
+    let priced = c.in_ok-push_unions.ensures.priced (none_priced p.labels.now p.flows.now p.low_flows.now p.favoured.now c.clear.new.self.items c.clear.ensures.items) in
+    let some = c.has_low.ensures.yes (search rules) in
+    record {
+      pair = c.pair_at-pair.result;
+      is = record { above = c.requires.node.0; is = c.pair_at-pair.ensures.pair };
+      xs = xs;
+      x_front = c.in_ok-fill_front.ensures.hands k c.requires.labels;
+      ys = ys;
+      y_front = c.in_ok-fill_front-2.ensures.hands k c.requires.labels;
+      are = subst (λ (r : ℕ). WithLow (label_at p.labels.now) r c.args.low (unions k xs ys) (cuts_of all)) c.label.ensures.value
+          (low_there p.labels.now p.flows.now p.low_flows.now p.favoured.now c.label.result c.args.low all (unions k xs ys) us priced some.0 (subst (λ (l : List Candidate). In l some.0) c.deref-3.ensures.value some.1) some.2);
+    }
+
+pub returns-else-not-has_low-clause-few : goal.returns-else-not-has_low-clause-few
+returns-else-not-has_low-clause-few c =
+    let k : ℕ = c.args.k in
+    let xs = c.fill_front.new.front.items in
+    let ys = c.fill_front-2.new.front.items in
+    let all = c.push_unions.new.all.items in
+    let us : cuts_of all ≡ unions k xs ys = are_unions k c.clear.new.self.items all c.deref.result.now c.deref-2.result.now xs ys c.clear.ensures.items c.deref.ensures.value c.deref-2.ensures.value c.in_ok-push_unions.ensures.cuts in
+    let most : length all ≤ 289 = few k all xs ys us c.in_ok-fill_front.ensures.few c.in_ok-fill_front-2.ensures.few in
+    omega arith

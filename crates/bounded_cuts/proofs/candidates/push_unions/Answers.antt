@@ -1,0 +1,9 @@
+use Rattle.bounded_cuts.proofs.Common.{cuts_of}
+use Rattle.bounded_cuts.proofs.UnionLemmas.{unions_next}
+use Rattle.bounded_cuts.proofs.candidates.push_unions.Goals as goal
+
+pub loop-c-preserved : goal.loop-c-preserved
+loop-c-preserved c = record {
+  cuts = unions_next c.args.k c.args.x_front.now c.args.y_front.now c.loop-c.c-index c.c-item.result (cuts_of c.args.all.now.items) (cuts_of c.loop-c.all.items) (cuts_of c.push_unions_with.new.all.items) c.loop-c-test.true c.c-item.is c.loop-c.invariant.cuts c.in_ok-push_unions_with.ensures.cuts;
+  priced = λ are. c.in_ok-push_unions_with.ensures.priced (c.loop-c.invariant.priced are);
+}

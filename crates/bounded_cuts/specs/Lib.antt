@@ -1,0 +1,7 @@
+-- What public clauses say.
+pub mod Flow
+pub mod Candidates
+pub mod Sets
+-- What only bodies are compared with.
+pub mod Taking
+pub mod Making

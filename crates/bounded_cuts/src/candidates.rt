@@ -1,0 +1,197 @@
+//! The candidates of a node: unions of what its fan-ins hand on, and its low cut if no union is as low as its label.
+ghost use Rattle.std.specs.Prelude.{◌≡◌, ◌⊎◌, ℕ, ◌<◌, ◌≤◌, ◌/◌, ◌^◌, ◌++◌, ◌∷◌, [], length, true, false, Some, IfOk, OnOk};
+ghost use Rattle.aig_core.specs.Aig.{first_and, node_count, pair_of, IsAnd, IsSource};
+ghost use Rattle.aig_core.specs.declared.lit.Kind.TheVariants.{Regular};
+ghost use Rattle.cut_sets.specs.Cuts.{Blocks};
+ghost use Rattle.cut_sets.specs.Labels.{label_at, AreLeastHeights};
+ghost use Rattle.cut_sets.specs.Rows.{row_at};
+ghost use Rattle.cut_sets.specs.declared.limits.TheConstants.{MOST_LEAVES};
+ghost use Rattle.list_laws.specs.Members.{In};
+ghost use Rattle.bounded_cuts.specs.Candidates.{AreCandidates, HandsOn, one_union, unions, unions_with};
+ghost use Rattle.bounded_cuts.specs.Taking.{AreCapped, ArePriced, cuts_of};
+
+use crate::price::{Candidate, Prices};
+use aig_core::{Graph, Kind, Pair};
+use cut_sets::{CutRows, FlatCut, MOST_LEAVES, NodeLabels, joined_within};
+use std::alloc::{AllocError, Global};
+
+/// Working memory for the candidates of one node, allocated once for all nodes.
+#[derive(Drop)]
+pub struct Candidates {
+    /// The candidates, in order.
+    pub all: Vec<Candidate>,
+    x_front: Vec<FlatCut>,
+    y_front: Vec<FlatCut>,
+}
+
+// Appends a node's set.
+fn push_set(front: &mut Vec<FlatCut>, rows: &CutRows, m: u32) -> Result<(), AllocError>
+    ensures { OnOk result (front.new.items ≡ front.old.items ++ row_at rows.now m) }
+{
+    for i in 0..rows.count(m) {
+        front.push(rows.cut(m, i))?;
+    }
+    Ok(())
+}
+
+// Whether a node costs nothing: it is the constant or a parameter, or an AND node of label 0.
+fn is_free(graph: &Graph, labels: &NodeLabels, m: u32) -> bool
+    requires { m < node_count graph.now }
+    ensures free { result ≡ true → (k : ℕ) → AreLeastHeights graph.now k (label_at labels.now) → Blocks graph.now [] m }
+    ensures live { result ≡ false → (k : ℕ) → AreLeastHeights graph.now k (label_at labels.now) → IsSource graph.now Regular m ⊎ (IsAnd graph.now m × (Blocks graph.now [] m → ⊥)) }
+{
+    if m == 0 {
+        return true;
+    }
+    let _count = graph.len();
+    if m > graph.sources() {
+        return labels.label(m) == 0;
+    }
+    match graph.kind(m) {
+        Kind::Regular => false,
+        Kind::Parameter => true,
+    }
+}
+
+// What a node hands on to its readers.
+fn fill_front(
+    front: &mut Vec<FlatCut>,
+    graph: &Graph,
+    labels: &NodeLabels,
+    rows: &CutRows,
+    m: u32,
+) -> Result<(), AllocError>
+    requires inside { m < node_count graph.now }
+    requires sources { (s : ℕ) → s < first_and graph.now → row_at rows.now s ≡ [] }
+    requires few { length (row_at rows.now m) ≤ 16 }
+    ensures hands { OnOk result ((k : ℕ) → AreLeastHeights graph.now k (label_at labels.now) → HandsOn graph.now rows.now m front.new.items) }
+    ensures few { OnOk result (length front.new.items ≤ 17) }
+{
+    front.clear();
+    if is_free(graph, labels, m) {
+        front.push(FlatCut::empty())?;
+        return Ok(());
+    }
+    front.push(FlatCut::one(m))?;
+    push_set(front, rows, m)
+}
+
+// Appends the union of two cuts with its costs, if it has few enough leaves.
+fn push_union(
+    all: &mut Vec<Candidate>,
+    prices: &Prices,
+    k: u8,
+    c: &FlatCut,
+    d: &FlatCut,
+) -> Result<(), AllocError>
+    requires few { k ≤ MOST_LEAVES }
+    requires flows { AreCapped prices.now.flows.now }
+    requires low_flows { AreCapped prices.now.low_flows.now }
+    ensures cuts { OnOk result (cuts_of all.new.items ≡ cuts_of all.old.items ++ one_union k c.now d.now) }
+    ensures priced { OnOk result (ArePriced prices.now.labels.now prices.now.flows.now prices.now.low_flows.now prices.now.favoured.now all.old.items → ArePriced prices.now.labels.now prices.now.flows.now prices.now.low_flows.now prices.now.favoured.now all.new.items) }
+{
+    if let Some(cut) = joined_within(c, d, usize::from(k)) {
+        all.push(prices.price(cut))?;
+    }
+    Ok(())
+}
+
+// Appends the unions of a cut and each of some others.
+fn push_unions_with(
+    all: &mut Vec<Candidate>,
+    prices: &Prices,
+    k: u8,
+    c: &FlatCut,
+    front: &[FlatCut],
+) -> Result<(), AllocError>
+    requires few { k ≤ MOST_LEAVES }
+    requires flows { AreCapped prices.now.flows.now }
+    requires low_flows { AreCapped prices.now.low_flows.now }
+    ensures cuts { OnOk result (cuts_of all.new.items ≡ cuts_of all.old.items ++ unions_with k c.now front.now) }
+    ensures priced { OnOk result (ArePriced prices.now.labels.now prices.now.flows.now prices.now.low_flows.now prices.now.favoured.now all.old.items → ArePriced prices.now.labels.now prices.now.flows.now prices.now.low_flows.now prices.now.favoured.now all.new.items) }
+{
+    for d in front {
+        push_union(all, prices, k, c, d)?;
+    }
+    Ok(())
+}
+
+// Appends the unions of a cut of each list.
+fn push_unions(
+    all: &mut Vec<Candidate>,
+    prices: &Prices,
+    k: u8,
+    x_front: &[FlatCut],
+    y_front: &[FlatCut],
+) -> Result<(), AllocError>
+    requires few { k ≤ MOST_LEAVES }
+    requires flows { AreCapped prices.now.flows.now }
+    requires low_flows { AreCapped prices.now.low_flows.now }
+    ensures cuts { OnOk result (cuts_of all.new.items ≡ cuts_of all.old.items ++ unions k x_front.now y_front.now) }
+    ensures priced { OnOk result (ArePriced prices.now.labels.now prices.now.flows.now prices.now.low_flows.now prices.now.favoured.now all.old.items → ArePriced prices.now.labels.now prices.now.flows.now prices.now.low_flows.now prices.now.favoured.now all.new.items) }
+{
+    for c in x_front {
+        push_unions_with(all, prices, k, c, y_front)?;
+    }
+    Ok(())
+}
+
+// Whether one of the candidates is as low as the label.
+fn has_low(all: &[Candidate], label: u32) -> bool
+    ensures yes { result ≡ true → (c : Candidate) × In all.now c × (c.height ≤ label) }
+    ensures no { result ≡ false → (c : Candidate) → In all.now c → label < c.height }
+{
+    for candidate in all {
+        if candidate.height <= label {
+            return true;
+        }
+    }
+    false
+}
+
+impl Candidates {
+    /// No candidates.
+    pub fn new(alloc: Global) -> Candidates {
+        Candidates {
+            all: Vec::new(alloc),
+            x_front: Vec::new(alloc),
+            y_front: Vec::new(alloc),
+        }
+    }
+
+    /// The candidates of a node with this pair, label and low cut.
+    ///
+    /// # Errors
+    /// Only if memory runs out.
+    pub fn fill(
+        &mut self,
+        graph: &Graph,
+        prices: &Prices,
+        rows: &CutRows,
+        k: u8,
+        n: u32,
+        low: FlatCut,
+    ) -> Result<(), AllocError>
+        requires few { k ≤ MOST_LEAVES }
+        requires flows { AreCapped prices.now.flows.now }
+        requires low_flows { AreCapped prices.now.low_flows.now }
+        requires node { IsAnd graph.now n }
+        requires labels { AreLeastHeights graph.now k (label_at prices.now.labels.now) }
+        requires sources { (s : ℕ) → s < first_and graph.now → row_at rows.now s ≡ [] }
+        requires rows { (m : ℕ) → length (row_at rows.now m) ≤ 16 }
+        ensures are { OnOk result (AreCandidates graph.now k (label_at prices.now.labels.now) low rows.now n (cuts_of self.new.all.items)) }
+        ensures priced { OnOk result (ArePriced prices.now.labels.now prices.now.flows.now prices.now.low_flows.now prices.now.favoured.now self.new.all.items) }
+        ensures few { OnOk result (length self.new.all.items ≤ 290) }
+    {
+        let _count = graph.len();
+        let pair = graph.pair_at(n);
+        self.all.clear();
+        fill_front(&mut self.x_front, graph, prices.labels, rows, pair.x.0 / 2)?;
+        fill_front(&mut self.y_front, graph, prices.labels, rows, pair.y.0 / 2)?;
+        push_unions(&mut self.all, prices, k, &self.x_front, &self.y_front)?;
+        if !has_low(&self.all, prices.labels.label(n)) {
+            self.all.push(prices.price(low))?;
+        }
+        Ok(())
+    }
+}
