@@ -42,8 +42,8 @@ extern "C" {
 
 /* The version of this header, also as 10000 times the first part, plus 100 times the second one, plus the third one. CHANGELOG.md says how
  * it changes. */
-#define TLUT_VERSION "1.0.0"
-#define TLUT_VERSION_NUMBER 10000
+#define TLUT_VERSION "1.1.0"
+#define TLUT_VERSION_NUMBER 10100
 
 /* The version of the library that is linked, in the form of TLUT_VERSION. The string is static, and need not be freed. This function alone
  * has no proof: it returns a constant. */

@@ -159,12 +159,18 @@ def make_root(folder: str) -> None:
 
 
 def make_twice(folder: str) -> bool:
-    """Makes the release twice, and returns whether both have the same bytes."""
+    """Makes the release twice, the second time as another user's shell would, and returns whether both have the same bytes."""
     line = subprocess.run([f"{TOP}/tlut", "--version"], capture_output=True, text=True, check=True).stdout.strip()
     names = release.release(folder, line)
     with tempfile.TemporaryDirectory() as other:
-        release.release(other, line)
+        environment = {**os.environ, "TZ": "Asia/Kathmandu", "LC_ALL": "C", "SOURCE_DATE_EPOCH": "1"}
+        words = ["sh", "-c", 'umask 077 && exec "$@"', "sh", sys.executable, f"{TOP}/tools/release.py", other, line]
+        ran = subprocess.run(words, env=environment, capture_output=True, text=True, check=False)
+        if ran.returncode:
+            raise Refused(f"it isn't made a second time: {ran.stderr.strip()}")
         _, differing, missing = filecmp.cmpfiles(folder, other, names, shallow=False)
+    for name in [*differing, *missing]:
+        print(f"{name} differs")
     return not differing and not missing
 
 
@@ -174,6 +180,22 @@ def lacking() -> Optional[str]:
         return "a Debian root needs the rights of root"
     names = [name for name in (*release.NEEDED, "mmdebstrap") if not shutil.which(name)]
     return f"{names[0]} isn't there" if names else None
+
+
+def try_all(root: Root, given: Optional[str], room: str) -> int:
+    """Tries the release that is given, or makes it first. Returns the exit status."""
+    folder = given or f"{room}/release"
+    try:
+        if not given:
+            root.check("a release made twice has the same bytes", make_twice(folder))
+    except Refused as why:
+        print(f"FAILED: no release: {why}")
+        return 1
+    try_lintian(root, folder)
+    shutil.copytree(folder, f"{root.folder}/release")
+    try_packages(root, tree.version())
+    try_archive(root, tree.version())
+    return shared.summary(root.passed, root.failed)
 
 
 def main() -> int:
@@ -192,14 +214,7 @@ def main() -> int:
         except Refused as why_not:
             print(f"left out: {why_not}")
             return 0
-        folder = given or f"{room}/release"
-        if not given:
-            root.check("a release made twice has the same bytes", make_twice(folder))
-        try_lintian(root, folder)
-        shutil.copytree(folder, f"{root.folder}/release")
-        try_packages(root, tree.version())
-        try_archive(root, tree.version())
-    return shared.summary(root.passed, root.failed)
+        return try_all(root, given, room)
 
 
 if __name__ == "__main__":
