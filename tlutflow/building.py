@@ -271,8 +271,8 @@ class Build:
         if self.device is not None:
             source = self.path(END) if self.is_verilog else self.given.files[0]
             self.built.device = self.device.count(source, self.is_verilog, self.built.rule)
-            if self.given.script:
-                checks += self.device.played(self.flow, read_text(self.path("_run.txt")))
+            if self.script:
+                checks += self.device.played(self.flow, self.script, read_text(self.path("_run.txt")))
         return checks, commands
 
     def hardware(self) -> tuple[list[list[str]], list[str]]:
@@ -293,7 +293,7 @@ class Build:
         self.built.shown = self.steps.make("values", [show, printed], ports, [], lambda: self.must(show, printed))
         words += ["--script", script, *(["--simulate"] if tools.find(tools.ICARUS) else [])]
         writes = [f"{module}.v", f"{module}_bench.v", f"{module}.events"]
-        check = self.steps.make("verilog", [words, printed], [*files, script], writes, lambda: self.simulated(words, printed))
+        check = self.steps.make("verilog", [words, printed, self.given.seconds], [*files, script], writes, lambda: self.simulated(words, printed))
         wave = ["wave", *ports, script]
         self.steps.make("waveform", [printed], [*ports, script], [self.path(".vcd")], lambda: write_text(self.path(".vcd"), self.must(wave, printed)))
         made = [] if script == self.given.script else [f"{shlex.join(['flow', 'script', *ports])} < {self.given.script} > {script}"]
@@ -309,6 +309,7 @@ class Build:
         try:
             status, told, fault = self.flow(words, printed, self.given.seconds)
         except Fault as stopped:
+            self.must([it for it in words if it != "--simulate"], printed)
             return [what, by, str(stopped), "open"]
         if status:
             raise Fault(fault.split(": ", 1)[-1])
@@ -355,7 +356,7 @@ class Build:
 
     def comparison(self, name: str, what: str, words: list[str]) -> tuple[list[list[str]], list[str]]:
         """A comparison by ABC, as a step."""
-        check = self.steps.make(name, [words, self.built.versions.get("ABC", "")], words[1:3] + words[4:], [], lambda: self.compared(what, words))
+        check = self.steps.make(name, [words, self.given.seconds, self.built.versions.get("ABC", "")], words[1:3] + words[4:], [], lambda: self.compared(what, words))
         return [check], [shlex.join(["flow", *words])]
 
     def prepared(self) -> tuple[list[list[str]], list[str]]:

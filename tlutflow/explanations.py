@@ -18,6 +18,7 @@ RECIPE = "create the netlist with `flow verilog`, or with its recipe (`flow veri
 TOOL = "another tool's dialect of BLIF, or a manual edit"
 MADE = "write parameter lists with `flow params` and scripts with `flow script`, which know the netlist's names and widths"
 SMALLER = "use a smaller K, which has fewer cuts; map a part of the design; or prepare the logic differently (`flow verilog --abc`)"
+OTHER_RULE = f"map it with `tlut --compact`, which lists no cuts and has no such limit; {SMALLER.replace('use a', 'or use a', 1)}"
 DAMAGED = "the file was truncated or changed, or it isn't a pack"
 AGAIN = "write it again with `tlut map`"
 CERTIFICATE = "the certificate is for another netlist, list or K, or was changed"
@@ -252,9 +253,9 @@ LIMITS = {
     "L4": Explanation(
         "at most 4,096 minimal cuts of a node",
         "much reconvergent logic, such as multipliers and XORs, with a large K",
-        SMALLER,
+        OTHER_RULE,
     ),
-    "L5": Explanation("at most 2^23 minimal cuts in all", "a large design with a large K", SMALLER),
+    "L5": Explanation("at most 2^23 minimal cuts in all", "a large design with a large K", OTHER_RULE),
     "L6": Explanation(
         "LUTs whose bits and cones aren't too much work",
         "very large cones of parameters below the LUTs, such as a memory of parameters",

@@ -2,10 +2,12 @@
 
 from __future__ import annotations
 
+import contextlib
 import math
 import os
 import re
 import shutil
+import signal
 import subprocess
 import sys
 import tempfile
@@ -71,15 +73,32 @@ def run(
     given: str = "",
     variables: Optional[dict[str, str]] = None,
 ) -> subprocess.CompletedProcess[str]:
-    """Runs a program to its end with a text on its standard input, and returns its status and what it printed on its outputs, as text."""
+    """Runs a program to its end with a text on its standard input, and returns its status and what it printed on its outputs, as text.
+    With a limit in seconds, what the program has called is stopped with it."""
+    pipe, alone = subprocess.PIPE, seconds is not None
     try:
-        return subprocess.run(
-            words, cwd=folder, capture_output=True, text=True, errors="surrogateescape", timeout=seconds, check=False, input=given, env=variables
+        process = subprocess.Popen(
+            words, cwd=folder, stdin=pipe, stdout=pipe, stderr=pipe, text=True, errors="surrogateescape", env=variables, start_new_session=alone
         )
-    except subprocess.TimeoutExpired:
-        raise Fault(f"{os.path.basename(words[0])} was stopped after {seconds:g} seconds") from None
     except OSError as error:
         raise Fault(f"{words[0]}: {error.strerror or error}") from None
+    with process:
+        try:
+            told, said = process.communicate(given, seconds)
+        except BaseException as ended:
+            stop(process, alone)
+            if isinstance(ended, subprocess.TimeoutExpired):
+                raise Fault(f"{os.path.basename(words[0])} was stopped after {seconds:g} seconds") from None
+            raise
+    return subprocess.CompletedProcess(words, process.returncode, told, said)
+
+
+def stop(process: subprocess.Popen[str], is_group: bool) -> None:
+    """Kills a program, and those that it has called if they are its group."""
+    with contextlib.suppress(ProcessLookupError, PermissionError):
+        if is_group:
+            os.killpg(process.pid, signal.SIGKILL)
+        process.kill()
 
 
 @dataclass(frozen=True)

@@ -36,6 +36,8 @@ AIMS = {
 RULES = {"tlut": (), "compact": ("--compact",)}
 RULE_NAMES = {"tlut": "tlut", "compact": "tlut --compact"}
 AS_READ = "as read"
+# What a program with one rule alone has in the place of the sizes by another.
+NO_RULE = "-"
 # Changes that are drawn for the median.
 CHANGES = 500
 # About how long checking and mapping a netlist takes, as `cost` of a preparation.
@@ -221,13 +223,13 @@ class Workshop:
             begun = time.monotonic()
             sizes = sizes_by_tlut(self.program, k, file, self.task.parameters, room, *RULES[rule])
             if sizes.refusal:
-                refusal = sizes.refusal
+                refusal = refusal or sizes.refusal
                 continue
             changed = median_rewritten(self.program, f"{room}/bits.ppc", self.nets, room, CHANGES) if self.task.aim == "changes" else None
             sites = self.task.family.cost(read_circuit(*(f"{room}/{it}" for it in MAPPED))) if self.task.family else None
             results.append(Result(name, rule, sizes.tables, sizes.depth, sizes.bits, changed, took + time.monotonic() - begun, file, k, sites))
         if not results:
-            raise Fault("this tlut has no such rule" if refusal == "-" else f"tlut refuses it for a limit ({refusal})")
+            raise Fault(refused(refusal))
         return results
 
     def beside(self, made: Model, room: str) -> dict[str, Sizes]:
@@ -258,15 +260,20 @@ class Workshop:
             return Trial(name, [], {}, str(fault))
 
     def as_read(self) -> Trial:
-        """The source as it is. What `tlut` refuses for another reason than a limit is refused here."""
+        """The source as it is. What `tlut` refuses for another reason than a limit is refused here; a limit may be one of the first rule alone."""
         room = self.room("source")
-        try:
-            sizes = sizes_by_tlut(self.program, self.task.k, self.task.netlist, self.task.parameters, room)
-        except Fault as fault:
-            raise Fault(str(fault).replace(self.task.netlist, self.task.title or self.task.netlist)) from None
-        if sizes.refusal:
-            return Trial(AS_READ, [], {}, f"tlut refuses it for a limit ({sizes.refusal})")
-        return Trial(AS_READ, self.measure(AS_READ, self.source_in_blif(room), 0, room), self.beside(self.model, room))
+        refusals = []
+        for rule in self.task.rules:
+            try:
+                sizes = sizes_by_tlut(self.program, self.task.k, self.task.netlist, self.task.parameters, room, *RULES[rule])
+            except Fault as fault:
+                raise Fault(str(fault).replace(self.task.netlist, self.task.title or self.task.netlist)) from None
+            if not sizes.refusal:
+                return Trial(AS_READ, self.measure(AS_READ, self.source_in_blif(room), 0, room), self.beside(self.model, room))
+            refusals.append(sizes.refusal)
+        if refusals[0] == NO_RULE:
+            raise Fault(refused(NO_RULE))
+        return Trial(AS_READ, [], {}, refused(refusals[0]))
 
     def source_in_blif(self, room: str) -> str:
         """The source's file, or where that is AIGER one in BLIF."""
@@ -274,6 +281,11 @@ class Workshop:
             return self.task.netlist
         write_text(f"{room}/source.blif", "\n".join([*model_lines(self.model, self.model.inputs, []), ""]))
         return f"{room}/source.blif"
+
+
+def refused(code: str) -> str:
+    """Why a netlist couldn't be mapped, by what stands in the place of its sizes."""
+    return "this tlut has no such rule" if code == NO_RULE else f"tlut refuses it for a limit ({code})"
 
 
 def prepare(task: Task, folder: str, report: Report = silent) -> Found:

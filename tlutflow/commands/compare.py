@@ -26,7 +26,8 @@ DESCRIPTION = """Maps a netlist at each K, and prints the sizes in one table:
   inputs      by tlut, with the parameters as ordinary inputs
   if, if -a   by ABC's mapper with the parameters as inputs, for depth and for area, over the same graph
 
-A LUT of m inputs has 2^m bits. If tlut refuses the netlist for a limit, its code is printed, for example L4."""
+A LUT of m inputs has 2^m bits. If tlut refuses the netlist for a limit, its code is printed, for example L4:
+too many cuts of a node, which is no limit of tlut --compact."""
 EXAMPLE = """example:
   flow compare fir.blif fir.par --k 4 --k 6"""
 

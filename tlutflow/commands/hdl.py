@@ -137,8 +137,9 @@ def write_files(given: argparse.Namespace, circuit: Circuit, folder: str) -> tup
 def simulate(base: str, netlist: list[str]) -> list[str]:
     """The lines that the bench prints."""
     compiler, player = tools.need(tools.ICARUS, "a simulation"), tools.need(tools.ICARUS_PLAYER, "a simulation")
-    # Without the macro Yosys's cells of the iCE40 have values for ports that Icarus can't read.
-    files = ["-DNO_ICE40_DEFAULT_ASSIGNMENTS", *netlist] if netlist else ["-DINSIDE", f"{base}.v"]
+    # Without the macro Yosys's cells of the iCE40 have values for ports that Icarus can't read. Those of the ECP5 include files beside them.
+    beside = [f"-I{os.path.dirname(path) or '.'}" for path in netlist]
+    files = ["-DNO_ICE40_DEFAULT_ASSIGNMENTS", *beside, *netlist] if netlist else ["-DINSIDE", f"{base}.v"]
     with tempfile.TemporaryDirectory(prefix="flow-") as folder:
         made = f"{folder}/bench.vvp"
         ran = tools.run([compiler, "-g2012" if netlist else "-g2005", "-o", made, *files, f"{base}_bench.v"])

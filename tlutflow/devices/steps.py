@@ -63,14 +63,14 @@ class DeviceSteps:
         found["text"] = compared_text(family, Cells(*ours), [Cells(*row) for _, row in theirs])
         return found
 
-    def played(self, flow: Flow, output: str) -> list[list[str]]:
-        """Whether the synthesised netlist plays the run of the script."""
+    def played(self, flow: Flow, script: str, output: str) -> list[list[str]]:
+        """Whether the synthesised netlist plays the run of a script, as tlut reads it."""
         made = f"{self.base}_device.v"
         if not (os.path.exists(made) and self.family.models and tools.find(tools.ICARUS) and "rows" in self.found):
             return []
         given, what = self.given, "the netlist that Yosys synthesised for the device plays the script as the run did"
         words = ["hdl", f"{self.base}_t.blif", f"{self.base}.ppc", *way_words(way_of(given)), "--module", f"{os.path.basename(self.base)}_mapped"]
-        words += ["--script", given.script, "--simulate", "--netlist", made, "--netlist", tools.yosys_file(self.family.models)]
+        words += ["--script", script, "--simulate", "--netlist", made, "--netlist", tools.yosys_file(self.family.models)]
 
         def work() -> list[str]:
             try:
@@ -81,4 +81,4 @@ class DeviceSteps:
                 raise Fault(fault.split(": ", 1)[-1])
             return [what, "Icarus Verilog", shown.strip(), "ok"]
 
-        return [self.steps.make("netlist of the device", [words, output], [made, given.script], [], work)]
+        return [self.steps.make("netlist of the device", [words, output, given.seconds], [made, script], [], work)]

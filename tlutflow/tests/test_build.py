@@ -5,6 +5,7 @@ import io
 import json
 import os
 import re
+import select
 import unittest
 from html.parser import HTMLParser
 
@@ -14,7 +15,7 @@ from tlutflow.faults import Fault
 from tlutflow.netlist import parse_library
 from tlutflow.steps import Steps
 from tlutflow.tests.helpers import EXAMPLES, MUX, TOP, InFolder, example, flow, mapped, mux, needs
-from tlutflow.tools import ABC, BUILT, YOSYS
+from tlutflow.tools import ABC, BUILT, ICARUS, ICARUS_PLAYER, YOSYS, run
 
 NEEDS_TLUT = unittest.skipUnless(any(os.path.exists(f"{TOP}/{it}") for it in BUILT), "tlut isn't built")
 EMPTY = {"meta", "link", "br", "input", "img", "hr"}
@@ -75,6 +76,26 @@ class Once(InFolder):
             self.assertEqual(Steps(self.folder, "flow build", again=True).known, {})
             with self.assertRaisesRegex(Fault, "wasn't written"):
                 Steps(self.folder, "f").make("none", [], [], [f"{self.folder}/none"], lambda: None)
+
+
+class Stopped(InFolder):
+    def test_what_it_has_called_is_stopped_too(self):
+        """The pipe has no writer left, though the program's own call would write to it for a minute."""
+        pipe = f"{self.folder}/pipe"
+        os.mkfifo(pipe)
+        reader = os.open(pipe, os.O_RDONLY | os.O_NONBLOCK)
+        with self.assertRaisesRegex(Fault, "sh was stopped after 3 seconds"):
+            run(["sh", "-c", f"(echo begun; exec sleep 60) > {pipe} & wait"], None, 3)
+        os.set_blocking(reader, True)
+        found = select.select([reader], [], [], 5)[0] and os.read(reader, 99)
+        left = select.select([reader], [], [], 5)[0] and os.read(reader, 99)
+        self.assertEqual((found, left), (b"begun\n", b""))
+        os.close(reader)
+
+    def test_a_program_that_ends_is_as_without_a_limit(self):
+        for seconds in (None, 60):
+            ran = run(["sh", "-c", "cat; echo said >&2; exit 3"], self.folder, seconds, "given")
+            self.assertEqual((ran.returncode, ran.stdout, ran.stderr), (3, "given", "said\n"))
 
 
 class Views(unittest.TestCase):
@@ -159,6 +180,16 @@ class Builds(InFolder):
         self.assertEqual(ran.returncode, 0, ran.stderr)
         self.assertTrue(os.path.getsize(f"{self.folder}/out/n.dot"))
         self.assertTrue(os.path.getsize(f"{self.folder}/out/index.html"))
+
+    @needs(ICARUS, ICARUS_PLAYER)
+    @NEEDS_TLUT
+    def test_more_seconds_try_again(self):
+        """A simulation that took too long leaves the Verilog, and starts again once it may take longer."""
+        script, out = self.put("n.scr", "cycle a=1 b=0\n"), f"{self.folder}/out"
+        words = ["build", self.put("n.blif", MUX), self.put("n.par", "p 0\n"), "--quick", "--k", "4", "--script", script, "--out", out]
+        self.assertRegex(flow(*words, "--seconds", "0.01").stdout, "not shown: the Verilog plays .* was stopped after 0.01 seconds")
+        self.assertTrue(os.path.getsize(f"{out}/n_mapped_bench.v"))
+        self.assertIn("checked: the Verilog plays the script as the run did (Icarus Verilog: 2 lines", flow(*words).stdout)
 
     @NEEDS_TLUT
     def test_a_netlist_without_other_programs(self):

@@ -64,6 +64,8 @@ class Refusals(InFolder):
             f"n.scr: S2 Width line 1 width 3; wanted: {known.wants}; usual cause: {known.cause}; remedy: {known.remedy}",
         )
         self.assertEqual(str(refusal("another line")), "another line")
+        for code in ("L4 NodeCuts node 9", "L5 TotalCuts node 9"):
+            self.assertIn("remedy: map it with `tlut --compact`", str(refusal(f"tlut: n.blif: {code}")))
         self.assertIn("remedy: map a part of the design", str(refusal("tlut: n.blif: L3 TooManyNodes")))
 
     def test_loops(self):

@@ -2,6 +2,7 @@
 
 import json
 import os
+import stat
 import tempfile
 import unittest
 from dataclasses import replace
@@ -167,6 +168,19 @@ class Choices(InFolder):
         slow = self.found(f"{EXAMPLES}/fir/fir.blif", f"{EXAMPLES}/fir/fir.par", preparations=forever, seconds=1)
         self.assertEqual(slow.failures[0].failure, "ABC was stopped after 1 seconds of processor time")
         self.assertEqual(slow.best.name, "as read")
+
+    @needs(ABC)
+    def test_a_limit_of_the_first_rule_alone(self):
+        """What the first rule refuses for its cuts is mapped by the other one, and what both refuse says why."""
+        with open(f"{self.folder}/tlut", "w", encoding="utf-8") as file:
+            file.write("#!/bin/sh\n[ $1 = --compact ] || { echo \"tlut: $3: L4 NodeCuts node 9\" >&2; exit 4; }\necho luts 1 bits 8 depth 1\n")
+        os.chmod(f"{self.folder}/tlut", stat.S_IRWXU)
+        task = Task(self.put("n.blif", MUX), self.put("n.par", "p 0\n"), 4, preparations=chosen(["raw"], PREPARATIONS), program=f"{self.folder}/tlut")
+        found = prepare(task, self.folder)
+        self.assertEqual({(it.rule, it.tables) for it in found.results}, {("compact", 1)})
+        self.assertEqual([it.failure for it in found.trials], ["", ""])
+        with self.assertRaisesRegex(Fault, r"as read: tlut refuses it for a limit \(L4\)"):
+            prepare(replace(task, rules=("tlut",)), self.folder)
 
     @needs(ABC)
     @NEEDS_TLUT

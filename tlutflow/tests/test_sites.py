@@ -17,6 +17,8 @@ from tlutflow.tools import ABC, ICARUS, ICARUS_PLAYER, YOSYS, find, run
 from tlutflow.verilog_names import names_of
 
 EXAMPLES = ("fir", "matcher", "coder")
+# Two multiplexers of the same inputs and choice, each with the inputs of the other in the other order.
+TWO_WAYS = MUX.replace("outputs y", "outputs y z").replace(".end", ".names p b a z\n11- 1\n0-1 1\n.end")
 
 
 def fixed(net: str, reads: str) -> Node:
@@ -166,23 +168,42 @@ class Devices(InFolder):
     @NEEDS_TLUT
     def test_prepare_chooses_by_the_count(self):
         """Two multiplexers with one parameter are two LUTs of two leaves, which share a site at each K."""
-        netlist = self.put("n.blif", MUX.replace("outputs y", "outputs y z").replace(".end", ".names p b a z\n11- 1\n0-1 1\n.end"))
+        netlist = self.put("n.blif", TWO_WAYS)
         ran = flow("prepare", netlist, self.put("n.par", "p 0\n"), "--device", "xilinx7", "--only", "raw", "--out", f"{self.folder}/m.blif")
         self.assertEqual(ran.returncode, 0, ran.stderr)
         self.assertIn("device xilinx7: K 4, tlut, preparation as read for sites (K 4 1 LUT site, K 5 1 LUT site, K 6 1 LUT site); ", ran.stdout)
         ran = flow("prepare", netlist, f"{self.folder}/n.par", "--device", "xilinx7", "--k", "6", "--rule", "compact", "--only", "raw", "--out", f"{self.folder}/m.blif")
         self.assertIn("device xilinx7: K 6, tlut --compact, preparation as read for sites (K 6 1 LUT site); ", ran.stdout)
 
-    @needs(YOSYS)
+    @needs(YOSYS, ICARUS, ICARUS_PLAYER)
     @NEEDS_TLUT
     def test_build_counts_beside_registers(self):
-        """One parameter in a register, and a LUT that reads it; or a bit in a flip-flop with its copy, and a LUT that reads it."""
+        """One parameter in a register, and a LUT that reads it; or a bit in a flip-flop with its copy, and a LUT that reads it. What Yosys
+        makes of the circuit plays a script too."""
         files = self.put("n.blif", MUX), self.put("n.par", "p 0\n")
-        ran = flow("build", *files, "--quick", "--device", "ice40", "--out", f"{self.folder}/out")
+        script = self.put("n.scr", "cycle a=1 b=0\nset p=1\ncycle a=1 b=0\n")
+        for device in ("ice40", "ecp5"):
+            ran = flow("build", *files, "--quick", "--device", device, "--script", script, "--out", f"{self.folder}/{device}")
+            self.assertEqual(ran.returncode, 0, ran.stderr)
+            self.assertIn("1 LUT and 2 flip-flops; with its parameters in registers the source has 1 LUT, 0 carries and 1 flip-flop: registers are cheaper", ran.stdout)
+            self.assertIn("(Icarus Verilog: 2 cycles of the netlist, all outputs as the run's)", ran.stdout)
+            with open(f"{self.folder}/{device}/index.html", encoding="utf-8") as file:
+                self.assertIn(f"registers, synth_{device} -flatten", file.read())
+
+    @needs(YOSYS, ICARUS, ICARUS_PLAYER)
+    @NEEDS_TLUT
+    def test_build_plays_the_synthesised_netlist(self):
+        """Two multiplexers whose choice is the parameter share one CFGLUT5. As a register the parameter takes a flip-flop, and the
+        multiplexers are two LUTs of the same three nets. A script of values is played on what Yosys makes of the circuit too."""
+        files, out = (self.put("n.blif", TWO_WAYS), self.put("n.par", "p 0\n")), f"{self.folder}/out"
+        script = self.put("n.scr", "cycle a=1 b=0\nset p=1\ncycle a=1 b=0\ncycle a=0 b=1\n")
+        ran = flow("build", *files, "--quick", "--device", "xilinx7", "--script", script, "--out", out)
         self.assertEqual(ran.returncode, 0, ran.stderr)
-        self.assertIn("1 LUT and 2 flip-flops; with its parameters in registers the source has 1 LUT, 0 carries and 1 flip-flop: registers are cheaper", ran.stdout)
-        with open(f"{self.folder}/out/index.html", encoding="utf-8") as file:
-            self.assertIn("registers, synth_ice40 -flatten", file.read())
+        self.assertIn("the source has 2 LUTs, 1 site if two LUTs share one where they may, 0 carries and 1 flip-flop", ran.stdout)
+        played = "the netlist that Yosys synthesised for the device plays the script as the run did (Icarus Verilog: 3 cycles"
+        self.assertIn(f"checked: {played} of the netlist, all outputs as the run's)", ran.stdout)
+        with open(f"{out}/n_device.v", encoding="utf-8") as file:
+            self.assertEqual(file.read().count("CFGLUT5"), 1)
 
     def test_faults(self):
         files = f"{DATA}/fir_t.blif", f"{DATA}/fir.ppc"

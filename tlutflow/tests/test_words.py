@@ -34,7 +34,8 @@ class Words(InFolder):
 
     def test_help_of_the_tools(self):
         """Each tool that is called by itself prints what it is for."""
-        paths = set(glob.glob(f"{TOP}/tools/*.py")) - {f"{TOP}/tools/{name}.py" for name in ("shared", "measured", "trial_designs", "figures", "time_plot", "progress")}
+        others = ("shared", "measured", "trial_designs", "figures", "time_plot", "progress")
+        paths = set(glob.glob(f"{TOP}/tools/*.py")) - {f"{TOP}/tools/{name}.py" for name in others}
         self.assertGreater(len(paths), 20)
         for path in sorted(paths):
             with open(path, encoding="utf-8") as file:
