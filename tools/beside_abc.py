@@ -4,7 +4,7 @@
     python3 tools/beside_abc.py [--json docs/figures/beside_abc.json] [--netlist WORD ..] [--runs N]
 
 Outside the gate. Call `./tlut` once before, to build both programs; it needs ABC and Yosys. The netlists are the examples, those of
-tools/designs.py in several sizes, and the designs of tools/trial_designs.py by one preparation of Yosys. Each is mapped with its
+tools/shaping/generators.py in several sizes, and the designs of tools/trial_designs.py by one preparation of Yosys. Each is mapped with its
 parameters and with these as ordinary inputs, for LUTs of 4, 5 and 6 inputs; to ABC a parameter is always an input.
 
 Times are CPU seconds of a whole call, from the text of the netlist to the files that it writes: `map`, and for ABC `read_blif`, `strash`,
@@ -16,74 +16,47 @@ With --json the file keeps what it has of other netlists, so that some of them c
 
 from __future__ import annotations
 
-import json
 import os
-import re
 import sys
 import tempfile
-from dataclasses import dataclass
 from itertools import chain
 from statistics import geometric_mean
-from typing import Any, Callable, Iterable, Iterator, Optional
+from typing import Callable, Iterable, Iterator, Optional
 
 TOP = os.path.dirname(os.path.dirname(os.path.abspath(__file__)))
 sys.path.insert(0, TOP)
 sys.path.insert(0, f"{TOP}/tools")
 
-import designs
 import measured
 import preparations
 import shared
 from rules import change_of
+from shaping import generators, mapping_calls
+from shaping.mapping_calls import Design, Numbers
 from tlutflow import tools
-from tlutflow.abc_form import abc_text
-from tlutflow.fault_line import parse_fault
-from tlutflow.faults import Fault
-from tlutflow.mappings import sizes_of
-from tlutflow.netlist import read_library
-from tlutflow.output import parse_header
 from tlutflow.parameters import read_parameters
-from tlutflow.text import read_text, write_text
+from tlutflow.text import write_text
 
 SIZES = [4, 5, 6]
 KINDS = ["parameters", "inputs"]
-# A netlist that takes longer than this is run twice only.
-LONG = 2.0
 FLIPS = 500
-SIZED = {
-    "multiplier, 8 by 8": lambda: designs.multiplier(8),
-    "multiplier, 16 by 16": lambda: designs.multiplier(16),
-    "multiplier, 32 by 32": lambda: designs.multiplier(32),
-    "multiplier, 64 by 64": lambda: designs.multiplier(64),
-    "filter, 4 taps of 8 bits": lambda: designs.filter_of(4, 8),
-    "filter, 8 taps of 8 bits": lambda: designs.filter_of(8, 8),
-    "filter, 16 taps of 8 bits": lambda: designs.filter_of(16, 8),
-    "filter, 32 taps of 8 bits": lambda: designs.filter_of(32, 8),
-    "filter, 16 taps of 16 bits": lambda: designs.filter_of(16, 16),
-    "coder of 8 bits a cycle": lambda: designs.coder(32, 8),
-    "coder of 32 bits a cycle": lambda: designs.coder(32, 32),
-    "Benes network, 8 lines": lambda: designs.benes(8),
-    "Benes network, 16 lines": lambda: designs.benes(16),
-    "Benes network, 32 lines": lambda: designs.benes(32),
+PROGRAMS = dict(zip(("tlut", "compact"), shared.PROGRAMS))
+SIZED: dict[str, Callable[[], generators.Netlist]] = {
+    "multiplier, 8 by 8": lambda: generators.multiplier(8),
+    "multiplier, 16 by 16": lambda: generators.multiplier(16),
+    "multiplier, 32 by 32": lambda: generators.multiplier(32),
+    "multiplier, 64 by 64": lambda: generators.multiplier(64),
+    "filter, 4 taps of 8 bits": lambda: generators.filter_of(4, 8),
+    "filter, 8 taps of 8 bits": lambda: generators.filter_of(8, 8),
+    "filter, 16 taps of 8 bits": lambda: generators.filter_of(16, 8),
+    "filter, 32 taps of 8 bits": lambda: generators.filter_of(32, 8),
+    "filter, 16 taps of 16 bits": lambda: generators.filter_of(16, 16),
+    "coder of 8 bits a cycle": lambda: generators.coder(32, 8),
+    "coder of 32 bits a cycle": lambda: generators.coder(32, 32),
+    "Benes network, 8 lines": lambda: generators.benes(8),
+    "Benes network, 16 lines": lambda: generators.benes(16),
+    "Benes network, 32 lines": lambda: generators.benes(32),
 }
-Numbers = dict[str, Any]
-
-
-@dataclass(frozen=True)
-class Design:
-    """A netlist: its title, its file and its list of parameters."""
-
-    title: str
-    netlist: str
-    parameters: str
-
-
-@dataclass(frozen=True)
-class Job:
-    """A call of a program: its words, and the file of the netlist that it writes."""
-
-    words: list[str]
-    made: str
 
 
 def examples() -> Iterator[Design]:
@@ -93,7 +66,7 @@ def examples() -> Iterator[Design]:
 
 
 def sized(room: str) -> Iterator[Design]:
-    """The netlists of tools/designs.py, in several sizes."""
+    """The netlists of tools/shaping/generators.py, in several sizes."""
     for place, (title, make) in enumerate(SIZED.items()):
         netlist = make()
         write_text(f"{room}/{place}.blif", netlist.text())
@@ -112,58 +85,19 @@ def trials(room: str, is_wanted: Callable[[str], bool]) -> Iterator[Design]:
         yield Design(title, files["quick.blif"], files["list.par"])
 
 
-def ands_of(design: Design, room: str) -> int:
-    """How many AND nodes the graph of a netlist has."""
-    ran = tools.run([shared.PROGRAM, "graph", design.netlist, design.parameters, f"{room}/graph.aag"])
-    found = re.search(r"ands (\d+)", ran.stdout)
-    if not found:
-        raise Fault(ran.stderr.strip())
-    return int(found[1])
-
-
-def jobs_of(design: Design, parameters: str, size: int, abc: str, room: str) -> dict[str, Job]:
-    """A call by each program, for LUTs of this many inputs."""
-    files = [str(size), design.netlist, parameters, f"{room}/t.blif", f"{room}/bits.ppc"]
-    found = {name: Job([program, "map", *files], f"{room}/t.blif") for name, program in zip(("tlut", "compact"), shared.PROGRAMS)}
-    return {**found, "abc": Job([abc, "-q", f"read_blif source.blif; strash; if -K {size}; write_blif abc.blif"], f"{room}/abc.blif")}
-
-
-def counted(name: str, room: str, nets: list[str]) -> Numbers:
-    """How large the result of a call is, or why there is none."""
-    if name == "abc":
-        found = sizes_of(read_library(f"{room}/abc.blif"))
-        return {"luts": found.tables, "depth": found.depth, "bits": found.bits}
-    header = parse_header(read_text(f"{room}/out").strip())
-    if header is None:
-        fault = parse_fault(read_text(f"{room}/err").strip())
-        return {"refusal": fault.code if fault else "?"}
-    return {"luts": header.tables, "depth": header.depth, "bits": header.bits, **change_of(f"{room}/bits.ppc", nets, room, FLIPS)}
-
-
-def mapped(jobs: dict[str, Job], nets: list[str], runs: int, room: str) -> dict[str, Numbers]:
-    """What each call leaves and takes. The programs take turns; one that is refused, or takes long, is not run again as often."""
-    found: dict[str, Numbers] = {}
-    for turn in range(runs):
-        for name, job in jobs.items():
-            before = found.get(name)
-            if before and ("refusal" in before or (turn > 1 and before["seconds"] > LONG)):
-                continue
-            took = measured.run(room, job.words)
-            if before:
-                before["seconds"] = min(before["seconds"], round(took.processor, 4))
-            else:
-                found[name] = {**counted(name, room, nets), "seconds": round(took.processor, 4), "megabytes": took.megabytes}
-    return found
-
-
 def measure(design: Design, abc: str, runs: int, room: str) -> Numbers:
     """All figures of a netlist."""
-    write_text(f"{room}/none.par", "")
-    write_text(f"{room}/source.blif", abc_text(read_library(design.netlist), {}))
-    found: Numbers = {"ands": ands_of(design, room), "number_of_parameters": len(read_parameters(design.parameters))}
-    for kind, parameters in zip(KINDS, (design.parameters, f"{room}/none.par")):
+    mapping_calls.prepare(design, room)
+    found: Numbers = {"ands": mapping_calls.ands_of(shared.PROGRAM, design, room), "number_of_parameters": len(read_parameters(design.parameters))}
+    for kind, parameters in mapping_calls.lists_of(design, room).items():
         nets = list(read_parameters(parameters))
-        found[kind] = {str(size): mapped(jobs_of(design, parameters, size, abc, room), nets, runs, room) for size in SIZES}
+
+        def count(name: str, at: str, its: list[str] = nets) -> Numbers:
+            numbers = mapping_calls.counted(name, at)
+            return numbers if name == "abc" or "refusal" in numbers else {**numbers, **change_of(f"{at}/{mapping_calls.PACK}", its, at, FLIPS)}
+
+        jobs = {size: mapping_calls.jobs_of(PROGRAMS, design, parameters, size, abc, room) for size in SIZES}
+        found[kind] = {str(size): mapping_calls.mapped(its, runs, room, count) for size, its in jobs.items()}
     return found
 
 
@@ -204,15 +138,6 @@ def shown(title: str, found: Numbers) -> None:
             print(f"  {kind}, K {size}: " + "; ".join(f"{name} " + " ".join(f"{what} {it}" for what, it in its.items()) for name, its in by.items()), flush=True)
 
 
-def kept(path: Optional[str]) -> Numbers:
-    """The netlists that a file of figures has, if it is there."""
-    if not path or not os.path.exists(path):
-        return {}
-    with open(path, encoding="utf-8") as file:
-        found: Numbers = json.load(file)["netlists"]
-    return found
-
-
 def main() -> int:
     parser = shared.saving(shared.words(__doc__))
     parser.add_argument("--netlist", metavar="WORD", action="append", default=[], help="only netlists with this word in their title (repeatable)")
@@ -223,7 +148,7 @@ def main() -> int:
     def is_wanted(title: str) -> bool:
         return not given.netlist or any(word in title for word in given.netlist)
 
-    found: Numbers = kept(given.json)
+    found: Numbers = mapping_calls.kept(given.json)
     with tempfile.TemporaryDirectory() as room:
         for design in chain(examples(), sized(room), trials(room, is_wanted)):
             if is_wanted(design.title):

@@ -1,17 +1,22 @@
 #!/usr/bin/env python3
 """Writes netlists with parameters, and times each stage of their mapping, with ABC's mapping for comparison.
 
-    python3 tools/designs.py write ROOM           writes the netlists and lists of parameters into the folder ROOM
+    python3 tools/designs.py write ROOM           writes netlists and lists of parameters into the folder ROOM
     python3 tools/designs.py time [--json docs/figures/stages.json] [PROGRAM] [K]
-                                                  runs `stages` of the built program bench_mapping on them and on the examples,
+                                                  runs `stages` of the built program bench_mapping on four of them and on the examples,
                                                   after `rt run` in crates/bench_mapping has built it, with LUTs of K inputs (4),
                                                   and ABC if it is installed
     python3 tools/designs.py cuts PROGRAM..       runs several of these programs in turn, for example before and after a change, and
                                                   prints how long each takes for the cuts of the four netlists at K 4 and 6
+    python3 tools/designs.py shapes [--json docs/figures/shapes.json] [--limit] [--netlist WORD ..] [--k K ..] [--runs N] [PROGRAM ..]
+                                                  maps shapes with parameters in several sizes by `tlut`, `tlut-compact` and ABC in turn,
+                                                  prints sizes, CPU seconds and memory as a table, and then which goals are missed: the
+                                                  depth of `tlut-compact` is that of `tlut`, its time at most ABC's, its memory at most
+                                                  twice ABC's. With --limit also a size near the limit of AND nodes of each shape
 
-Outside the gate. The multiplier has two factors of 16 bits and no parameters. The filter has 8 taps of 8 bits, whose coefficients are
-parameters. The coder takes 8 bits a cycle into a remainder of 32 bits, whose polynomial is the parameters. The Benes network has 16
-lines, and its 56 switches are the parameters. Each is written as covers of two or three inputs.
+Outside the gate. The netlists are those of tools/shaping/generators.py. The four are a multiplier of two factors of 16 bits, without parameters;
+a filter of 8 taps of 8 bits, whose coefficients are parameters; a coder of 8 bits a cycle into a remainder of 32 bits, whose polynomial is
+the parameters; and a Benes network of 16 lines, whose 56 switches are the parameters.
 """
 
 from __future__ import annotations
@@ -28,6 +33,8 @@ TOP = os.path.dirname(os.path.dirname(os.path.abspath(__file__)))
 sys.path.insert(0, TOP)
 
 import shared
+from shaping import shapes
+from shaping.generators import Netlist, benes, coder, filter_of, multiplier
 from tlutflow import tools
 
 EXAMPLES = f"{TOP}/crates/tlut_examples/data"
@@ -38,135 +45,6 @@ RUNS = 80
 TURNS = {4: 60, 6: 16}
 ABC_RUNS = 10
 ABC_TIMES = 20
-
-AND = ["11 1"]
-XOR = ["10 1", "01 1"]
-XOR3 = ["100 1", "010 1", "001 1", "111 1"]
-MAJORITY = ["11- 1", "1-1 1", "-11 1"]
-CHOICE = ["01- 1", "1-1 1"]
-
-
-class Netlist:
-    """The lines of a model, and its parameters."""
-
-    def __init__(self, name: str) -> None:
-        self.name = name
-        self.inputs: list[str] = []
-        self.params: list[str] = []
-        self.outputs: list[str] = []
-        self.latches: list[tuple[str, str]] = []
-        self.covers: list[tuple[tuple[str, ...], str, list[str]]] = []
-
-    def more(self, names: list[str], prefix: str, count: int) -> list[str]:
-        added = [f"{prefix}{i}" for i in range(count)]
-        names.extend(added)
-        return added
-
-    def cover(self, rows: list[str], *nets: str) -> str:
-        net = f"n{len(self.covers)}"
-        self.covers.append((nets, net, rows))
-        return net
-
-    def output(self, name: str, net: str) -> None:
-        self.outputs.append(name)
-        self.covers.append(((net,), name, ["1 1"]))
-
-    def text(self) -> str:
-        lines = [f".model {self.name}", ".inputs " + " ".join(self.inputs + self.params), ".outputs " + " ".join(self.outputs)]
-        lines += [f".latch {d} {q} 0" for d, q in self.latches]
-        for nets, net, rows in self.covers:
-            lines += [".names " + " ".join([*nets, net]), *rows]
-        return "\n".join([*lines, ".end", ""])
-
-
-def full_add(netlist: Netlist, a: Optional[str], b: Optional[str], c: Optional[str]) -> tuple[Optional[str], Optional[str]]:
-    """The sum and the carry of three nets, of which some may be none."""
-    nets = [net for net in (a, b, c) if net]
-    if len(nets) < 2:
-        return nets[0] if nets else None, None
-    if len(nets) == 2:
-        return netlist.cover(XOR, *nets), netlist.cover(AND, *nets)
-    return netlist.cover(XOR3, *nets), netlist.cover(MAJORITY, *nets)
-
-
-def add(netlist: Netlist, a: list[str], b: list[str]) -> list[str]:
-    """The sum of two numbers, lowest bit first."""
-    carry: Optional[str] = None
-    total: list[str] = []
-    for i in range(max(len(a), len(b))):
-        bit, carry = full_add(netlist, a[i] if i < len(a) else None, b[i] if i < len(b) else None, carry)
-        assert bit
-        total.append(bit)
-    return total + ([carry] if carry else [])
-
-
-def product(netlist: Netlist, a: list[str], b: list[str]) -> list[str]:
-    """The product of two numbers, one row of an array after another."""
-    total: list[str] = []
-    for j, bit in enumerate(b):
-        row = [netlist.cover(AND, net, bit) for net in a]
-        total = total[:j] + add(netlist, total[j:], row)
-    return total
-
-
-def multiplier(size: int = 16) -> Netlist:
-    netlist = Netlist("multiplier")
-    a, b = netlist.more(netlist.inputs, "a", size), netlist.more(netlist.inputs, "b", size)
-    for i, net in enumerate(product(netlist, a, b)):
-        netlist.output(f"p{i}", net)
-    return netlist
-
-
-def filter_of(taps: int = 8, width: int = 8) -> Netlist:
-    netlist = Netlist("filter")
-    sample = netlist.more(netlist.inputs, "x", width)
-    total: list[str] = []
-    for tap in range(taps):
-        coefficient = netlist.more(netlist.params, f"c{tap}_", width)
-        total = add(netlist, total, product(netlist, sample, coefficient))
-        later = [f"d{tap}_{i}" for i in range(width)]
-        if tap + 1 < taps:
-            netlist.latches += list(zip(sample, later))
-            sample = later
-    for i, net in enumerate(total):
-        netlist.output(f"y{i}", net)
-    return netlist
-
-
-def coder(width: int = 32, bits: int = 8) -> Netlist:
-    netlist = Netlist("coder")
-    data = netlist.more(netlist.inputs, "d", bits)
-    polynomial = netlist.more(netlist.params, "g", width)
-    first = state = [f"s{i}" for i in range(width)]
-    for bit in data:
-        over = netlist.cover(XOR, state[-1], bit)
-        taken = [netlist.cover(AND, over, term) for term in polynomial]
-        state = [taken[0]] + [netlist.cover(XOR, net, term) for net, term in zip(state, taken[1:])]
-    netlist.latches = list(zip(state, first))
-    for i, net in enumerate(first):
-        netlist.output(f"r{i}", net)
-    return netlist
-
-
-def benes(size: int = 16) -> Netlist:
-    netlist = Netlist("benes")
-    lines = netlist.more(netlist.inputs, "x", size)
-
-    def switch(a: str, b: str) -> tuple[str, str]:
-        bit = netlist.more(netlist.params, f"w{len(netlist.params)}_", 1)[0]
-        return netlist.cover(CHOICE, bit, a, b), netlist.cover(CHOICE, bit, b, a)
-
-    def route(nets: list[str]) -> list[str]:
-        if len(nets) == 2:
-            return list(switch(*nets))
-        pairs = [switch(a, b) for a, b in zip(nets[::2], nets[1::2])]
-        upper, lower = route([a for a, _ in pairs]), route([b for _, b in pairs])
-        return [net for a, b in zip(upper, lower) for net in switch(a, b)]
-
-    for i, net in enumerate(route(lines)):
-        netlist.output(f"y{i}", net)
-    return netlist
-
 
 DESIGNS: dict[str, Callable[[], Netlist]] = {"multiplier": multiplier, "filter": filter_of, "coder": coder, "benes": benes}
 LISTED = {
@@ -181,11 +59,7 @@ def write(room: str) -> dict[str, list[str]]:
     """Writes the designs, and answers the files of each, those of the examples first."""
     files = {name: [f"{EXAMPLES}/{file}" for file in pair] for name, pair in LISTED.items()}
     for name, make in DESIGNS.items():
-        netlist = make()
-        files[name] = [f"{room}/{name}.blif", f"{room}/{name}.par"]
-        for file, text in zip(files[name], (netlist.text(), "".join(f"{name} {i % 2}\n" for i, name in enumerate(netlist.params)))):
-            with open(file, "w", encoding="ascii") as it:
-                it.write(text)
+        files[name] = shapes.write(room, make())
     return files
 
 
@@ -269,23 +143,28 @@ def compare(programs: list[str]) -> None:
                 print("| " + " | ".join(row) + " |", flush=True)
 
 
-def main() -> None:
+def main() -> int:
     parser = shared.words(__doc__)
-    kinds = parser.add_subparsers(dest="word", metavar="write|time|cuts", required=True, help="what is done")
+    kinds = parser.add_subparsers(dest="word", metavar="write|time|cuts|shapes", required=True, help="what is done")
     kinds.add_parser("write").add_argument("room", metavar="ROOM", help="the folder of the netlists")
     timed = shared.saving(kinds.add_parser("time"))
     timed.add_argument("program", metavar="PROGRAM", nargs="?", type=shared.path_of, default=shared.MEASURED, help="a built bench_mapping")
     timed.add_argument("k", metavar="K", nargs="?", type=int, choices=range(2, 7), default=4, help="the inputs of a LUT (default: 4)")
     kinds.add_parser("cuts").add_argument("programs", metavar="PROGRAM", nargs="+", type=shared.path_of, help="a built bench_mapping")
+    shapes.add_words(shared.saving(kinds.add_parser("shapes")))
     given = parser.parse_args()
     if given.word == "write":
         os.makedirs(given.room, exist_ok=True)
         write(given.room)
+        shapes.write_all(given.room)
     elif given.word == "time":
         show(given.program, given.k, given.json)
-    else:
+    elif given.word == "cuts":
         compare(given.programs)
+    else:
+        return shapes.show(given)
+    return 0
 
 
 if __name__ == "__main__":
-    main()
+    sys.exit(main())

@@ -16,6 +16,7 @@ from statistics import geometric_mean
 from typing import Any, Callable, Iterator, Mapping, Optional
 
 import time_plot
+from on_device import tables as on_device
 from shared import TOP
 
 FOLDER = f"{TOP}/docs/figures"
@@ -90,8 +91,8 @@ def rows_at(lines: list[str], first: int) -> list[str]:
 
 
 def stated(page: str, pattern: str, *keys: str) -> Stated:
-    """A sentence; its pattern is plain text in which `<>` is a figure."""
-    return Stated(page, re.escape(pattern).replace("<>", r"([\d,.]+(?<=\d))"), keys)
+    """A sentence; its pattern is plain text in which `<>` is a figure and `<..>` some words."""
+    return Stated(page, re.escape(pattern).replace("<>", r"([\d,.]+(?<=\d))").replace(r"<\.\.>", "(.+?)"), keys)
 
 
 def rule_rows(kind: str, *ours: str) -> Callable[[Figures], Rows]:
@@ -251,6 +252,11 @@ def larger_rows(figures: Figures) -> Rows:
     return found
 
 
+def on_a_device(rows: Callable[[dict[str, Any]], Rows]) -> Callable[[Figures], Rows]:
+    """The rows of a table of what devices take."""
+    return lambda figures: rows(figures.at("device"))
+
+
 FIR = "rules/parameters/fir/4"
 MEANS = "beside_abc/means"
 STATED = [
@@ -266,9 +272,9 @@ STATED = [
     stated(
         "README.md",
         "takes <> LUTs and <> flip-flops of an iCE40 with its coefficients in registers, and <> and <> as a tunable circuit",
-        *(f"by_hand/fir_on_devices/{it}" for it in ("registers_ice40_luts", "registers_ice40_flip_flops", "chain_ice40_luts", "chain_ice40_flip_flops")),
+        *(f"device/ports/fir/{it}/{what}" for it in ("registers", "sizes/4/rows/chain") for what in ("luts", "flip_flops")),
     ),
-    stated("README.md", "takes <> of the LUT sites of a Xilinx device of series 7 that registers take", "by_hand/six_designs/sites"),
+    stated("README.md", "takes <> of the LUT sites of a Xilinx device of series 7 that registers take", "device/means/sites:.2f"),
     stated(
         "README.md",
         "with parameters it has <> (K 4) and <> (K 6) times the LUTs of `if`, and <> and <> times with the parameters as inputs",
@@ -286,9 +292,7 @@ STATED = [
         f"{MEANS}/greatest_change",
     ),
     stated("README.md", "over [<> netlists](docs/performance.md#how-large-and-how-fast)", f"{MEANS}/netlists"),
-    stated("docs/device.md", "| registers | <> and 3 carries | <> |", *(f"by_hand/fir_on_devices/{it}" for it in ("registers_ice40_luts", "registers_ice40_flip_flops"))),
-    stated("docs/device.md", "126 bits that change | 4 | `chain` | <> | <> |", *(f"by_hand/fir_on_devices/{it}" for it in ("chain_ice40_luts", "chain_ice40_flip_flops"))),
-    stated("docs/device.md", "the circuits take <> of the registers' LUTs as Yosys counts them, and <> of their sites", "by_hand/six_designs/luts", "by_hand/six_designs/sites"),
+    *(stated(page, pattern, *(f"device/{key}" for key in keys)) for page, pattern, keys in on_device.STATED),
     stated("README.md", "takes 15 to <> minutes on four processors", "by_hand/first_call/slowest_minutes"),
     stated("docs/performance.md", "| <> minutes (<> CPU-minutes) with nothing else", "by_hand/first_call/minutes", "by_hand/first_call/cpu_minutes"),
     stated("docs/performance.md", "on other machines <> to <> (", "by_hand/first_call/slow_minutes", "by_hand/first_call/slowest_minutes"),
@@ -334,6 +338,7 @@ TABLES = [
     Table("docs/performance.md", "| Netlist | parameters | AND nodes |", result_rows),
     Table("docs/performance.md", "| Input of `run` with", limit_rows(LIMITS)),
     Table("docs/performance.md", "| Input of `bits`", limit_rows(PACKS)),
+    *(Table(page, head, on_a_device(rows)) for _, page, head, rows in on_device.TABLES),
 ]
 
 

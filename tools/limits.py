@@ -3,7 +3,8 @@
 
     python3 tools/limits.py [--json docs/figures/limits.json] [PROGRAM]
 
-Outside the gate. Call `./tlut` once before, to build the program. Each line has the time by the clock and the greatest resident memory of
+Outside the gate. Call `./tlut` once before, to build the program. A program with `compact` in its file's name is the second one, which lists
+no cuts: it must map what the first one refuses for its cuts (L4, L5). Each line has the time by the clock and the greatest resident memory of
 a call, and whether the status, the outputs and the fault line are as expected. The last line is `N passed, M failed`, and the exit status
 is 1 if M isn't 0.
 """
@@ -23,6 +24,8 @@ WIRE = ".model m\n.inputs a\n.outputs a\n.end\n"
 NOTHING = "luts 0 bits 0 depth 0\n"
 # What a call leaves: its status and its outputs.
 Left = tuple[int, str, str]
+# A title, the netlist, the list, the script and what is wanted.
+Row = tuple[str, str, str, str, Left]
 
 
 def names(letter: str, count: int, first: int = 0) -> str:
@@ -106,8 +109,17 @@ def done(out: str) -> Left:
     return 0, out, ""
 
 
-def rows() -> Iterator[tuple[str, str, str, str, Left]]:
-    """The title, the netlist, the list, the script and what is wanted."""
+def cut_rows(is_compact: bool) -> Iterator[Row]:
+    """Both sides of the limits of minimal cuts. The second program doesn't list them, and maps all of these netlists."""
+    yield "4,096 cuts of a node", ladder(63, 63), listed("p", 63, 1), "", done("luts 1 bits 4 depth 1\n")
+    at_node = done("luts 1 bits 4 depth 1\n") if is_compact else refused("n", "L4 NodeCuts node 194")
+    yield "L4: more", ladder(63, 64), listed("p", 64, 1), "", at_node
+    in_all = done("luts 2101 bits 8404 depth 1\n") if is_compact else refused("n", f"L5 TotalCuts node {fullest()}")
+    yield "L5: 2^23 cuts and more", ladder(62, 64, 2100), listed("p", 64, 1) + listed("q", 2100), "", in_all
+
+
+def rows(is_compact: bool) -> Iterator[Row]:
+    """All inputs of `run`, for the first or the second program."""
     full = "\n" * 2**26
     yield "L1 of a netlist", full + "\n", "", "", refused("n", "L1 FileTooLong")
     yield "L1 of a list", WIRE, full + "\n", "", refused("p", "L1 FileTooLong")
@@ -117,9 +129,7 @@ def rows() -> Iterator[tuple[str, str, str, str, Left]]:
     yield "L2: one more", instances(64), "", "", refused("n", "L2 TooLarge")
     yield "131,072 AND nodes", products(131072), "", "", done("luts 131072 bits 524288 depth 1\n")
     yield "L3: one more", products(131073), "", "", refused("n", "L3 TooManyNodes")
-    yield "4,096 cuts of a node", ladder(63, 63), listed("p", 63, 1), "", done("luts 1 bits 4 depth 1\n")
-    yield "L4: more", ladder(63, 64), listed("p", 64, 1), "", refused("n", "L4 NodeCuts node 194")
-    yield "L5: 2^23 cuts and more", ladder(62, 64, 2100), listed("p", 64, 1) + listed("q", 2100), "", refused("n", f"L5 TotalCuts node {fullest()}")
+    yield from cut_rows(is_compact)
     yield "a chain of 8,190 parameters", chain(8190), listed("p", 8191), "", done("luts 8190 bits 8190 depth 0\n")
     yield "L6: one more", chain(8191), listed("p", 8192), "", refused("n", "L6 Work")
     deep = chain(60000).replace(names("c", 60000, 1), " c60000")
@@ -143,9 +153,9 @@ def call(program: str, folder: str, words: list[str]) -> tuple[Left, float, int]
     return (took.status, open(f"{folder}/out").read(), open(f"{folder}/err").read()), took.clock, took.megabytes
 
 
-def calls() -> Iterator[tuple[str, list[str], dict[str, bytes], Left]]:
+def calls(is_compact: bool) -> Iterator[tuple[str, list[str], dict[str, bytes], Left]]:
     """The title, the arguments, the files and the expected result of each call."""
-    for title, netlist, params, script, wanted in rows():
+    for title, netlist, params, script, wanted in rows(is_compact):
         yield title, ["run", "2", "n", "p", "s", "0", "0"], {"n": netlist.encode(), "p": params.encode(), "s": script.encode()}, wanted
     # Each node of this pack has the two before it as its fan-ins, the first ones the two parameters.
     count = 2**25
@@ -159,7 +169,7 @@ def main() -> int:
     parser.add_argument("program", metavar="PROGRAM", nargs="?", type=shared.path_of, default=shared.PROGRAM, help="the program that is tried")
     given, passed, failed = parser.parse_args(), 0, 0
     found: dict[str, dict[str, float]] = {}
-    for title, words, files, wanted in calls():
+    for title, words, files, wanted in calls(shared.is_compact(given.program)):
         with tempfile.TemporaryDirectory() as folder:
             for name, content in files.items():
                 with open(f"{folder}/{name}", "wb") as file:

@@ -38,6 +38,11 @@ def path_of(word: str) -> str:
     return os.path.abspath(word)
 
 
+def is_compact(program: str) -> bool:
+    """Whether a program is the second one, by the name of its file."""
+    return "compact" in os.path.basename(program)
+
+
 def one_program(text: Optional[str], program: str = PROGRAM) -> str:
     """The program that a tool was given as its only word, or this one."""
     parser = words(text)
