@@ -1,24 +1,31 @@
 -- The candidates of a node: the unions, and the low cut if none of them is as low as the label.
-use Rattle.bounded_cuts.proofs.Common.{◌≡◌, ℕ, ◌<◌, ◌≤◌, Bool, List, [], ◌∷◌, ◌++◌, map, sym, ap, subst, ◌∙◌, arith, In, In-map, from_map, Candidate, cuts_of, ArePriced, height, label_at}
+use Rattle.bounded_cuts.proofs.Common.{◌≡◌, ℕ, ◌<◌, ◌≤◌, List, [], ◌∷◌, ◌++◌, map, sym, ap, subst, ◌∙◌, arith, In, In-map, from_map, Candidate, Worth, cuts_of, ArePricedBy, height, label_at, label_in}
 use Rattle.std.proofs.lemmas.List.{map-append}
+use Rattle.cut_sets.proofs.HeightLemmas.{height_same}
 use Rattle.bounded_cuts.specs.Candidates.{WithLow, there, missing, unions}
 
-pub none_priced : (labels flows lows : List ℕ) (favoured : List Bool) (cs : List Candidate) → cs ≡ [] → ArePriced labels flows lows favoured cs
-none_priced labels flows lows favoured cs e c m = absurd (subst (λ (l : List Candidate). In l c) e m)
+pub none_priced : (ws : List Worth) (cs : List Candidate) → cs ≡ [] → ArePricedBy ws cs
+none_priced ws cs e c m = absurd (subst (λ (l : List Candidate). In l c) e m)
 
 -- what unions were appended to a cleared list
 pub are_unions : (k : ℕ) (cleared all : List Candidate) (xs' ys' xs ys : List (List ℕ)) → cleared ≡ [] → xs' ≡ xs → ys' ≡ ys → cuts_of all ≡ cuts_of cleared ++ unions k xs' ys' → cuts_of all ≡ unions k xs ys
 are_unions k cleared all xs' ys' xs ys e ex ey is = is ∙ ap (λ (l : List Candidate). cuts_of l ++ unions k xs' ys') e ∙ ap (λ (l : List (List ℕ)). unions k l ys') ex ∙ ap (unions k xs) ey
 
-module _ (labels flows lows : List ℕ) (favoured : List Bool) (r : ℕ) (low : List ℕ) (all : List Candidate) (us : List (List ℕ)) (is : cuts_of all ≡ us) (priced : ArePriced labels flows lows favoured all) where
+-- candidates have their heights if all their leaves count the labels that they have
+pub heights_are : (labels : List ℕ) (ws : List Worth) (n : ℕ) (all : List Candidate) (us : List (List ℕ)) → cuts_of all ≡ us → ((m : ℕ) → m < n → label_in ws m ≡ label_at labels m) → ((c : List ℕ) (m : ℕ) → In us c → In c m → m < n) → ArePricedBy ws all → (c : Candidate) → In all c → c.height ≡ height (label_at labels) c.cut
+heights_are labels ws n all us is known below priced c i =
+    let there : In us c.cut = subst (λ (cs : List (List ℕ)). In cs c.cut) is (In-map (λ (d : Candidate). d.cut) all c i) in
+    (priced c i).height_is ∙ height_same (label_in ws) (label_at labels) c.cut (λ m j. known m (below c.cut m there j))
+
+module _ (labels : List ℕ) (r : ℕ) (low : List ℕ) (all : List Candidate) (us : List (List ℕ)) (is : cuts_of all ≡ us) (heights : (c : Candidate) → In all c → c.height ≡ height (label_at labels) c.cut) where
   pub low_there : (c : Candidate) → In all c → c.height ≤ r → WithLow (label_at labels) r low us (cuts_of all)
-  low_there c m l = there (c.cut, subst (λ (cs : List (List ℕ)). In cs c.cut) is (In-map (λ (d : Candidate). d.cut) all c m), subst (λ (h : ℕ). h ≤ r) (priced c m).height_is l) is
+  low_there c m l = there (c.cut, subst (λ (cs : List (List ℕ)). In cs c.cut) is (In-map (λ (d : Candidate). d.cut) all c m), subst (λ (h : ℕ). h ≤ r) (heights c m) l) is
 
   pub low_missing : (new : List Candidate) (last : Candidate) → ((c : Candidate) → In all c → r < c.height) → new ≡ all ++ last ∷ [] → last.cut ≡ low → WithLow (label_at labels) r low us (cuts_of new)
   low_missing new last none e cut = missing
       (λ has. let from = from_map (λ (d : Candidate). d.cut) all has.0 (subst (λ (cs : List (List ℕ)). In cs has.0) (sym is) has.1) in
       let above : r < from.0.height = none from.0 from.1 in
-      let h : from.0.height ≡ height (label_at labels) from.0.cut = (priced from.0 from.1).height_is in
+      let h : from.0.height ≡ height (label_at labels) from.0.cut = heights from.0 from.1 in
       let same : height (label_at labels) has.0 ≡ height (label_at labels) from.0.cut = ap (height (label_at labels)) from.2 in
       let small : height (label_at labels) has.0 ≤ r = has.2 in
       omega arith)

@@ -68,24 +68,42 @@ union_cut g k n p a b is x y few = record {
   blocks = fan_ins p is (Blocks-within g a (union a b) (union_left a b) x.blocks) (Blocks-within g b (union a b) (union_right a b) y.blocks);
 }
 
-module _ (g : Aig) (k : ℕ) (label : ℕ → ℕ) (low : List ℕ) (rows : List (List (List ℕ))) (n : ℕ) (cs : List (List ℕ)) (normal : AreNormal (first_and g) g.pairs) (below : (m : ℕ) (c : List ℕ) → IsAnd g m → m < n → In (row_at rows m) c → IsCut g k m c) (low_cut : IsCut g k n low) (are : AreCandidates g k label low rows n cs) where
-  unions_cut : (c : List ℕ) → In (unions k are.xs are.ys) c → IsCut g k n c
+-- the unions of what the fan-ins hand on
+module _ (g : Aig) (k : ℕ) (rows : List (List (List ℕ))) (n : ℕ) (p : Pair) (xs ys : List (List ℕ)) (normal : AreNormal (first_and g) g.pairs) (below : (m : ℕ) (c : List ℕ) → IsAnd g m → m < n → In (row_at rows m) c → IsCut g k m c) (is_node : IsNode g p n) (x_front : HandsOn g rows (p.x.0 / 2) xs) (y_front : HandsOn g rows (p.y.0 / 2) ys) where
+  fan_ins_below : (p.x.0 / 2 < n) × (p.y.0 / 2 < n)
+  fan_ins_below =
+      let is : IsNormal n p = node_normal g n p normal is_node in
+      let y : p.y.0 / 2 < n = is.below in
+      let o : p.x.0 / 2 < p.y.0 / 2 = is.ordered in
+      (omega arith, y)
+
+  x_part : (c : List ℕ) → In xs c → IsPart g n (p.x.0 / 2) c
+  x_part = front_part g k rows n (p.x.0 / 2) xs (λ d a j. below (p.x.0 / 2) d a fan_ins_below.0 j) fan_ins_below.0 x_front
+
+  y_part : (c : List ℕ) → In ys c → IsPart g n (p.y.0 / 2) c
+  y_part = front_part g k rows n (p.y.0 / 2) ys (λ d a j. below (p.y.0 / 2) d a fan_ins_below.1 j) fan_ins_below.1 y_front
+
+  pub x_below : (c : List ℕ) → In xs c → (m : ℕ) → In c m → m < n
+  x_below c i m j = ((x_part c i).below m j).0
+
+  pub y_below : (c : List ℕ) → In ys c → (m : ℕ) → In c m → m < n
+  y_below c i m j = ((y_part c i).below m j).0
+
+  pub unions_cut : (c : List ℕ) → In (unions k xs ys) c → IsCut g k n c
   unions_cut c i =
-      let is : IsNormal n are.pair = node_normal g n are.pair normal are.is in
-      let y : are.pair.y.0 / 2 < n = is.below in
-      let o : are.pair.x.0 / 2 < are.pair.y.0 / 2 = is.ordered in
-      let x : are.pair.x.0 / 2 < n = omega arith in
-      let u = unions_from k are.xs are.ys c i in
-      subst (IsCut g k n) (sym u.is) (union_cut g k n are.pair u.left u.right are.is
-      (front_part g k rows n (are.pair.x.0 / 2) are.xs (λ d a j. below (are.pair.x.0 / 2) d a x j) x are.x_front u.left u.left_in)
-      (front_part g k rows n (are.pair.y.0 / 2) are.ys (λ d a j. below (are.pair.y.0 / 2) d a y j) y are.y_front u.right u.right_in) u.few)
+      let u = unions_from k xs ys c i in
+      subst (IsCut g k n) (sym u.is) (union_cut g k n p u.left u.right is_node (x_part u.left u.left_in) (y_part u.right u.right_in) u.few)
+
+module _ (g : Aig) (k : ℕ) (label : ℕ → ℕ) (low : List ℕ) (rows : List (List (List ℕ))) (n : ℕ) (cs : List (List ℕ)) (normal : AreNormal (first_and g) g.pairs) (below : (m : ℕ) (c : List ℕ) → IsAnd g m → m < n → In (row_at rows m) c → IsCut g k m c) (low_cut : IsCut g k n low) (are : AreCandidates g k label low rows n cs) where
+  its_unions : (c : List ℕ) → In (unions k are.xs are.ys) c → IsCut g k n c
+  its_unions = unions_cut g k rows n are.pair are.xs are.ys normal below are.is are.x_front are.y_front
 
   pub candidate_cut : (c : List ℕ) → In cs c → IsCut g k n c
   candidate_cut c i = by_case are.are
     where
       by_case : WithLow label (label n) low (unions k are.xs are.ys) cs → IsCut g k n c
-      by_case (there h e) = unions_cut c (subst (λ (l : List (List ℕ)). In l c) e i)
-      by_case (missing h e) = elim (In-push (unions k are.xs are.ys) low c (subst (λ (l : List (List ℕ)). In l c) e i)) [ inl j ↦ unions_cut c j | inr q ↦ subst (IsCut g k n) (sym q) low_cut ]
+      by_case (there h e) = its_unions c (subst (λ (l : List (List ℕ)). In l c) e i)
+      by_case (missing h e) = elim (In-push (unions k are.xs are.ys) low c (subst (λ (l : List (List ℕ)). In l c) e i)) [ inl j ↦ its_unions c j | inr q ↦ subst (IsCut g k n) (sym q) low_cut ]
 
   pub low_candidate : IsAnd g n → AreLeastHeights g k label → height label low ≡ label n → (c : List ℕ) × In cs c × (height label c ≡ label n)
   low_candidate and least is_low = by_case are.are
@@ -94,6 +112,6 @@ module _ (g : Aig) (k : ℕ) (label : ℕ → ℕ) (low : List ℕ) (rows : List
       by_case (there h e) = (
         h.0,
         subst (λ (l : List (List ℕ)). In l h.0) (sym e) h.1,
-        (let a : height label h.0 ≤ label n = h.2 in let b : label n ≤ height label h.0 = least.least n h.0 and (unions_cut h.0 h.1) in omega arith),
+        (let a : height label h.0 ≤ label n = h.2 in let b : label n ≤ height label h.0 = least.least n h.0 and (its_unions h.0 h.1) in omega arith),
       )
       by_case (missing h e) = (low, subst (λ (l : List (List ℕ)). In l low) (sym e) (In-pushed (unions k are.xs are.ys) low), is_low)

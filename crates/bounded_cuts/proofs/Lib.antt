@@ -1,6 +1,7 @@
 mod Common
 mod CostLemmas
 mod KeyLemmas
+mod KeyOrderLemmas
 mod TakingLemmas
 mod UnionLemmas
 mod CandidateLemmas
@@ -9,6 +10,7 @@ mod SetLemmas
 mod ServingLemmas
 mod OnceLemmas
 mod GrowthLemmas
+mod WorthLemmas
 mod CutLemmas
 mod ChosenLemmas
 mod MakingLemmas

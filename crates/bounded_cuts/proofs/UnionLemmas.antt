@@ -5,7 +5,7 @@ use Rattle.std.proofs.lemmas.List.{take_more}
 use Rattle.std.proofs.Common.{ltb, suc-mul, add_comm}
 use Rattle.cut_sets.specs.Unions.{union}
 use Rattle.bounded_cuts.specs.Candidates.{one_union, unions_with, unions}
-use Rattle.bounded_cuts.proofs.Common.{Candidate, ArePriced, IsPriced}
+use Rattle.bounded_cuts.proofs.Common.{Candidate, Worth, AreCounted, In-union, ArePricedBy, IsPricedBy}
 use Rattle.std.proofs.Common.{Bool, cond}
 
 pub with_push : (k : ℕ) (c : List ℕ) (ds : List (List ℕ)) (d : List ℕ) → unions_with k c (ds ++ d ∷ []) ≡ unions_with k c ds ++ one_union k c d
@@ -23,8 +23,11 @@ take_next {A = A} xs i x e = take_more xs i x (slice_get_within xs i x e) ∙ ap
 pub next_taken : {A : Type 0} (xs : List A) (i : ℕ) (x y : A) → i < length xs → x ≡ get_or xs i x → In (take (i + 1) xs) y → In (take i xs) y ⊎ (y ≡ x)
 next_taken {A = A} xs i x y l e m = In-push (take i xs) x y (subst (λ (zs : List A). In zs y) (take_more xs i x l ∙ ap (λ (z : A). take i xs ++ z ∷ []) (sym e)) m)
 
-pub priced_push : (labels flows lows : List ℕ) (favoured : List Bool) (cs : List Candidate) (c : Candidate) → IsPriced labels flows lows favoured c → ArePriced labels flows lows favoured cs → ArePriced labels flows lows favoured (cs ++ c ∷ [])
-priced_push labels flows lows favoured cs c is are d m = elim (In-push cs c d m) [ inl k ↦ are d k | inr e ↦ subst (IsPriced labels flows lows favoured) (sym e) is ]
+pub union_counted : (ws : List Worth) (c d u : List ℕ) → AreCounted ws c → AreCounted ws d → u ≡ union c d → AreCounted ws u
+union_counted ws c d u h k e m i = elim (In-union c d m (subst (λ (l : List ℕ). In l m) e i)) [ inl j ↦ h m j | inr j ↦ k m j ]
+
+pub priced_push : (ws : List Worth) (cs : List Candidate) (c : Candidate) → IsPricedBy ws c → ArePricedBy ws cs → ArePricedBy ws (cs ++ c ∷ [])
+priced_push ws cs c is are d m = elim (In-push cs c d m) [ inl k ↦ are d k | inr e ↦ subst (IsPricedBy ws) (sym e) is ]
 
 -- the unions of one more cut
 pub with_next : (k : ℕ) (c : List ℕ) (front : List (List ℕ)) (i : ℕ) (d : List ℕ) (old now next : List (List ℕ)) → i < length front → d ≡ get_or front i d → now ≡ old ++ unions_with k c (take i front) → next ≡ now ++ one_union k c d → next ≡ old ++ unions_with k c (take (i + 1) front)

@@ -4,4 +4,5 @@ pub mod Candidates
 pub mod Sets
 -- What only bodies are compared with.
 pub mod Taking
+pub mod Worths
 pub mod Making

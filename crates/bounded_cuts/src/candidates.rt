@@ -1,14 +1,15 @@
 //! The candidates of a node: unions of what its fan-ins hand on, and its low cut if no union is as low as its label.
-ghost use Rattle.std.specs.Prelude.{◌≡◌, ◌⊎◌, ℕ, ◌<◌, ◌≤◌, ◌/◌, ◌^◌, ◌++◌, ◌∷◌, [], length, true, false, Some, IfOk, OnOk};
+ghost use Rattle.std.specs.Prelude.{◌≡◌, ◌⊎◌, ℕ, List, ◌<◌, ◌≤◌, ◌/◌, ◌^◌, ◌++◌, ◌∷◌, [], length, true, false, Some, IfOk, OnOk};
 ghost use Rattle.aig_core.specs.Aig.{first_and, node_count, pair_of, IsAnd, IsSource};
 ghost use Rattle.aig_core.specs.declared.lit.Kind.TheVariants.{Regular};
-ghost use Rattle.cut_sets.specs.Cuts.{Blocks};
+ghost use Rattle.cut_sets.specs.Cuts.{Blocks, IsCut};
 ghost use Rattle.cut_sets.specs.Labels.{label_at, AreLeastHeights};
 ghost use Rattle.cut_sets.specs.Rows.{row_at};
 ghost use Rattle.cut_sets.specs.declared.limits.TheConstants.{MOST_LEAVES};
 ghost use Rattle.list_laws.specs.Members.{In};
 ghost use Rattle.bounded_cuts.specs.Candidates.{AreCandidates, HandsOn, one_union, unions, unions_with};
-ghost use Rattle.bounded_cuts.specs.Taking.{AreCapped, ArePriced, cuts_of};
+ghost use Rattle.bounded_cuts.specs.Taking.{cuts_of};
+ghost use Rattle.bounded_cuts.specs.Worths.{AllCounted, AreBounded, AreCounted, ArePricedBy, label_in};
 
 use crate::price::{Candidate, Prices};
 use aig_core::{Graph, Kind, Pair};
@@ -85,10 +86,11 @@ fn push_union(
     d: &FlatCut,
 ) -> Result<(), AllocError>
     requires few { k ≤ MOST_LEAVES }
-    requires flows { AreCapped prices.now.flows.now }
-    requires low_flows { AreCapped prices.now.low_flows.now }
+    requires bounded { AreBounded prices.now.worths.now }
+    requires c_counted { AreCounted prices.now.worths.now c.now }
+    requires d_counted { AreCounted prices.now.worths.now d.now }
     ensures cuts { OnOk result (cuts_of all.new.items ≡ cuts_of all.old.items ++ one_union k c.now d.now) }
-    ensures priced { OnOk result (ArePriced prices.now.labels.now prices.now.flows.now prices.now.low_flows.now prices.now.favoured.now all.old.items → ArePriced prices.now.labels.now prices.now.flows.now prices.now.low_flows.now prices.now.favoured.now all.new.items) }
+    ensures priced { OnOk result (ArePricedBy prices.now.worths.now all.old.items → ArePricedBy prices.now.worths.now all.new.items) }
 {
     if let Some(cut) = joined_within(c, d, usize::from(k)) {
         all.push(prices.price(cut))?;
@@ -105,10 +107,11 @@ fn push_unions_with(
     front: &[FlatCut],
 ) -> Result<(), AllocError>
     requires few { k ≤ MOST_LEAVES }
-    requires flows { AreCapped prices.now.flows.now }
-    requires low_flows { AreCapped prices.now.low_flows.now }
+    requires bounded { AreBounded prices.now.worths.now }
+    requires c_counted { AreCounted prices.now.worths.now c.now }
+    requires front_counted { AllCounted prices.now.worths.now front.now }
     ensures cuts { OnOk result (cuts_of all.new.items ≡ cuts_of all.old.items ++ unions_with k c.now front.now) }
-    ensures priced { OnOk result (ArePriced prices.now.labels.now prices.now.flows.now prices.now.low_flows.now prices.now.favoured.now all.old.items → ArePriced prices.now.labels.now prices.now.flows.now prices.now.low_flows.now prices.now.favoured.now all.new.items) }
+    ensures priced { OnOk result (ArePricedBy prices.now.worths.now all.old.items → ArePricedBy prices.now.worths.now all.new.items) }
 {
     for d in front {
         push_union(all, prices, k, c, d)?;
@@ -125,10 +128,11 @@ fn push_unions(
     y_front: &[FlatCut],
 ) -> Result<(), AllocError>
     requires few { k ≤ MOST_LEAVES }
-    requires flows { AreCapped prices.now.flows.now }
-    requires low_flows { AreCapped prices.now.low_flows.now }
+    requires bounded { AreBounded prices.now.worths.now }
+    requires x_counted { AllCounted prices.now.worths.now x_front.now }
+    requires y_counted { AllCounted prices.now.worths.now y_front.now }
     ensures cuts { OnOk result (cuts_of all.new.items ≡ cuts_of all.old.items ++ unions k x_front.now y_front.now) }
-    ensures priced { OnOk result (ArePriced prices.now.labels.now prices.now.flows.now prices.now.low_flows.now prices.now.favoured.now all.old.items → ArePriced prices.now.labels.now prices.now.flows.now prices.now.low_flows.now prices.now.favoured.now all.new.items) }
+    ensures priced { OnOk result (ArePricedBy prices.now.worths.now all.old.items → ArePricedBy prices.now.worths.now all.new.items) }
 {
     for c in x_front {
         push_unions_with(all, prices, k, c, y_front)?;
@@ -173,14 +177,17 @@ impl Candidates {
         low: FlatCut,
     ) -> Result<(), AllocError>
         requires few { k ≤ MOST_LEAVES }
-        requires flows { AreCapped prices.now.flows.now }
-        requires low_flows { AreCapped prices.now.low_flows.now }
+        requires bounded { AreBounded prices.now.worths.now }
         requires node { IsAnd graph.now n }
         requires labels { AreLeastHeights graph.now k (label_at prices.now.labels.now) }
+        requires count { length prices.now.worths.now ≡ n }
+        requires known { (m : ℕ) → m < n → label_in prices.now.worths.now m ≡ label_at prices.now.labels.now m }
+        requires low { AreCounted prices.now.worths.now low }
         requires sources { (s : ℕ) → s < first_and graph.now → row_at rows.now s ≡ [] }
+        requires cuts { (m : ℕ) (c : List ℕ) → IsAnd graph.now m → m < n → In (row_at rows.now m) c → IsCut graph.now k m c }
         requires rows { (m : ℕ) → length (row_at rows.now m) ≤ 16 }
         ensures are { OnOk result (AreCandidates graph.now k (label_at prices.now.labels.now) low rows.now n (cuts_of self.new.all.items)) }
-        ensures priced { OnOk result (ArePriced prices.now.labels.now prices.now.flows.now prices.now.low_flows.now prices.now.favoured.now self.new.all.items) }
+        ensures priced { OnOk result (ArePricedBy prices.now.worths.now self.new.all.items) }
         ensures few { OnOk result (length self.new.all.items ≤ 290) }
     {
         let _count = graph.len();

@@ -22,8 +22,10 @@
 //!
 //! The *flow* of a node is the least cost of its cuts, divided by how many readers are counted of it, and 0 at a source. A cut
 //! costs a LUT (`TABLE_PRICE` and its bits) and the flows of its leaves. There are two flows: over all cuts of a set, and over
-//! those that are as low as the label. A flow is at most `MOST_FLOW`, so a cost fits 64 bits. This is the area flow of
+//! those that are as low as the label. A flow is at most `MOST_FLOW`, so a cost is below 2^43. This is the area flow of
 //! Manohararajah, Brown and Vranesic (2006).
+//!
+//! A candidate's cost, its number of leaves and its place fit one word, the candidate's *key*. A taking compares keys.
 //!
 //! # What is proved
 //!
@@ -34,8 +36,9 @@
 //! # Where what is
 //!
 //! - `specs/Flow.antt` (costs and flows), `Candidates.antt`, `Sets.antt` (places, takings, rows) are what the public clauses
-//!   say; `Taking.antt` and `Making.antt` are the states of the loops.
-//! - `price.rt`: the costs of a cut. `candidates.rt`: the candidates of a node. `taking.rt`: one taking by its order, with the
+//!   say; `Taking.antt`, `Worths.antt` and `Making.antt` are the states of the loops.
+//! - `worths.rt`: what nodes count as leaves, one record for each node, so that a cut is priced in one walk over its leaves.
+//!   `price.rt`: the costs of a cut. `candidates.rt`: the candidates of a node. `taking.rt`: one taking by its order, with the
 //!   least key next. `places.rt`: the three takings. `sets.rt`: the cuts at the places, and their least flows. `making.rt`:
 //!   node after node. `laws.rt`: what holds of all sets.
 //! - Working memory is allocated once for all nodes.
@@ -54,12 +57,9 @@ mod price;
 mod scope;
 mod sets;
 mod taking;
+mod worths;
 
-pub use candidates::Candidates;
 pub use laws::set_laws;
 pub use limits::{MOST_FLOW, TABLE_PRICE};
 pub use making::{Wanted, bounded_sets};
-pub use places::{Taking, most_places};
-pub use price::{Candidate, Prices};
 pub use scope::Scope;
-pub use taking::take;

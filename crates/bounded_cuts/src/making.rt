@@ -5,11 +5,13 @@ ghost use Rattle.cut_sets.specs.Labels.{label_at, AreLeastHeights};
 ghost use Rattle.cut_sets.specs.declared.limits.TheConstants.{MOST_CUTS, MOST_LEAVES};
 ghost use Rattle.bounded_cuts.specs.Making.{AreLows, AreMade, IsChosen, ServeBelow, count_in, favoured_in, low_in};
 ghost use Rattle.bounded_cuts.specs.Sets.{AreServing, AreSets, places};
+ghost use Rattle.bounded_cuts.specs.Worths.{AreWorths, IsWorth, flows_of, low_flows_of};
 
 use crate::candidates::Candidates;
 use crate::places::Taking;
 use crate::price::Prices;
 use crate::sets::{copy_cuts, least_flow, least_low_flow};
+use crate::worths::Worth;
 use aig_core::Graph;
 use cut_sets::{CutRows, FlatCut, MOST_CUTS, MOST_LEAVES, NodeLabels};
 use std::alloc::{AllocError, Global};
@@ -31,12 +33,11 @@ pub struct Wanted<'a> {
     pub favoured: &'a [bool],
 }
 
-// The sets of the first nodes, and their flows through all cuts and through cuts of the least height.
+// The sets of the first nodes, and what these nodes count as leaves.
 #[derive(Drop)]
 struct Made {
     rows: CutRows,
-    flows: Vec<u64>,
-    low_flows: Vec<u64>,
+    worths: Vec<Worth>,
 }
 
 // Working memory for one node, allocated once for all.
@@ -64,6 +65,19 @@ fn readers(counts: &[u32], n: u32) -> u64
     u64::from(counts.get(n as usize).copied().unwrap_or(0).max(1))
 }
 
+// What a node with these flows counts as a leaf.
+fn worth(wanted: &Wanted, n: u32, flow: u64, low_flow: u64) -> Worth
+    ensures { IsWorth wanted.now.labels.now wanted.now.favoured.now n flow low_flow result }
+{
+    let favoured = wanted.favoured.get(n as usize).copied().unwrap_or(false);
+    Worth {
+        label: wanted.labels.label(n),
+        flow,
+        low_flow,
+        paid: if favoured { 0 } else { flow },
+    }
+}
+
 // Makes the set of an AND node.
 fn make_set(wanted: &Wanted, made: &Made, n: u32, room: &mut Room) -> Result<(), AllocError>
     requires few { wanted.now.k ≤ MOST_LEAVES }
@@ -71,15 +85,14 @@ fn make_set(wanted: &Wanted, made: &Made, n: u32, room: &mut Room) -> Result<(),
     requires node { IsAnd wanted.now.graph.now n }
     requires labels { AreLeastHeights wanted.now.graph.now wanted.now.k (label_at wanted.now.labels.now) }
     requires lows { AreLows wanted.now.graph.now wanted.now.k (label_at wanted.now.labels.now) wanted.now.lows.now }
-    requires made { AreMade wanted.now.graph.now wanted.now.k (label_at wanted.now.labels.now) (low_in wanted.now.lows.now) (count_in wanted.now.counts.now) (favoured_in wanted.now.favoured.now) n made.now.rows made.now.flows.items made.now.low_flows.items }
+    requires made { AreMade wanted.now.graph.now wanted.now.k (label_at wanted.now.labels.now) (low_in wanted.now.lows.now) (count_in wanted.now.counts.now) (favoured_in wanted.now.favoured.now) n made.now.rows (flows_of made.now.worths.items) (low_flows_of made.now.worths.items) }
     requires serving { ServeBelow wanted.now.graph.now wanted.now.k (label_at wanted.now.labels.now) n made.now.rows }
-    ensures { OnOk result (IsChosen wanted.now.graph.now wanted.now.k wanted.now.labels.now (low_in wanted.now.lows.now) wanted.now.favoured.now n made.now.rows made.now.flows.items made.now.low_flows.items room.new.candidates.all.items room.new.taking.taken.items room.new.set.items) }
+    requires worths { AreWorths wanted.now.labels.now wanted.now.favoured.now n made.now.worths.items }
+    ensures { OnOk result (IsChosen wanted.now.graph.now wanted.now.k wanted.now.labels.now (low_in wanted.now.lows.now) wanted.now.favoured.now n made.now.rows (flows_of made.now.worths.items) (low_flows_of made.now.worths.items) room.new.candidates.all.items room.new.taking.taken.items room.new.set.items) }
 {
     let prices = Prices {
         labels: wanted.labels,
-        flows: &made.flows,
-        low_flows: &made.low_flows,
-        favoured: wanted.favoured,
+        worths: &made.worths,
     };
     let low = low_of(wanted.lows, n);
     room.candidates
@@ -98,35 +111,31 @@ fn push_node(wanted: &Wanted, made: Made, n: u32, room: &mut Room) -> Result<Mad
     requires labels { AreLeastHeights wanted.now.graph.now wanted.now.k (label_at wanted.now.labels.now) }
     requires lows { AreLows wanted.now.graph.now wanted.now.k (label_at wanted.now.labels.now) wanted.now.lows.now }
     requires most { places wanted.now.k * length wanted.now.graph.now.pairs ≤ MOST_CUTS }
-    requires made { AreMade wanted.now.graph.now wanted.now.k (label_at wanted.now.labels.now) (low_in wanted.now.lows.now) (count_in wanted.now.counts.now) (favoured_in wanted.now.favoured.now) n made.rows made.flows.items made.low_flows.items }
+    requires made { AreMade wanted.now.graph.now wanted.now.k (label_at wanted.now.labels.now) (low_in wanted.now.lows.now) (count_in wanted.now.counts.now) (favoured_in wanted.now.favoured.now) n made.rows (flows_of made.worths.items) (low_flows_of made.worths.items) }
     requires serving { ServeBelow wanted.now.graph.now wanted.now.k (label_at wanted.now.labels.now) n made.rows }
-    ensures made { IfOk result (λ more. AreMade wanted.now.graph.now wanted.now.k (label_at wanted.now.labels.now) (low_in wanted.now.lows.now) (count_in wanted.now.counts.now) (favoured_in wanted.now.favoured.now) (n + 1) more.rows more.flows.items more.low_flows.items) }
+    requires worths { AreWorths wanted.now.labels.now wanted.now.favoured.now n made.worths.items }
+    ensures made { IfOk result (λ more. AreMade wanted.now.graph.now wanted.now.k (label_at wanted.now.labels.now) (low_in wanted.now.lows.now) (count_in wanted.now.counts.now) (favoured_in wanted.now.favoured.now) (n + 1) more.rows (flows_of more.worths.items) (low_flows_of more.worths.items)) }
     ensures serving { IfOk result (λ more. ServeBelow wanted.now.graph.now wanted.now.k (label_at wanted.now.labels.now) (n + 1) more.rows) }
+    ensures worths { IfOk result (λ more. AreWorths wanted.now.labels.now wanted.now.favoured.now (n + 1) more.worths.items) }
 {
     make_set(wanted, &made, n, room)?;
     let label = wanted.labels.label(n);
     let shared = readers(wanted.counts, n);
     let flow = least_flow(&room.candidates.all, &room.taking.taken) / shared;
     let low_flow = least_low_flow(&room.candidates.all, &room.taking.taken, label) / shared;
-    pushed(made, &room.set, flow, low_flow)
+    pushed(made, &room.set, worth(wanted, n, flow, low_flow))
 }
 
-// One row and its flows more.
-fn pushed(made: Made, set: &[FlatCut], flow: u64, low_flow: u64) -> Result<Made, AllocError>
+// One row and its node's worth more.
+fn pushed(made: Made, set: &[FlatCut], worth: Worth) -> Result<Made, AllocError>
     requires { sum_by length made.rows + length set.now ≤ MOST_CUTS }
-    ensures { IfOk result (λ more. (more.rows ≡ made.rows ++ set.now ∷ []) × (more.flows.items ≡ made.flows.items ++ flow ∷ []) × (more.low_flows.items ≡ made.low_flows.items ++ low_flow ∷ [])) }
+    ensures { IfOk result (λ more. (more.rows ≡ made.rows ++ set.now ∷ []) × (more.worths.items ≡ made.worths.items ++ worth ∷ [])) }
 {
-    let Made {
-        rows,
-        mut flows,
-        mut low_flows,
-    } = made;
-    flows.push(flow)?;
-    low_flows.push(low_flow)?;
+    let Made { rows, mut worths } = made;
+    worths.push(worth)?;
     Ok(Made {
         rows: rows.with_row(set)?,
-        flows,
-        low_flows,
+        worths,
     })
 }
 
@@ -137,13 +146,15 @@ fn next_made(wanted: &Wanted, made: Made, n: u32, room: &mut Room) -> Result<Mad
     requires labels { AreLeastHeights wanted.now.graph.now wanted.now.k (label_at wanted.now.labels.now) }
     requires lows { AreLows wanted.now.graph.now wanted.now.k (label_at wanted.now.labels.now) wanted.now.lows.now }
     requires most { places wanted.now.k * length wanted.now.graph.now.pairs ≤ MOST_CUTS }
-    requires made { AreMade wanted.now.graph.now wanted.now.k (label_at wanted.now.labels.now) (low_in wanted.now.lows.now) (count_in wanted.now.counts.now) (favoured_in wanted.now.favoured.now) n made.rows made.flows.items made.low_flows.items }
+    requires made { AreMade wanted.now.graph.now wanted.now.k (label_at wanted.now.labels.now) (low_in wanted.now.lows.now) (count_in wanted.now.counts.now) (favoured_in wanted.now.favoured.now) n made.rows (flows_of made.worths.items) (low_flows_of made.worths.items) }
     requires serving { ServeBelow wanted.now.graph.now wanted.now.k (label_at wanted.now.labels.now) n made.rows }
-    ensures made { IfOk result (λ more. AreMade wanted.now.graph.now wanted.now.k (label_at wanted.now.labels.now) (low_in wanted.now.lows.now) (count_in wanted.now.counts.now) (favoured_in wanted.now.favoured.now) (n + 1) more.rows more.flows.items more.low_flows.items) }
+    requires worths { AreWorths wanted.now.labels.now wanted.now.favoured.now n made.worths.items }
+    ensures made { IfOk result (λ more. AreMade wanted.now.graph.now wanted.now.k (label_at wanted.now.labels.now) (low_in wanted.now.lows.now) (count_in wanted.now.counts.now) (favoured_in wanted.now.favoured.now) (n + 1) more.rows (flows_of more.worths.items) (low_flows_of more.worths.items)) }
     ensures serving { IfOk result (λ more. ServeBelow wanted.now.graph.now wanted.now.k (label_at wanted.now.labels.now) (n + 1) more.rows) }
+    ensures worths { IfOk result (λ more. AreWorths wanted.now.labels.now wanted.now.favoured.now (n + 1) more.worths.items) }
 {
     if n <= wanted.graph.sources() {
-        pushed(made, &[], 0, 0)
+        pushed(made, &[], worth(wanted, n, 0, 0))
     } else {
         push_node(wanted, made, n, room)
     }
@@ -155,8 +166,9 @@ fn all_made(alloc: Global, wanted: &Wanted) -> Result<Made, AllocError>
     requires labels { AreLeastHeights wanted.now.graph.now wanted.now.k (label_at wanted.now.labels.now) }
     requires lows { AreLows wanted.now.graph.now wanted.now.k (label_at wanted.now.labels.now) wanted.now.lows.now }
     requires most { places wanted.now.k * length wanted.now.graph.now.pairs ≤ MOST_CUTS }
-    ensures made { IfOk result (λ all. AreMade wanted.now.graph.now wanted.now.k (label_at wanted.now.labels.now) (low_in wanted.now.lows.now) (count_in wanted.now.counts.now) (favoured_in wanted.now.favoured.now) (node_count wanted.now.graph.now) all.rows all.flows.items all.low_flows.items) }
+    ensures made { IfOk result (λ all. AreMade wanted.now.graph.now wanted.now.k (label_at wanted.now.labels.now) (low_in wanted.now.lows.now) (count_in wanted.now.counts.now) (favoured_in wanted.now.favoured.now) (node_count wanted.now.graph.now) all.rows (flows_of all.worths.items) (low_flows_of all.worths.items)) }
     ensures serving { IfOk result (λ all. ServeBelow wanted.now.graph.now wanted.now.k (label_at wanted.now.labels.now) (node_count wanted.now.graph.now) all.rows) }
+    ensures worths { IfOk result (λ all. AreWorths wanted.now.labels.now wanted.now.favoured.now (node_count wanted.now.graph.now) all.worths.items) }
 {
     let mut room = Room {
         candidates: Candidates::new(alloc),
@@ -165,8 +177,7 @@ fn all_made(alloc: Global, wanted: &Wanted) -> Result<Made, AllocError>
     };
     let mut made = Made {
         rows: CutRows::new(alloc)?,
-        flows: Vec::new(alloc),
-        low_flows: Vec::new(alloc),
+        worths: Vec::new(alloc),
     };
     for n in 0..wanted.graph.len() {
         made = next_made(wanted, made, n, &mut room)?;

@@ -1,12 +1,13 @@
 //! The places of a node's set among its candidates: three takings.
-ghost use Rattle.std.specs.Prelude.{◌≡◌, ℕ, ◌<◌, ◌≤◌, ◌^◌, [], length, replicate, false, IfOk, OnOk};
+ghost use Rattle.std.specs.Prelude.{◌≡◌, ℕ, ◌<◌, ◌≤◌, [], length, replicate, false, IfOk, OnOk};
 ghost use Rattle.cut_sets.specs.declared.limits.TheConstants.{MOST_LEAVES};
-ghost use Rattle.bounded_cuts.specs.Taking.{CanTake, IsPlaced, Pricing, cuts_of};
+ghost use Rattle.bounded_cuts.specs.declared.limits.TheConstants.{PLACE_BOUND};
+ghost use Rattle.bounded_cuts.specs.Taking.{CanTake, HaveSmallCosts, IsPlaced, Pricing, cuts_of};
 ghost use Rattle.bounded_cuts.specs.Sets.{places};
 ghost use Rattle.list_laws.specs.Members.{In};
 
 use crate::price::Candidate;
-use crate::taking::{Key, Order, take};
+use crate::taking::{Order, take};
 use cut_sets::MOST_LEAVES;
 use std::alloc::{AllocError, Global};
 
@@ -14,7 +15,7 @@ use std::alloc::{AllocError, Global};
 #[derive(Drop)]
 pub struct Taking {
     looked: Vec<bool>,
-    keys: Vec<Key>,
+    keys: Vec<u64>,
     /// The places of the set among the candidates, in the order in which they were taken.
     pub taken: Vec<u32>,
 }
@@ -46,10 +47,11 @@ fn take_three(
     candidates: &[Candidate],
     looked: &mut [bool],
     taken: &mut Vec<u32>,
-    keys: &mut Vec<Key>,
+    keys: &mut Vec<u64>,
 ) -> Result<(), AllocError>
     requires few { k ≤ MOST_LEAVES }
-    requires count { length candidates.now < 2 ^ 32 }
+    requires count { length candidates.now ≤ PLACE_BOUND }
+    requires small { HaveSmallCosts candidates.now }
     requires looked { looked.old ≡ replicate (length candidates.now) false }
     requires taken { taken.old.items ≡ [] }
     ensures inside { OnOk result ((j : ℕ) → In taken.new.items j → j < length candidates.now) }
@@ -108,7 +110,8 @@ impl Taking {
         candidates: &[Candidate],
     ) -> Result<(), AllocError>
         requires few { k ≤ MOST_LEAVES }
-        requires count { length candidates.now < 2 ^ 32 }
+        requires count { length candidates.now ≤ PLACE_BOUND }
+        requires small { HaveSmallCosts candidates.now }
         ensures inside { OnOk result ((j : ℕ) → In self.new.taken.items j → j < length candidates.now) }
         ensures placed { OnOk result ((p : Pricing) → CanTake p label candidates.now → IsPlaced p k label (cuts_of candidates.now) self.new.taken.items) }
     {

@@ -1,5 +1,5 @@
 -- Rows of cuts in a few lists: reading a cut, and putting one more cut or row at the end.
-use Rattle.cut_sets.proofs.Common.{◌≡◌, ℕ, zero, suc, ◌+◌, ◌-◌, ◌*◌, ◌^◌, ◌<◌, ◌≤◌, List, [], ◌∷◌, ◌++◌, length, get_or, map, take, drop, slice_range, sum_by, refl, sym, ap, ◌∙◌, subst, inl, inr, arith, cases_lt, length-append, length-map, length-drop, length-take-le, get_or-take, get_or-drop, get_or-map, map-append, append-nil, append_assoc, take_all, sum_by_push, In, In-append, In-get_or, IsAscending, signature_of, parts_from, parts_of, RisesTo, StartsTo, IsShort, AreFlatCuts, AreFlatRows, MOST_LEAVES, MOST_CUTS}
+use Rattle.cut_sets.proofs.Common.{◌≡◌, ℕ, suc, ◌+◌, ◌-◌, ◌*◌, ◌<◌, ◌≤◌, List, [], ◌∷◌, ◌++◌, length, get_or, map, take, drop, slice_range, sum_by, refl, sym, ap, ◌∙◌, subst, inl, inr, arith, cases_lt, length-append, length-map, length-drop, length-take-le, get_or-take, get_or-drop, get_or-map, map-append, take_all, sum_by_push, In, In-append, In-get_or, signature_of, parts_from, parts_of, RisesTo, StartsTo, IsShort, AreFlatCuts, AreFlatRows, MOST_LEAVES, MOST_CUTS}
 use Rattle.cut_sets.proofs.SpanLemmas.{rises_le, parts_of-count, parts_of-at, parts_of-past, parts_of-push, starts_push, starts-bounds}
 
 slice_length : {A : Type 0} (items : List A) (a b : ℕ) → b ≤ length items → length (slice_range items a b) ≡ b - a
@@ -43,6 +43,41 @@ flat_push leaves starts signatures cut b s flat short e f =
         | inr j ↦ elim j [ inl q ↦ subst IsShort (sym q) short | inr z ↦ absurd z ]
       ];
       signed = ap (λ t. signatures ++ t ∷ []) f ∙ ap (λ t. t ++ signature_of cut ∷ []) flat.signed ∙ sym (map-append signature_of (parts_of starts leaves) (cut ∷ [])) ∙ ap (λ (t : List (List ℕ)). map signature_of t) (sym p);
+    }
+
+-- where a cut is among all leaves: from its start on, up to the next one's
+pub record IsSpan (leaves starts signatures : List ℕ) (place : ℕ) : Type 0 where
+  pub ordered : get_or starts place 0 ≤ get_or starts (place + 1) 0
+  pub inside : get_or starts (place + 1) 0 ≤ length leaves
+  pub few : get_or starts (place + 1) 0 - get_or starts place 0 ≤ MOST_LEAVES
+  pub long : get_or starts (place + 1) 0 - get_or starts place 0 ≤ length (take (length leaves - get_or starts place 0) (drop (get_or starts place 0) leaves))
+  pub leaves_are : take (get_or starts (place + 1) 0 - get_or starts place 0) (take (length leaves - get_or starts place 0) (drop (get_or starts place 0) leaves)) ≡ get_or (parts_of starts leaves) place []
+  pub short : IsShort (get_or (parts_of starts leaves) place [])
+  pub signature_in : place < length signatures
+  pub signature_is : get_or signatures place 0 ≡ signature_of (get_or (parts_of starts leaves) place [])
+
+pub span_at : (leaves starts signatures : List ℕ) (place : ℕ) → AreFlatCuts leaves starts signatures → place + 1 < length starts → IsSpan leaves starts signatures place
+span_at leaves starts signatures place flat l =
+    let bounds = starts-bounds (length leaves) starts place flat.starts_to l in
+    let ordered : get_or starts place 0 ≤ get_or starts (place + 1) 0 = bounds.0 in
+    let end : get_or starts (place + 1) 0 ≤ length leaves = bounds.1 in
+    let at : get_or (parts_of starts leaves) place [] ≡ slice_range leaves (get_or starts place 0) (get_or starts (place + 1) 0) = parts_of-at starts leaves place l in
+    let count : length (parts_of starts leaves) + 1 ≡ length starts = parts_of-count (length leaves) starts leaves flat.starts_to in
+    let many : length signatures ≡ length (parts_of starts leaves) = ap length flat.signed ∙ length-map (parts_of starts leaves) signature_of in
+    let inside : place < length (parts_of starts leaves) = omega arith in
+    let short : IsShort (get_or (parts_of starts leaves) place []) = flat.short (get_or (parts_of starts leaves) place []) (In-get_or (parts_of starts leaves) place [] inside) in
+    let size : length (get_or (parts_of starts leaves) place []) ≡ get_or starts (place + 1) 0 - get_or starts place 0 = ap length at ∙ slice_length leaves (get_or starts place 0) (get_or starts (place + 1) 0) end in
+    let rest : length (drop (get_or starts place 0) leaves) ≡ length leaves - get_or starts place 0 = length-drop (get_or starts place 0) leaves in
+    let all : take (length leaves - get_or starts place 0) (drop (get_or starts place 0) leaves) ≡ drop (get_or starts place 0) leaves = take_all (length leaves - get_or starts place 0) (drop (get_or starts place 0) leaves) (omega arith) in
+    record {
+      ordered = ordered;
+      inside = end;
+      few = omega (arith, short.few);
+      long = omega (arith, ap length all);
+      leaves_are = ap (λ t. take (get_or starts (place + 1) 0 - get_or starts place 0) t) all ∙ sym at;
+      short = short;
+      signature_in = omega arith;
+      signature_is = ap (λ t. get_or t place 0) flat.signed ∙ get_or-map signature_of (parts_of starts leaves) place [] 0 inside;
     }
 
 -- one more row

@@ -1,5 +1,5 @@
 //! A cut as plain data: its leaves in place, their number, and their signature.
-ghost use Rattle.std.specs.Prelude.{◌≡◌, ℕ, ◌<◌, ◌≤◌, List, [], ◌∷◌, length, MatchOption, IfSome, IfNone, IsTrue};
+ghost use Rattle.std.specs.Prelude.{◌≡◌, ℕ, ◌<◌, ◌≤◌, List, [], ◌∷◌, length, MatchOption, IfSome, IfNone, IsTrue, take};
 ghost use Rattle.list_laws.specs.Order.{IsAscending};
 ghost use Rattle.cut_sets.specs.Sets.{before as is_before};
 ghost use Rattle.cut_sets.specs.Unions.{union, subset};
@@ -71,6 +71,25 @@ impl FlatCut {
             leaves: own,
             len: leaves.len() as u32,
             signature,
+        }
+    }
+
+    /// The cut of the first `len` of these numbers, which have this signature. If there are `MOST_LEAVES` numbers at all, so many
+    /// are copied, which takes no loop.
+    pub fn of_first(numbers: &[u32], len: usize, signature: u64) -> FlatCut
+        requires inside { len ≤ length numbers.now }
+        requires ascending { IsAscending (take len numbers.now) }
+        requires few { len ≤ MOST_LEAVES }
+        requires signed { signature ≡ signature_of (take len numbers.now) }
+        ensures { result ≡ take len numbers.now }
+    {
+        match numbers {
+            [a, b, c, d, e, f, ..] => FlatCut {
+                leaves: [*a, *b, *c, *d, *e, *f],
+                len: len as u32,
+                signature,
+            },
+            _ => FlatCut::of(&numbers[..len], signature),
         }
     }
 

@@ -89,6 +89,17 @@ fn leaves_at<'a>(leaves: &'a [u32], starts: &[u32], place: usize) -> &'a [u32]
     part(leaves, starts[place] as usize, starts[place + 1] as usize)
 }
 
+// The cut at a place among all cuts.
+fn cut_at(leaves: &[u32], starts: &[u32], signatures: &[u64], place: usize) -> FlatCut
+    requires flat { AreFlatCuts leaves.now starts.now signatures.now }
+    requires inside { place + 1 < length starts.now }
+    ensures { result ≡ slice_index_or (parts_of starts.now leaves.now) place [] }
+{
+    let start = starts[place] as usize;
+    let end = starts[place + 1] as usize;
+    FlatCut::of_first(&leaves[start..], end - start, signatures[place])
+}
+
 // The place of a cut among all cuts.
 fn place_of(rows: &[u32], n: u32, i: u32) -> usize
     requires inside { n + 1 < length rows.now }
@@ -184,6 +195,7 @@ impl CutRows {
         requires { i < length (row_at self.now n) }
         ensures { slice_get (row_at self.now n) i ≡ Some result }
     {
-        FlatCut::of(self.leaves(n, i), self.signature(n, i))
+        let place = place_of(&self.rows, n, i);
+        cut_at(&self.leaves, &self.starts, &self.signatures, place)
     }
 }

@@ -1,6 +1,9 @@
-use Rattle.bounded_cuts.proofs.Common.{cuts_of}
+use Rattle.bounded_cuts.proofs.Common.{sym, subst, In, In-get_or, cuts_of}
 use Rattle.bounded_cuts.proofs.UnionLemmas.{unions_next}
 use Rattle.bounded_cuts.proofs.candidates.push_unions.Goals as goal
+
+pub push_unions_with-requires-clause-c_counted : goal.push_unions_with-requires-clause-c_counted
+push_unions_with-requires-clause-c_counted c = c.requires.x_counted c.c-item.result (subst (In c.args.x_front.now) (sym c.c-item.is) (In-get_or c.args.x_front.now c.loop-c.c-index c.c-item.result c.loop-c-test.true))
 
 pub loop-c-preserved : goal.loop-c-preserved
 loop-c-preserved c = record {

@@ -1,10 +1,11 @@
 use Rattle.std.proofs.Common.{◌≡◌, ◌++◌, take}
 use Rattle.bounded_cuts.specs.Candidates.{unions}
-use Rattle.bounded_cuts.specs.Taking.{ArePriced, cuts_of}
+use Rattle.bounded_cuts.specs.Taking.{cuts_of}
+use Rattle.bounded_cuts.specs.Worths.{ArePricedBy}
 use Rattle.bounded_cuts.proofs.candidates.push_unions.Given as goal
 
 abbrev pub invariant-loop-c : goal.invariant-loop-c
 invariant-loop-c l = record {
   cuts : cuts_of l.all.items ≡ cuts_of l.fn.all.items ++ unions l.k (take l.c-index l.x_front) l.y_front;
-  priced : ArePriced l.prices.labels.now l.prices.flows.now l.prices.low_flows.now l.prices.favoured.now l.fn.all.items → ArePriced l.prices.labels.now l.prices.flows.now l.prices.low_flows.now l.prices.favoured.now l.all.items;
+  priced : ArePricedBy l.prices.worths.now l.fn.all.items → ArePricedBy l.prices.worths.now l.all.items;
 }

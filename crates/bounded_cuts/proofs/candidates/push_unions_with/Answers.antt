@@ -1,6 +1,9 @@
-use Rattle.bounded_cuts.proofs.Common.{cuts_of}
+use Rattle.bounded_cuts.proofs.Common.{sym, subst, In, In-get_or, cuts_of}
 use Rattle.bounded_cuts.proofs.UnionLemmas.{with_next}
 use Rattle.bounded_cuts.proofs.candidates.push_unions_with.Goals as goal
+
+pub push_union-requires-clause-d_counted : goal.push_union-requires-clause-d_counted
+push_union-requires-clause-d_counted c = c.requires.front_counted c.d-item.result (subst (In c.args.front.now) (sym c.d-item.is) (In-get_or c.args.front.now c.loop-d.d-index c.d-item.result c.loop-d-test.true))
 
 pub loop-d-preserved : goal.loop-d-preserved
 loop-d-preserved c = record {

@@ -1,10 +1,11 @@
 use Rattle.std.proofs.Common.{◌≡◌, ◌++◌, take}
 use Rattle.bounded_cuts.specs.Candidates.{unions_with}
-use Rattle.bounded_cuts.specs.Taking.{ArePriced, cuts_of}
+use Rattle.bounded_cuts.specs.Taking.{cuts_of}
+use Rattle.bounded_cuts.specs.Worths.{ArePricedBy}
 use Rattle.bounded_cuts.proofs.candidates.push_unions_with.Given as goal
 
 abbrev pub invariant-loop-d : goal.invariant-loop-d
 invariant-loop-d l = record {
   cuts : cuts_of l.all.items ≡ cuts_of l.fn.all.items ++ unions_with l.k l.c (take l.d-index l.front);
-  priced : ArePriced l.prices.labels.now l.prices.flows.now l.prices.low_flows.now l.prices.favoured.now l.fn.all.items → ArePriced l.prices.labels.now l.prices.flows.now l.prices.low_flows.now l.prices.favoured.now l.all.items;
+  priced : ArePricedBy l.prices.worths.now l.fn.all.items → ArePricedBy l.prices.worths.now l.all.items;
 }

@@ -1,10 +1,11 @@
-use Rattle.bounded_cuts.proofs.Common.{◌≡◌, ℕ, ◌≤◌, List, first_and, sym, subst, ap, ◌∙◌, arith, label_at, cuts_of, Pricing, ArePriced}
+use Rattle.bounded_cuts.proofs.Common.{◌≡◌, ℕ, ◌≤◌, List, first_and, sym, subst, ap, ◌∙◌, arith, label_at, cuts_of, Pricing, ArePriced, flows_of, low_flows_of}
 use Rattle.std.proofs.lemmas.Result.{IfOk-weaker}
 use Rattle.std.proofs.Common.{max, ◌/◌}
 use Rattle.bounded_cuts.specs.Flow.{cuts_within, least_flow}
 use Rattle.bounded_cuts.specs.Making.{IsChosen, count_in, favoured_in, low_in}
 use Rattle.bounded_cuts.proofs.ChosenLemmas.{cuts_seen, set_cut, set_few, set_low, set_taken}
 use Rattle.bounded_cuts.proofs.MakingLemmas.{and_flow, made_pushed, serve_pushed}
+use Rattle.bounded_cuts.proofs.WorthLemmas.{flows_pushed, low_flows_pushed, worths_pushed}
 use Rattle.bounded_cuts.proofs.making.push_node.Goals as goal
 
 pub returns-clause-made : goal.returns-clause-made
@@ -17,8 +18,8 @@ returns-clause-made c = IfOk-weaker c.pushed.result _ _ (λ more is.
     let counts = c.args.wanted.now.counts.now in
     let favoured = c.args.wanted.now.favoured.now in
     let rows = c.args.made.rows in
-    let flows = c.args.made.flows.items in
-    let low_flows = c.args.made.low_flows.items in
+    let flows = flows_of c.args.made.worths.items in
+    let low_flows = low_flows_of c.args.made.worths.items in
     let all = c.make_set.new.room.candidates.all.items in
     let taken = c.make_set.new.room.taking.taken.items in
     let set = c.deref-5.result.now in
@@ -37,7 +38,9 @@ returns-clause-made c = IfOk-weaker c.pushed.result _ _ (λ more is.
     (and_flow n (first_and g) c.least_low_flow.result (least_flow low_flows (cuts_within (label_at labels) (label_at labels n) set)) c.readers-shared.result (max 1 (count_in counts n)) c.requires.node.0 low_flow c.readers-shared.ensures)
     (λ l. absurd (let a : first_and g ≤ n = c.requires.node.0 in omega arith))
     (λ and. (cuts_of all, chosen.are, set_taken g k labels lows favoured n rows flows low_flows c.requires.normal c.requires.node c.requires.labels c.requires.lows c.requires.serving all taken set chosen))
-    more.rows more.flows.items more.low_flows.items is.0 is.1 is.2) c.pushed.ensures
+    more.rows (flows_of more.worths.items) (low_flows_of more.worths.items) is.0
+    (flows_pushed labels favoured n c.args.made.worths.items c.requires.worths _ _ c.worth.result c.worth.ensures more.worths.items is.1)
+    (low_flows_pushed labels favoured n c.args.made.worths.items c.requires.worths _ _ c.worth.result c.worth.ensures more.worths.items is.1)) c.pushed.ensures
 
 pub returns-clause-serving : goal.returns-clause-serving
 returns-clause-serving c = IfOk-weaker c.pushed.result _ _ (λ more is.
@@ -48,8 +51,8 @@ returns-clause-serving c = IfOk-weaker c.pushed.result _ _ (λ more is.
     let lows = c.args.wanted.now.lows.now in
     let favoured = c.args.wanted.now.favoured.now in
     let rows = c.args.made.rows in
-    let flows = c.args.made.flows.items in
-    let low_flows = c.args.made.low_flows.items in
+    let flows = flows_of c.args.made.worths.items in
+    let low_flows = low_flows_of c.args.made.worths.items in
     let all = c.make_set.new.room.candidates.all.items in
     let taken = c.make_set.new.room.taking.taken.items in
     let set = c.deref-5.result.now in
@@ -60,3 +63,7 @@ returns-clause-serving c = IfOk-weaker c.pushed.result _ _ (λ more is.
     (λ _. set_low g k labels lows favoured n rows flows low_flows c.requires.normal c.requires.node c.requires.labels c.requires.lows c.requires.serving all taken set chosen)
     (set_few g k labels lows favoured n rows flows low_flows c.requires.normal c.requires.node c.requires.labels c.requires.lows c.requires.serving all taken set chosen)
     more.rows is.0) c.pushed.ensures
+
+pub returns-clause-worths : goal.returns-clause-worths
+returns-clause-worths c = IfOk-weaker c.pushed.result _ _ (λ more is.
+    worths_pushed c.args.wanted.now.labels.now c.args.wanted.now.favoured.now c.args.n c.args.made.worths.items c.requires.worths _ _ c.worth.result c.worth.ensures more.worths.items is.1) c.pushed.ensures

@@ -1,4 +1,4 @@
-use Rattle.cut_sets.proofs.Common.{◌≡◌, ◌<◌, ◌≤◌, ◌∙◌, ap, sym, subst, length, take, arith, bit_or, count_ones, length-take-le, union, signature_of, MOST_LEAVES}
+use Rattle.cut_sets.proofs.Common.{◌≡◌, ◌≤◌, ◌∙◌, length, arith, length-take-le, union, MOST_LEAVES}
 use Rattle.list_laws.proofs.Places.{set_length}
 use Rattle.cut_sets.proofs.SignatureLemmas.{union_over_bits}
 use Rattle.cut_sets.proofs.HeadLemmas.{joined_step, joined_all, joined_over, flat_union}

@@ -1,4 +1,4 @@
-use Rattle.cut_sets.proofs.Common.{◌≡◌, ◌∙◌, ap, sym, length, get_or, arith, parts_of}
+use Rattle.cut_sets.proofs.Common.{◌∙◌, sym, length}
 use Rattle.cut_sets.proofs.SpanLemmas.{parts_of-at, starts-bounds}
 use Rattle.cut_sets.proofs.rows.leaves_at.Goals as goal
 

@@ -1,7 +1,8 @@
-use Rattle.bounded_cuts.proofs.Common.{rules, ◌≡◌, ◌≤◌, ◌<◌, ◌+◌, ◌*◌, ℕ, List, [], ◌∷◌, length, ap, ◌∙◌, subst, arith, In, length-append, length-map, Candidate, cuts_of, label_at}
+use Rattle.bounded_cuts.proofs.Common.{rules, ◌≡◌, ◌≤◌, ◌<◌, ◌+◌, ◌*◌, ℕ, List, [], ◌∷◌, length, ap, ◌∙◌, subst, arith, In, IsNode, length-append, length-map, Candidate, cuts_of, label_at}
 use Rattle.bounded_cuts.specs.Candidates.{WithLow, unions}
 use Rattle.bounded_cuts.proofs.UnionLemmas.{priced_push, unions_length}
-use Rattle.bounded_cuts.proofs.CandidateLemmas.{none_priced, are_unions, low_there, low_missing}
+use Rattle.bounded_cuts.proofs.CandidateLemmas.{none_priced, are_unions, heights_are, low_there, low_missing}
+use Rattle.bounded_cuts.proofs.CutLemmas.{unions_cut}
 use Rattle.bounded_cuts.proofs.candidates.Candidates.fill.Goals as goal
 
 pub returns-in_ok-push-clause-are : goal.returns-in_ok-push-clause-are
@@ -12,24 +13,29 @@ returns-in_ok-push-clause-are c =
     let ys = c.fill_front-2.new.front.items in
     let all = c.push_unions.new.all.items in
     let us : cuts_of all ≡ unions k xs ys = are_unions k c.clear.new.self.items all c.deref.result.now c.deref-2.result.now xs ys c.clear.ensures.items c.deref.ensures.value c.deref-2.ensures.value c.in_ok-push_unions.ensures.cuts in
-    let priced = c.in_ok-push_unions.ensures.priced (none_priced p.labels.now p.flows.now p.low_flows.now p.favoured.now c.clear.new.self.items c.clear.ensures.items) in
+    let priced = c.in_ok-push_unions.ensures.priced (none_priced p.worths.now c.clear.new.self.items c.clear.ensures.items) in
+    let x_front = c.in_ok-fill_front.ensures.hands k c.requires.labels in
+    let y_front = c.in_ok-fill_front-2.ensures.hands k c.requires.labels in
+    let is : IsNode c.args.graph.now c.pair_at-pair.result c.args.n = record { above = c.requires.node.0; is = c.pair_at-pair.ensures.pair } in
+    let heights = heights_are p.labels.now p.worths.now c.args.n all (unions k xs ys) us c.requires.known
+    (λ d m i j. ((unions_cut c.args.graph.now k c.args.rows.now c.args.n c.pair_at-pair.result xs ys c.len-count.ensures.normal c.requires.cuts is x_front y_front d i).below m j).0) priced in
     let none = subst (λ (l : List Candidate). (d : Candidate) → In l d → c.label.result < d.height) c.deref-3.ensures.value (c.has_low.ensures.no (search rules)) in
     record {
       pair = c.pair_at-pair.result;
-      is = record { above = c.requires.node.0; is = c.pair_at-pair.ensures.pair };
+      is = is;
       xs = xs;
-      x_front = c.in_ok-fill_front.ensures.hands k c.requires.labels;
+      x_front = x_front;
       ys = ys;
-      y_front = c.in_ok-fill_front-2.ensures.hands k c.requires.labels;
+      y_front = y_front;
       are = subst (λ (r : ℕ). WithLow (label_at p.labels.now) r c.args.low (unions k xs ys) (cuts_of c.push.new.self.items)) c.label.ensures.value
-          (low_missing p.labels.now p.flows.now p.low_flows.now p.favoured.now c.label.result c.args.low all (unions k xs ys) us priced c.push.new.self.items c.price.result none c.in_ok-push.ensures.items c.price.ensures.cut);
+          (low_missing p.labels.now c.label.result c.args.low all (unions k xs ys) us heights c.push.new.self.items c.price.result none c.in_ok-push.ensures.items c.price.ensures.cut);
     }
 
 pub returns-in_ok-push-clause-priced : goal.returns-in_ok-push-clause-priced
 returns-in_ok-push-clause-priced c d m =
     let p = c.args.prices.now in
-    let priced = c.in_ok-push_unions.ensures.priced (none_priced p.labels.now p.flows.now p.low_flows.now p.favoured.now c.clear.new.self.items c.clear.ensures.items) in
-    priced_push p.labels.now p.flows.now p.low_flows.now p.favoured.now c.push_unions.new.all.items c.price.result c.price.ensures.priced priced d (subst (λ (l : List Candidate). In l d) c.in_ok-push.ensures.items m)
+    let priced = c.in_ok-push_unions.ensures.priced (none_priced p.worths.now c.clear.new.self.items c.clear.ensures.items) in
+    priced_push p.worths.now c.push_unions.new.all.items c.price.result c.price.ensures.priced priced d (subst (λ (l : List Candidate). In l d) c.in_ok-push.ensures.items m)
 
 -- there are at most 17 times 17 unions
 few : (k : ℕ) (all : List Candidate) (xs ys : List (List ℕ)) → cuts_of all ≡ unions k xs ys → length xs ≤ 17 → length ys ≤ 17 → length all ≤ 289
@@ -57,17 +63,22 @@ returns-else-not-has_low-clause-are c =
     let ys = c.fill_front-2.new.front.items in
     let all = c.push_unions.new.all.items in
     let us : cuts_of all ≡ unions k xs ys = are_unions k c.clear.new.self.items all c.deref.result.now c.deref-2.result.now xs ys c.clear.ensures.items c.deref.ensures.value c.deref-2.ensures.value c.in_ok-push_unions.ensures.cuts in
-    let priced = c.in_ok-push_unions.ensures.priced (none_priced p.labels.now p.flows.now p.low_flows.now p.favoured.now c.clear.new.self.items c.clear.ensures.items) in
+    let priced = c.in_ok-push_unions.ensures.priced (none_priced p.worths.now c.clear.new.self.items c.clear.ensures.items) in
+    let x_front = c.in_ok-fill_front.ensures.hands k c.requires.labels in
+    let y_front = c.in_ok-fill_front-2.ensures.hands k c.requires.labels in
+    let is : IsNode c.args.graph.now c.pair_at-pair.result c.args.n = record { above = c.requires.node.0; is = c.pair_at-pair.ensures.pair } in
+    let heights = heights_are p.labels.now p.worths.now c.args.n all (unions k xs ys) us c.requires.known
+    (λ d m i j. ((unions_cut c.args.graph.now k c.args.rows.now c.args.n c.pair_at-pair.result xs ys c.len-count.ensures.normal c.requires.cuts is x_front y_front d i).below m j).0) priced in
     let some = c.has_low.ensures.yes (search rules) in
     record {
       pair = c.pair_at-pair.result;
-      is = record { above = c.requires.node.0; is = c.pair_at-pair.ensures.pair };
+      is = is;
       xs = xs;
-      x_front = c.in_ok-fill_front.ensures.hands k c.requires.labels;
+      x_front = x_front;
       ys = ys;
-      y_front = c.in_ok-fill_front-2.ensures.hands k c.requires.labels;
+      y_front = y_front;
       are = subst (λ (r : ℕ). WithLow (label_at p.labels.now) r c.args.low (unions k xs ys) (cuts_of all)) c.label.ensures.value
-          (low_there p.labels.now p.flows.now p.low_flows.now p.favoured.now c.label.result c.args.low all (unions k xs ys) us priced some.0 (subst (λ (l : List Candidate). In l some.0) c.deref-3.ensures.value some.1) some.2);
+          (low_there p.labels.now c.label.result c.args.low all (unions k xs ys) us heights some.0 (subst (λ (l : List Candidate). In l some.0) c.deref-3.ensures.value some.1) some.2);
     }
 
 pub returns-else-not-has_low-clause-few : goal.returns-else-not-has_low-clause-few
