@@ -68,12 +68,12 @@ root = a_cover 0 flat_choice choice (record { pairs = []; lits = lit 6 ∷ lit 2
 roots : AreRootsMade library circuit params made
 roots = more (Cover 0) [] (record { pairs = made.pairs; lit = 13 }) (record { pairs = made.pairs; lits = [] }) refl root (none refl refl) refl
 
--- So this is its graph.
+-- So this is its graph, which may have three nodes.
 abbrev graph : Aig
-graph = record { kinds = Regular ∷ Regular ∷ Parameter ∷ []; pairs = made.pairs; max = 131072 }
+graph = record { kinds = Regular ∷ Regular ∷ Parameter ∷ []; pairs = made.pairs; max = 3 }
 
 abbrev literals : RootsValue
 literals = record { outputs = lit 13 ∷ []; next = [] }
 
-is_graph : IsGraphOf library circuit params graph literals
+is_graph : IsGraphOf library circuit params 3 graph literals
 is_graph = record { made = made; are_made = roots; kinds = refl; pairs = refl; literals = refl; outputs = refl; max = refl }

@@ -1,5 +1,5 @@
 -- The graph that the code makes of a flat circuit is its graph, and its roots have the outputs and the next states of a clock cycle.
-use Rattle.aig_build.proofs.Common.{◌≡◌, ℕ, ◌+◌, ◌<◌, ◌≤◌, Bool, false, List, [], ◌∷◌, ◌++◌, length, map, reverse, replicate, refl, sym, ap, ap₂, ◌∙◌, subst, subst₂, inl, inr, arith, All-from_get_or, All-replicate, unwrap_or-slice_get, In, In-append, place_in, from_map, LibraryValue, IsWellFormed, Net, Input, Cover, OutPort, FlatLatch, FlatValue, cover_numbers, reads_at, PostsAll, IsThere, IsWithinBounds, net_value, flat_values, flat_outputs, flat_next, input_values, HasCycles, Param, AreParameters, Lit, Aig, IsLit, with_pairs, RootsValue, lits_of, roots_of, AreRoots, value_of, FitsGraph, MOST_NODES, Literals, input_names, source_kinds, root_nets, MakesAll, IsGraphOf, HasTooManyNodes, source_values, literal_values, HasSourceCycles, NetLitsValue, no_lit, net_lit, net_lits, Built, marks_of, regular_lits, regular_next, start_nets, source_aig, order_of, root_lits, HoldsNets, length-map, length-replicate, length-append, map-append}
+use Rattle.aig_build.proofs.Common.{◌≡◌, ℕ, ◌+◌, ◌<◌, ◌≤◌, Bool, false, List, [], ◌∷◌, ◌++◌, length, map, reverse, replicate, refl, sym, ap, ap₂, ◌∙◌, subst, subst₂, inl, inr, arith, All-from_get_or, All-replicate, unwrap_or-slice_get, In, In-append, place_in, from_map, LibraryValue, IsWellFormed, Net, Input, Cover, OutPort, FlatLatch, FlatValue, cover_numbers, reads_at, PostsAll, IsThere, IsWithinBounds, net_value, flat_values, flat_outputs, flat_next, input_values, HasCycles, Param, AreParameters, Lit, Aig, IsLit, with_pairs, RootsValue, lits_of, roots_of, AreRoots, value_of, FitsGraph, Literals, input_names, source_kinds, root_nets, MakesAll, IsGraphOf, HasTooManyNodes, source_values, literal_values, HasSourceCycles, NetLitsValue, no_lit, net_lit, net_lits, Built, marks_of, regular_lits, regular_next, start_nets, source_aig, order_of, root_lits, HoldsNets, length-map, length-replicate, length-append, map-append}
 use Rattle.std.proofs.lemmas.Simd.{map-map}
 use Rattle.netlist.specs.Flattened.{HasValues}
 use Rattle.netlist.specs.Runs.{IsCycle}
@@ -46,12 +46,12 @@ values_of_lits : {A : Type 0} (values : List Bool) (nets : NetLitsValue) (x s ev
 values_of_lits values nets x s evaluated net [] each = refl
 values_of_lits values nets x s evaluated net (a ∷ items) each = ap₂ (λ (v : Bool) (vs : List Bool). v ∷ vs) (each a (inl refl)) (values_of_lits values nets x s evaluated net items (λ b i. each b (inr i)))
 
-module _ (library : LibraryValue) (flat : FlatValue) (params : List Param) (formed : IsWellFormed library) (bounds : IsWithinBounds library flat) (are : AreParameters flat params) where
+module _ (library : LibraryValue) (flat : FlatValue) (params : List Param) (most : ℕ) (formed : IsWellFormed library) (bounds : IsWithinBounds library flat) (are : AreParameters flat params) where
   abbrev nets0 : NetLitsValue
   nets0 = start_nets flat params
 
   abbrev g0 : Aig
-  g0 = source_aig flat params
+  g0 = source_aig flat params most
 
   pub start_holds : HoldsNets flat g0 nets0
   start_holds =
@@ -92,10 +92,10 @@ module _ (library : LibraryValue) (flat : FlatValue) (params : List Param) (form
         order_made library flat params bounds flat.order (record { pairs = []; nets = nets0 }) known (λ k i. bounds.order_there k i) (root_nets flat) (roots_there library flat bounds)
         (subst (λ ns. PostsAll (reads_at flat) [] ns (reverse flat.order)) (sym (numbers-append (map (λ (o : OutPort). o.net) flat.outputs) (map (λ (l : FlatLatch). l.input) flat.latches))) values.fields.order)
 
-    pub too_many : MOST_NODES < length final.pairs → HasTooManyNodes library flat params
+    pub too_many : most < length final.pairs → HasTooManyNodes library flat params most
     too_many l = record { made = made; are_made = roots_made; many = l }
 
-    pub is_graph : (g : Aig) (roots : RootsValue) → g ≡ with_pairs g0 final.pairs → roots ≡ root_lits flat final.nets → IsGraphOf library flat params g roots
+    pub is_graph : (g : Aig) (roots : RootsValue) → g ≡ with_pairs g0 final.pairs → roots ≡ root_lits flat final.nets → IsGraphOf library flat params most g roots
     is_graph g roots same same_roots =
         let os : List Net = map (λ (o : OutPort). o.net) flat.outputs in
         let ls : List Net = map (λ (l : FlatLatch). l.input) flat.latches in

@@ -1,6 +1,6 @@
 -- The graph of a flat circuit: its sources, and the nodes and the literal of each signal, made again at every use.
 use Rattle.std.specs.Prelude.{◌≡◌, ℕ, ◌+◌, ◌*◌, ◌<◌, List, [], ◌∷◌, ◌++◌, length, map, replicate, Some, slice_get}
-use Rattle.aig_build.specs.Words.{CoverValue, LibraryValue, Net, Input, Latch, Cover, OutPort, FlatLatch, FlatCoverValue, FlatValue, cover_behind, Param, param_names, regular_names, Kind, Regular, Parameter, Pair, Aig, Answer, RootsValue, MOST_NODES}
+use Rattle.aig_build.specs.Words.{CoverValue, LibraryValue, Net, Input, Latch, Cover, OutPort, FlatLatch, FlatCoverValue, FlatValue, cover_behind, Param, param_names, regular_names, Kind, Regular, Parameter, Pair, Aig, Answer, RootsValue}
 use Rattle.aig_build.specs.CoverGraph.{Literals}
 use Rattle.aig_build.specs.CoverNodes.{IsCoverMade}
 
@@ -39,21 +39,21 @@ root_nets flat = map (λ (o : OutPort). o.net) flat.outputs ++ map (λ (l : Flat
 abbrev pub AreRootsMade : LibraryValue → FlatValue → List Param → Literals → Type 0
 AreRootsMade library flat params made = MakesAll library flat params [] (root_nets flat) made
 
--- the graph of a flat circuit, and its roots
-pub record IsGraphOf (library : LibraryValue) (flat : FlatValue) (params : List Param) (g : Aig) (roots : RootsValue) : Type 0 where
+-- the graph of a flat circuit that may have so many nodes, and its roots
+pub record IsGraphOf (library : LibraryValue) (flat : FlatValue) (params : List Param) (most : ℕ) (g : Aig) (roots : RootsValue) : Type 0 where
   pub made : Literals
   pub are_made : AreRootsMade library flat params made
   pub kinds : g.kinds ≡ source_kinds flat params
   pub pairs : g.pairs ≡ made.pairs
   pub literals : roots.outputs ++ roots.next ≡ made.lits
   pub outputs : length roots.outputs ≡ length flat.outputs
-  pub max : g.max ≡ MOST_NODES
+  pub max : g.max ≡ most
 
 -- the graph would have more nodes than it may
-pub record HasTooManyNodes (library : LibraryValue) (flat : FlatValue) (params : List Param) : Type 0 where
+pub record HasTooManyNodes (library : LibraryValue) (flat : FlatValue) (params : List Param) (most : ℕ) : Type 0 where
   pub made : Literals
   pub are_made : AreRootsMade library flat params made
-  pub many : MOST_NODES < length made.pairs
+  pub many : most < length made.pairs
 
 -- there is one list of nodes and of the roots' literals, and no other
 pub record HasOneGraph (library : LibraryValue) (flat : FlatValue) (params : List Param) : Type 0 where

@@ -1,6 +1,6 @@
 -- The covers of a flat circuit as the code makes them: in order, each one once, into a literal for each cover.
 use Rattle.std.specs.Prelude.{◌≡◌, ℕ, ◌+◌, ◌*◌, ◌^◌, ◌<◌, ◌≤◌, Bool, true, false, if◌then◌else◌, List, [], ◌∷◌, length, map, replicate, Option, Some, None, All, unwrap_or, slice_get, slice_set}
-use Rattle.aig_build.specs.Words.{CoverValue, LibraryValue, Net, Input, Latch, Cover, OutPort, FlatLatch, FlatCoverValue, FlatValue, cover_behind, Param, Lit, Pair, Aig, IsLit, first_and, Answer, RootsValue, MOST_NODES}
+use Rattle.aig_build.specs.Words.{CoverValue, LibraryValue, Net, Input, Latch, Cover, OutPort, FlatLatch, FlatCoverValue, FlatValue, cover_behind, Param, Lit, Pair, Aig, IsLit, first_and, Answer, RootsValue}
 use Rattle.aig_build.specs.CoverMade.{cover_made}
 use Rattle.aig_build.specs.NetlistGraph.{source_kinds}
 
@@ -84,9 +84,9 @@ start_nets flat params = record {
   covers = replicate (length flat.covers) no_lit;
 }
 
--- the graph at the start
-abbrev pub source_aig : FlatValue → List Param → Aig
-source_aig flat params = record { kinds = source_kinds flat params; pairs = []; max = MOST_NODES }
+-- the graph at the start, which may have so many nodes
+abbrev pub source_aig : FlatValue → List Param → ℕ → Aig
+source_aig flat params most = record { kinds = source_kinds flat params; pairs = []; max = most }
 
 -- one cover, and all covers of an order, over the nodes of a graph
 abbrev pub gate_of : LibraryValue → FlatValue → Aig → NetLitsValue → ℕ → Answer

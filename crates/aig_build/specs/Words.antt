@@ -18,4 +18,3 @@ pub use Rattle.netlist.specs.declared.flat.Net.{Net}
 pub use Rattle.netlist.specs.declared.flat.Net.TheVariants.{Input, Latch, Cover}
 pub use Rattle.param_list.specs.Parameters.{param_names, regular_names, AreParameters, ParamsValue}
 pub use Rattle.param_list.specs.declared.params.Param.{Param}
-pub use Rattle.aig_build.specs.declared.TheConstants.{MOST_NODES}

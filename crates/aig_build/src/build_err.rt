@@ -5,7 +5,7 @@ use tl_fault::{Details, OutOfMemory, Refusal, Reported};
 /// Why no graph was built.
 #[derive(Debug, Drop, thiserror::Error)]
 pub enum BuildErr {
-    /// L3: the graph would have more than [`MOST_NODES`](crate::MOST_NODES) AND nodes.
+    /// L3: the graph would have more AND nodes than it may.
     #[error("too many nodes")]
     TooManyNodes,
     /// Memory ran out.

@@ -67,25 +67,27 @@ fn nodes_key(library: &Library, params: &Params) -> TextKey {
     digest.key()
 }
 
-// The graph with the sources and no AND node, whose pairs are hashed under this key.
+// The graph with the sources and no AND node, which can hold `most` AND nodes. Their pairs are hashed under this key.
 fn source_graph(
     alloc: Global,
     key: TextKey,
     flat: &Flat,
     params: &Params,
     nets: &NetLits,
+    most: u32,
 ) -> Result<Graph, AllocError>
     requires few { length flat.now.inputs < 2 ^ 27 }
     requires few_latches { length flat.now.latches < 2 ^ 27 }
     requires once { AreOnce flat.now.inputs }
     requires params { AreParameters flat.now params.now.list }
     requires start { nets.now ≡ start_nets flat.now params.now.list }
-    ensures { IfOk result (λ g. g ≡ source_aig flat.now params.now.list) }
+    requires most { most ≤ 2 ^ 29 }
+    ensures { IfOk result (λ g. g ≡ source_aig flat.now params.now.list most) }
 {
     let params = params.list.len();
     let regular = nets.first_latch() as usize - 1 - params;
     let kinds = kinds_of(alloc, regular, params, flat.latches.len())?;
-    Graph::keyed(alloc, key, kinds, MOST_NODES)
+    Graph::keyed(alloc, key, kinds, most)
 }
 
 // Builds the cover at a place over the literals of the nets that it reads.
@@ -179,33 +181,28 @@ fn make_netlist(
     library: &Library,
     flat: &Flat,
     params: &Params,
+    most: u32,
 ) -> Result<(Graph, Roots), AigErr>
     requires formed { IsWellFormed library.now }
     requires bounds { IsWithinBounds library.now flat.now }
     requires values { HasValues library.now flat.now }
     requires cycles { HasCycles library.now flat.now }
     requires params { AreParameters flat.now params.now.list }
-    ensures graph { IfOk result (λ made. IsGraphOf library.now flat.now params.now.list made.0 made.1) }
+    requires most { most ≤ 2 ^ 29 }
+    ensures graph { IfOk result (λ made. IsGraphOf library.now flat.now params.now.list most made.0 made.1) }
     ensures lits { IfOk result (λ made. AreRoots made.0 (roots_of made.1)) }
     ensures cycles { IfOk result (λ made. HasSourceCycles library.now flat.now params.now.list made.0 made.1) }
-    ensures full { result ≡ Err AigErr.Full → HasTooManyNodes library.now flat.now params.now.list }
+    ensures full { result ≡ Err AigErr.Full → HasTooManyNodes library.now flat.now params.now.list most }
 {
     let mut nets = start(alloc, flat, params)?;
-    let mut graph = source_graph(alloc, nodes_key(library, params), flat, params, &nets)?;
+    let key = nodes_key(library, params);
+    let mut graph = source_graph(alloc, key, flat, params, &nets, most)?;
     make_covers(alloc, &mut graph, library, flat, &mut nets)?;
     let roots = roots(alloc, flat, &nets)?;
     Ok((graph, roots))
 }
 
-/// The graph of a flat circuit and its roots: the outputs, and then the inputs of the latches.
-///
-/// The sources are the regular inputs in their order, the parameters in the order of their list, and the latches. The nodes
-/// are those that result from building the roots in order, each signal again at every use and no AND twice
-/// (`specs/NetlistGraph.antt`). Exactly one such list exists. Whatever values fit the graph, the roots have the outputs and
-/// the next states of the source circuit's clock cycle. A cover that no root reaches isn't built.
-///
-/// Each cover is built once. So time is linear in the cells of the covers reached, apart from the lookup of each product, and
-/// the stack doesn't grow with the circuit.
+/// The graph of a flat circuit and its roots, with at most [`MOST_NODES`] AND nodes: [`build_within`] this limit.
 ///
 /// # Errors
 /// [`BuildErr::TooManyNodes`] if and only if the graph has more than [`MOST_NODES`] AND nodes; `Memory` if memory runs out.
@@ -219,14 +216,47 @@ pub fn build(
     requires flat { IsFlat library.now flat.now }
     requires bounds { IsWithinBounds library.now flat.now }
     requires params { AreParameters flat.now params.now.list }
-    ensures graph { IfOk result (λ made. IsGraphOf library.now flat.now params.now.list made.0 made.1) }
+    ensures graph { IfOk result (λ made. IsGraphOf library.now flat.now params.now.list MOST_NODES made.0 made.1) }
     ensures lits { IfOk result (λ made. AreRoots made.0 (roots_of made.1)) }
     ensures cycles { IfOk result (λ made. HasSourceCycles library.now flat.now params.now.list made.0 made.1) }
-    ensures err { IfErr result (OrMemory refusal_of (λ e. HasTooManyNodes library.now flat.now params.now.list)) }
+    ensures err { IfErr result (OrMemory refusal_of (λ e. HasTooManyNodes library.now flat.now params.now.list MOST_NODES)) }
+    ensures one { HasOneGraph library.now flat.now params.now.list }
+{
+    build_within(alloc, library, flat, params, MOST_NODES)
+}
+
+/// The graph of a flat circuit and its roots: the outputs, and then the inputs of the latches.
+///
+/// The sources are the regular inputs in their order, the parameters in the order of their list, and the latches. The nodes
+/// are those that result from building the roots in order, each signal again at every use and no AND twice
+/// (`specs/NetlistGraph.antt`). Exactly one such list exists. Whatever values fit the graph, the roots have the outputs and
+/// the next states of the source circuit's clock cycle. A cover that no root reaches isn't built.
+///
+/// Each cover is built once. So time is linear in the cells of the covers reached, apart from the lookup of each product, and
+/// the stack doesn't grow with the circuit.
+///
+/// # Errors
+/// [`BuildErr::TooManyNodes`] if and only if the graph has more than `most` AND nodes; `Memory` if memory runs out.
+pub fn build_within(
+    alloc: Global,
+    library: &Library,
+    flat: &Flat,
+    params: &Params,
+    most: u32,
+) -> Result<(Graph, Roots), BuildErr>
+    requires sound { IsSound library.now }
+    requires flat { IsFlat library.now flat.now }
+    requires bounds { IsWithinBounds library.now flat.now }
+    requires params { AreParameters flat.now params.now.list }
+    requires most { most ≤ 2 ^ 29 }
+    ensures graph { IfOk result (λ made. IsGraphOf library.now flat.now params.now.list most made.0 made.1) }
+    ensures lits { IfOk result (λ made. AreRoots made.0 (roots_of made.1)) }
+    ensures cycles { IfOk result (λ made. HasSourceCycles library.now flat.now params.now.list made.0 made.1) }
+    ensures err { IfErr result (OrMemory refusal_of (λ e. HasTooManyNodes library.now flat.now params.now.list most)) }
     ensures one { HasOneGraph library.now flat.now params.now.list }
 {
     flat_law(library, flat);
-    match make_netlist(alloc, library, flat, params) {
+    match make_netlist(alloc, library, flat, params, most) {
         Ok(made) => Ok(made),
         Err(AigErr::Full) => Err(BuildErr::TooManyNodes),
         Err(AigErr::Memory) => Err(BuildErr::Memory),

@@ -1,11 +1,11 @@
 //! Netlists as graphs of AND nodes.
 //!
-//! [`build`] turns a flat circuit into an `aig_core` graph. Its sources are the regular inputs, the parameters and the
-//! latches; its roots are the outputs and the next states of the latches. A cover, which is a list of rows of cells, becomes
-//! AND nodes. Products of many literals are balanced: a list is halved until one literal is left, so a product of k literals
-//! has the least possible depth. A row is the balanced AND of the literals that its cells require. A cover is 1 unless all
-//! its rows fail. So it is the complement of the balanced AND of the complements of its rows, complemented once more if its
-//! rows are its off-set.
+//! [`build_within`] turns a flat circuit into an `aig_core` graph with at most so many AND nodes, and [`build`] into one with
+//! at most [`MOST_NODES`]. Its sources are the regular inputs, the parameters and the latches; its roots are the outputs and
+//! the next states of the latches. A cover, which is a list of rows of cells, becomes AND nodes. Products of many literals
+//! are balanced: a list is halved until one literal is left, so a product of k literals has the least possible depth. A row
+//! is the balanced AND of the literals that its cells require. A cover is 1 unless all its rows fail. So it is the complement
+//! of the balanced AND of the complements of its rows, complemented once more if its rows are its off-set.
 //!
 //! `specs/NetlistGraph.antt` defines the graph of a netlist without any memory: a signal is built over its inputs, each of
 //! which is built before it, from left to right, and again at every use. Building it again adds no node, since no AND is
@@ -27,7 +27,7 @@ mod cover;
 mod net_lits;
 
 pub use build_err::BuildErr;
-pub use building::build;
+pub use building::{build, build_within};
 
-/// The maximal number of AND nodes in the graph of a netlist.
+/// The maximal number of AND nodes in the graph that [`build`] gives.
 pub const MOST_NODES: u32 = 131_072;

@@ -13,7 +13,7 @@ ghost use Rattle.cut_sets.specs.declared.limits.TheConstants.{MOST_LEAVES};
 ghost use Rattle.cut_enum.specs.Table.{AreRows};
 ghost use Rattle.depth_label.specs.Label.{AreLabelled};
 ghost use Rattle.cover_pick.specs.Mapping.{IsMapping};
-ghost use Rattle.cover_pick.specs.Work.{IsLight};
+ghost use Rattle.cover_pick.specs.Work.{IsMakeable};
 
 use crate::bench_err::BenchErr;
 use crate::meter::Meter;
@@ -187,7 +187,7 @@ pub fn pick_cover(
     requires most { k ≤ MOST_LEAVES }
     requires roots { AreRoots graph.now (roots_of roots.now) }
     ensures mapping { IfOk result (λ t. IsMapping graph.now k (roots_of roots.now) t.luts t.bits) }
-    ensures light { IfOk result (λ t. IsLight graph.now t.luts) }
+    ensures light { IfOk result (λ t. IsMakeable graph.now t.luts) }
     ensures outputs { IfOk result (λ t. t.outputs ≡ roots.now.outputs) }
     ensures next { IfOk result (λ t. t.next ≡ roots.now.next) }
 {
@@ -216,7 +216,7 @@ pub fn bit_functions(
     roots: &Roots,
 ) -> Result<Pack, BenchErr>
     requires mapping { IsMapping graph.now k (roots_of roots.now) template.now.luts template.now.bits }
-    requires light { IsLight graph.now template.now.luts }
+    requires light { IsMakeable graph.now template.now.luts }
     requires names { AreNamed params.now.list }
 {
     // The graph is made for these parameters, so they are as many.

@@ -1,8 +1,8 @@
 -- Going over the postorder of a LUT's cone once, with one literal a node, makes what the recursion from the LUT's node makes.
-use Rattle.bit_fun.proofs.Common.{◌≡◌, ℕ, zero, suc, ◌-◌, ◌/◌, ◌<◌, ◌≤◌, true, min, max, List, ◌∷◌, length, slice_set, get_or-set_same, get_or-set_other, Option, refl, sym, ap, ◌∙◌, subst, inl, inr, arith, length-set, true≢false, slice_get_within, In, In-get, place_in, in_or, same_or, Parameter, Lit, Pair, Aig, first_and, node_count, IsNode, IsNormal, AreNormal, IsSource, Answer, product_of, node_normal, Extends, Extends-refl, Extends-trans, and_grows, is_stop, IsInner, stop_inner, inner_stop, node_inside, Blocks, member, blocks_constant, blocks_parameter, fan_ins, Posts, skips, posts, IsParam, cone_next, Visits, passed, walked, PassValue, lit_of, fan_in, with_made, made_node, pass_over, HaveSourceLits, HaveLeafLits}
+use Rattle.bit_fun.proofs.Common.{◌≡◌, ℕ, zero, suc, ◌-◌, ◌/◌, ◌<◌, ◌≤◌, true, min, max, List, ◌∷◌, length, slice_set, get_or-set_same, get_or-set_other, Option, refl, sym, ap, ◌∙◌, subst, inl, inr, arith, length-set, true≢false, slice_get_within, In, In-get, place_in, in_or, same_or, Parameter, Lit, Pair, Aig, first_and, node_count, IsNode, IsNormal, AreNormal, IsSource, Answer, product_of, node_normal, Extends, Extends-refl, Extends-trans, and_grows, Bool, false, ◌||◌, mark_of, ends_at, is_stop, IsInner, inner_stop, node_inside, Blocks, member, blocks_constant, blocks_parameter, fan_ins, Posts, skips, posts, IsParam, cone_next, Visits, passed, walked, PassValue, lit_of, fan_in, with_made, made_node, pass_over, HaveSourceLits, HaveLeafLits}
 use Rattle.bit_fun.specs.PackOf.{phase_literal, MakesNode, leaf, constant, parameter, node}
 use Rattle.bit_fun.proofs.BitLemmas.{AreLeaves}
-use Rattle.bit_fun.proofs.ConeWalkLemmas.{VisitsBoth, visits_both}
+use Rattle.bit_fun.proofs.ConeWalkLemmas.{VisitsBoth, visits_both, ends_inner, or_fails_right}
 use Rattle.bit_fun.proofs.MadeLemmas.{makes_once, node_grows, node_again}
 
 -- over nodes that extend those so far, a node is made at once, and its literal is the one that stands for it
@@ -10,16 +10,17 @@ pub record IsKnown (g : Aig) (first : ℕ) (leaves : List ℕ) (v : ℕ) (s : Pa
   pub again : (qs : List Pair) → Extends s.pairs qs → MakesNode g first leaves v qs m (record { pairs = qs; lit = lit_of s.lits m })
 
 -- what stands after the nodes of an order
-pub record IsPassed (g : Aig) (first : ℕ) (leaves : List ℕ) (v : ℕ) (s : PassValue) (order : List ℕ) : Type 0 where
+pub record IsPassed (g : Aig) (first : ℕ) (leaves : List ℕ) (v : ℕ) (kept : List Bool) (s : PassValue) (order : List ℕ) : Type 0 where
   pub sources : HaveSourceLits g s.lits
   pub leaves_have : HaveLeafLits leaves v s.lits
+  pub kept_known : (m : ℕ) → mark_of kept m ≡ true → IsKnown g first leaves v s m
   pub known : (m : ℕ) → In order m → IsKnown g first leaves v s m
 
 -- a visit of a node makes what the recursion from it makes
-pub record IsVisited (g : Aig) (first : ℕ) (leaves : List ℕ) (v : ℕ) (s : PassValue) (before : List ℕ) (n : ℕ) (r : PassValue) (after : List ℕ) : Type 0 where
+pub record IsVisited (g : Aig) (first : ℕ) (leaves : List ℕ) (v : ℕ) (kept : List Bool) (s : PassValue) (before : List ℕ) (n : ℕ) (r : PassValue) (after : List ℕ) : Type 0 where
   pub makes : MakesNode g first leaves v s.pairs n (record { pairs = r.pairs; lit = lit_of r.lits n })
   pub keeps : (m : ℕ) → In before m → In after m
-  pub passed_on : IsPassed g first leaves v r after
+  pub passed_on : IsPassed g first leaves v kept r after
   pub known : IsKnown g first leaves v r n
 
 -- a node that is passed over: a leaf, the constant or a parameter
@@ -47,6 +48,14 @@ stop_known g first leaves v s n sources have stop (blocks_constant z) = constant
 stop_known g first leaves v s n sources have stop (blocks_parameter is) = parameter_known g first leaves v s n sources is
 stop_known g first leaves v s n sources have stop (fan_ins p is bx by) = leaf_known g first leaves v s n have (stop_leaf g leaves n p is stop)
 
+-- so is one at which the walk ends: its literal is kept, or it is one of those
+end_known : (g : Aig) (first : ℕ) (leaves : List ℕ) (v : ℕ) (kept : List Bool) (s : PassValue) (n : ℕ) {order : List ℕ} → IsPassed g first leaves v kept s order → ends_at g leaves kept n ≡ true → Blocks g leaves n → IsKnown g first leaves v s n
+end_known g first leaves v kept s n have ends blocks = by (is_stop g leaves n) refl
+  where
+    by : (stops : Bool) → is_stop g leaves n ≡ stops → IsKnown g first leaves v s n
+    by true e = stop_known g first leaves v s n have.sources have.leaves_have e blocks
+    by false e = have.kept_known n (ap (λ b. b || mark_of kept n) (sym e) ∙ ends)
+
 -- what a node's literal leaves
 pub lit_other : (lits : List Lit) (n m : ℕ) (l : Lit) → (m ≡ n → ⊥) → lit_of (slice_set lits n l) m ≡ lit_of lits m
 lit_other lits n m l off = ap (λ (x : Lit). x.0) (get_or-set_other lits n m l (record { 0 = 0 }) off)
@@ -73,7 +82,7 @@ known_on g first leaves v s n m a grows off known = record {
 }
 
 -- one more AND node, once its fan-ins stand
-module _ (g : Aig) (first : ℕ) (leaves : List ℕ) (v : ℕ) (are : AreLeaves g leaves) where
+module _ (g : Aig) (first : ℕ) (leaves : List ℕ) (v : ℕ) (kept : List Bool) (are : AreLeaves g leaves) where
   -- what stands for a node is what was made for it
   same_literal : (s : PassValue) (m : ℕ) (from : List Pair) (made : Answer) → MakesNode g first leaves v from m made → Extends made.pairs s.pairs → IsKnown g first leaves v s m → made.lit ≡ lit_of s.lits m
   same_literal s m from made makes grows known =
@@ -83,10 +92,10 @@ module _ (g : Aig) (first : ℕ) (leaves : List ℕ) (v : ℕ) (are : AreLeaves 
   grown : (s : PassValue) (p : Pair) → Extends s.pairs (product_of first s.pairs (fan_in s.lits p.x.0) (fan_in s.lits p.y.0)).pairs
   grown s p = and_grows first s.pairs (min (fan_in s.lits p.x.0) (fan_in s.lits p.y.0)) (max (fan_in s.lits p.x.0) (fan_in s.lits p.y.0))
 
-  one_more : (s t u : PassValue) (before mid below : List ℕ) (n : ℕ) (p : Pair) → IsNode g p n → IsInner g leaves n → IsVisited g first leaves v s before (p.x.0 / 2) t mid → IsVisited g first leaves v t mid (p.y.0 / 2) u below
+  one_more : (s t u : PassValue) (before mid below : List ℕ) (n : ℕ) (p : Pair) → IsNode g p n → IsInner g leaves n → mark_of kept n ≡ false → IsVisited g first leaves v kept s before (p.x.0 / 2) t mid → IsVisited g first leaves v kept t mid (p.y.0 / 2) u below
       → IsKnown g first leaves v u (p.x.0 / 2)
-      → IsVisited g first leaves v s before n (with_made u.lits n (product_of first u.pairs (fan_in u.lits p.x.0) (fan_in u.lits p.y.0))) (n ∷ below)
-  one_more s t u before mid below n p is inner vx vy kx =
+      → IsVisited g first leaves v kept s before n (with_made u.lits n (product_of first u.pairs (fan_in u.lits p.x.0) (fan_in u.lits p.y.0))) (n ∷ below)
+  one_more s t u before mid below n p is inner not_kept vx vy kx =
       let a : Answer = product_of first u.pairs (fan_in u.lits p.x.0) (fan_in u.lits p.y.0) in
       let r : PassValue = with_made u.lits n a in
       let between : Extends t.pairs u.pairs = node_grows g first leaves v t.pairs (p.y.0 / 2) _ vy.makes in
@@ -103,6 +112,7 @@ module _ (g : Aig) (first : ℕ) (leaves : List ℕ) (v : ℕ) (are : AreLeaves 
         passed_on = record {
           sources = sources_kept g leaves u.lits n (record { 0 = a.lit }) inner (vy.passed_on).sources;
           leaves_have = leaves_kept g leaves v u.lits n (record { 0 = a.lit }) inner (vy.passed_on).leaves_have;
+          kept_known = λ m k. known_on g first leaves v u n m a (grown u p) (λ e. true≢false (sym k ∙ ap (mark_of kept) e ∙ not_kept)) ((vy.passed_on).kept_known m k);
           known = λ m i. elim (same_or m n) [
             | inl e ↦ subst (IsKnown g first leaves v r) (sym e) known
             | inr off ↦ elim i [ inl e ↦ absurd (off e) | inr j ↦ known_on g first leaves v u n m a (grown u p) off ((vy.passed_on).known m j) ]
@@ -117,9 +127,9 @@ module _ (g : Aig) (first : ℕ) (leaves : List ℕ) (v : ℕ) (are : AreLeaves 
   post_here next before after n (posts below off all q) = subst (λ xs. In xs n) (sym q) (inl refl)
 
   -- a node that is visited is known from then on
-  known_later : (s t u : PassValue) (before mid below : List ℕ) (next : ℕ → List ℕ) (m k : ℕ) → Visits next g leaves before m mid → Blocks g leaves m → IsVisited g first leaves v s before m t mid
-      → IsVisited g first leaves v t mid k u below → IsKnown g first leaves v u m
-  known_later s t u before mid below next m k (passed stop e) blocks vx vy = stop_known g first leaves v u m (vy.passed_on).sources (vy.passed_on).leaves_have stop blocks
+  known_later : (s t u : PassValue) (before mid below : List ℕ) (next : ℕ → List ℕ) (m k : ℕ) → Visits next g leaves kept before m mid → Blocks g leaves m → IsVisited g first leaves v kept s before m t mid
+      → IsVisited g first leaves v kept t mid k u below → IsKnown g first leaves v u m
+  known_later s t u before mid below next m k (passed stop e) blocks vx vy = end_known g first leaves v kept u m (vy.passed_on) stop blocks
   known_later s t u before mid below next m k (walked stop p) blocks vx vy = (vy.passed_on).known m (vy.keeps m (post_here next before mid m p))
 
   module _ (S : Type 0) (start : PassValue) (normal : AreNormal (first_and g) g.pairs) where
@@ -128,35 +138,35 @@ module _ (g : Aig) (first : ℕ) (leaves : List ℕ) (v : ℕ) (are : AreLeaves 
         → pass_over g first start (n ∷ below) ≡ with_made (pass_over g first start below).lits n (product_of first (pass_over g first start below).pairs (fan_in (pass_over g first start below).lits p.x.0) (fan_in (pass_over g first start below).lits p.y.0))
     over_next n p below is = ap (λ (o : Option Pair). made_node first (pass_over g first start below) n o) is.is
 
-    pub visit_makes : (bound n : ℕ) → n < bound → n < node_count g → Blocks g leaves n → (before after : List ℕ) → Visits (cone_next S g leaves) g leaves before n after → IsPassed g first leaves v (pass_over g first start before) before
-        → IsVisited g first leaves v (pass_over g first start before) before n (pass_over g first start after) after
+    pub visit_makes : (bound n : ℕ) → n < bound → n < node_count g → Blocks g leaves n → (before after : List ℕ) → Visits (cone_next S g leaves kept) g leaves kept before n after → IsPassed g first leaves v kept (pass_over g first start before) before
+        → IsVisited g first leaves v kept (pass_over g first start before) before n (pass_over g first start after) after
     visit_makes zero n l inside blocks before after visit have = absurd (omega arith)
     visit_makes (suc bound) n l inside blocks before after (passed stop e) have =
-        let known : IsKnown g first leaves v (pass_over g first start before) n = stop_known g first leaves v (pass_over g first start before) n have.sources have.leaves_have stop blocks in
-        subst (λ xs. IsVisited g first leaves v (pass_over g first start before) before n (pass_over g first start xs) xs) (sym e)
+        let known : IsKnown g first leaves v (pass_over g first start before) n = end_known g first leaves v kept (pass_over g first start before) n have stop blocks in
+        subst (λ xs. IsVisited g first leaves v kept (pass_over g first start before) before n (pass_over g first start xs) xs) (sym e)
         (record { makes = known.again (pass_over g first start before).pairs (Extends-refl (pass_over g first start before).pairs); keeps = λ m i. i; passed_on = have; known = known })
     visit_makes (suc bound) n l inside blocks before after (walked stop (skips i e)) have =
         let known : IsKnown g first leaves v (pass_over g first start before) n = have.known n i in
-        subst (λ xs. IsVisited g first leaves v (pass_over g first start before) before n (pass_over g first start xs) xs) (sym e)
+        subst (λ xs. IsVisited g first leaves v kept (pass_over g first start before) before n (pass_over g first start xs) xs) (sym e)
         (record { makes = known.again (pass_over g first start before).pairs (Extends-refl (pass_over g first start before).pairs); keeps = λ m i. i; passed_on = have; known = known })
-    visit_makes (suc bound) n l inside (member i) before after (walked stop (posts below off all e)) have = absurd ((stop_inner g leaves n inside stop).apart i)
-    visit_makes (suc bound) n l inside (blocks_constant z) before after (walked stop (posts below off all e)) have = absurd (let a : first_and g ≤ n = (stop_inner g leaves n inside stop).and.0 in omega arith)
+    visit_makes (suc bound) n l inside (member i) before after (walked stop (posts below off all e)) have = absurd ((ends_inner g leaves kept n inside stop).apart i)
+    visit_makes (suc bound) n l inside (blocks_constant z) before after (walked stop (posts below off all e)) have = absurd (let a : first_and g ≤ n = (ends_inner g leaves kept n inside stop).and.0 in omega arith)
     visit_makes (suc bound) n l inside (blocks_parameter s) before after (walked stop (posts below off all e)) have =
-        absurd (let a : first_and g ≤ n = (stop_inner g leaves n inside stop).and.0 in
+        absurd (let a : first_and g ≤ n = (ends_inner g leaves kept n inside stop).and.0 in
         let above : 1 ≤ n = s.above in
         let w : n - 1 < length g.kinds = slice_get_within g.kinds (n - 1) Parameter s.is in omega arith)
     visit_makes (suc bound) n l inside (fan_ins p is bx by) before after (walked stop (posts below off all e)) have =
-        let inner : IsInner g leaves n = stop_inner g leaves n inside stop in
+        let inner : IsInner g leaves n = ends_inner g leaves kept n inside stop in
         let norm : IsNormal n p = node_normal g n p normal is in
         let ordered : p.x.0 / 2 < p.y.0 / 2 = norm.ordered in
         let under : p.y.0 / 2 < n = norm.below in
-        let both : VisitsBoth (cone_next S g leaves) g leaves before p below = visits_both S (cone_next S g leaves) g leaves before n p below is all in
-        let vx : IsVisited g first leaves v (pass_over g first start before) before (p.x.0 / 2) (pass_over g first start both.mid) both.mid =
+        let both : VisitsBoth (cone_next S g leaves kept) g leaves kept before p below = visits_both S (cone_next S g leaves kept) g leaves kept before n p below is all in
+        let vx : IsVisited g first leaves v kept (pass_over g first start before) before (p.x.0 / 2) (pass_over g first start both.mid) both.mid =
         visit_makes bound (p.x.0 / 2) (omega arith) (omega arith) bx before both.mid both.lower have in
-        let vy : IsVisited g first leaves v (pass_over g first start both.mid) both.mid (p.y.0 / 2) (pass_over g first start below) below =
+        let vy : IsVisited g first leaves v kept (pass_over g first start both.mid) both.mid (p.y.0 / 2) (pass_over g first start below) below =
         visit_makes bound (p.y.0 / 2) (omega arith) (omega arith) by both.mid below both.upper vx.passed_on in
         let kx : IsKnown g first leaves v (pass_over g first start below) (p.x.0 / 2) =
-        known_later (pass_over g first start before) (pass_over g first start both.mid) (pass_over g first start below) before both.mid below (cone_next S g leaves) (p.x.0 / 2) (p.y.0 / 2) both.lower bx vx vy in
-        subst (λ xs. IsVisited g first leaves v (pass_over g first start before) before n (pass_over g first start xs) xs) (sym e)
-        (subst (λ (r : PassValue). IsVisited g first leaves v (pass_over g first start before) before n r (n ∷ below)) (sym (over_next n p below is))
-        (one_more (pass_over g first start before) (pass_over g first start both.mid) (pass_over g first start below) before both.mid below n p is inner vx vy kx))
+        known_later (pass_over g first start before) (pass_over g first start both.mid) (pass_over g first start below) before both.mid below (cone_next S g leaves kept) (p.x.0 / 2) (p.y.0 / 2) both.lower bx vx vy in
+        subst (λ xs. IsVisited g first leaves v kept (pass_over g first start before) before n (pass_over g first start xs) xs) (sym e)
+        (subst (λ (r : PassValue). IsVisited g first leaves v kept (pass_over g first start before) before n r (n ∷ below)) (sym (over_next n p below is))
+        (one_more (pass_over g first start before) (pass_over g first start both.mid) (pass_over g first start below) before both.mid below n p is inner (or_fails_right (is_stop g leaves n) (mark_of kept n) stop) vx vy kx))

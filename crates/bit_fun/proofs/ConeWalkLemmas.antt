@@ -1,22 +1,49 @@
 -- A walk over the cone of a LUT: its edges fall, its postorder visits the lower fan-in first, what it reaches is the cone, and the order that it leaves.
-use Rattle.bit_fun.proofs.Common.{◌≡◌, ℕ, ◌-◌, ◌/◌, ◌<◌, ◌≤◌, Bool, true, false, cond, ltb, List, [], ◌∷◌, length, Option, Some, refl, sym, ap, ◌∙◌, subst, inl, inr, arith, cases_lt, cond-true, cond-false, le-ltb, lt-ltb, slice_get_past, In, Pair, Aig, first_and, node_count, pair_of, IsNode, IsNormal, AreNormal, node_normal, node_at, is_stop, IsInner, Path, path_here, path_left, path_right, IsCone, stop_inner, Way, leads, stops, nodes_of, Posts, PostsAll, none, more, ways_of, ways_from, successors, AreNodes, Reaches, here, through, LeadsBelow, fan_in_edges, cone_edges, cone_next, Visits, passed, walked, None, ◌⊎◌, none-some, inner_stop, IsReached, WalkValue, Visited, falls_through, IsConeOrder}
+use Rattle.bit_fun.proofs.Common.{◌≡◌, ℕ, ◌-◌, ◌/◌, ◌<◌, ◌≤◌, Bool, true, false, cond, ltb, List, [], ◌∷◌, reverse, Option, Some, refl, sym, ap, ◌∙◌, subst, inl, inr, arith, cases_lt, cond-true, cond-false, le-ltb, lt-ltb, slice_get_past, In, Pair, Aig, first_and, node_count, pair_of, IsNode, IsNormal, AreNormal, node_normal, node_at, IsInner, ends_at, mark_of, Path, path_here, path_left, path_right, stop_inner, true≢false, Way, leads, stops, nodes_of, Posts, PostsAll, none, more, ways_of, ways_from, successors, AreNodes, Reaches, here, through, LeadsBelow, fan_in_edges, cone_edges, cone_next, Visits, passed, walked, None, ◌⊎◌, none-some, ◌||◌, is_stop, IsReached, WalkValue, Visited, falls_through, IsConeOrder}
 use Rattle.depth_first.specs.declared.edge.Edge.{Edge}
 use Rattle.depth_first.specs.declared.edge.Edge.TheVariants.{Node, Pass}
 use Rattle.depth_first.specs.Order.{IsAfter}
-use Rattle.list_laws.proofs.Apart.{AreApart, apart_short}
+use Rattle.list_laws.proofs.Apart.{AreApart}
 use Rattle.depth_first.specs.declared.edge.End.{End}
 
+-- both parts of an alternative that fails fail
+pub or_fails_left : (a b : Bool) → (a || b) ≡ false → a ≡ false
+or_fails_left true b e = e
+or_fails_left false b e = refl
+
+pub or_fails_right : (a b : Bool) → (a || b) ≡ false → b ≡ false
+or_fails_right true b e = absurd cc
+or_fails_right false b e = e
+
+-- a node at which the walk goes on is an AND node and no leaf
+pub ends_inner : (g : Aig) (leaves : List ℕ) (kept : List Bool) (n : ℕ) → n < node_count g → ends_at g leaves kept n ≡ false → IsInner g leaves n
+ends_inner g leaves kept n l s = stop_inner g leaves n l (or_fails_left (is_stop g leaves n) (mark_of kept n) s)
+
 -- the edges of an AND node
-edges_of_node : (S : Type 0) (g : Aig) (leaves : List ℕ) (n : ℕ) (p : Pair) → IsNode g p n → cone_edges {S = S} g leaves n ≡ fan_in_edges {S = S} g leaves (Some p)
-edges_of_node S g leaves n p is =
+edges_of_node : (S : Type 0) (g : Aig) (leaves : List ℕ) (kept : List Bool) (n : ℕ) (p : Pair) → IsNode g p n → cone_edges {S = S} g leaves kept n ≡ fan_in_edges {S = S} g leaves kept (Some p)
+edges_of_node S g leaves kept n p is =
     let above : first_and g ≤ n = is.above in
-    cond-false (ltb n (first_and g)) [] (fan_in_edges {S = S} g leaves (pair_of g n)) (le-ltb n (first_and g) above) ∙ ap (λ (o : Option Pair). fan_in_edges {S = S} g leaves o) is.is
+    cond-false (ltb n (first_and g)) [] (fan_in_edges {S = S} g leaves kept (pair_of g n)) (le-ltb n (first_and g) above) ∙ ap (λ (o : Option Pair). fan_in_edges {S = S} g leaves kept o) is.is
+
+-- an edge that is taken
+edge_taken : (S : Type 0) (ends : Bool) (n : ℕ) (es : List (Edge S)) (k : ℕ) → In (nodes_of (ways_of (cond ends Pass (Node n) ∷ es))) k → ((ends ≡ false) × (k ≡ n)) ⊎ In (nodes_of (ways_of es)) k
+edge_taken S true n es k i = inr i
+edge_taken S false n es k (inl e) = inl (refl, e)
+edge_taken S false n es k (inr i) = inr i
+
+edge_here : (S : Type 0) (ends : Bool) (n : ℕ) (es : List (Edge S)) (k : ℕ) → ends ≡ false → k ≡ n → In (nodes_of (ways_of (cond ends Pass (Node n) ∷ es))) k
+edge_here S true n es k f e = absurd (true≢false f)
+edge_here S false n es k f e = inl e
+
+edge_later : (S : Type 0) (ends : Bool) (n : ℕ) (es : List (Edge S)) (k : ℕ) → In (nodes_of (ways_of es)) k → In (nodes_of (ways_of (cond ends Pass (Node n) ∷ es))) k
+edge_later S true n es k i = i
+edge_later S false n es k i = inr i
 
 -- both fan-ins are visited, the lower one first
-pub record VisitsBoth (next : ℕ → List ℕ) (g : Aig) (leaves before : List ℕ) (p : Pair) (after : List ℕ) : Type 0 where
+pub record VisitsBoth (next : ℕ → List ℕ) (g : Aig) (leaves : List ℕ) (kept : List Bool) (before : List ℕ) (p : Pair) (after : List ℕ) : Type 0 where
   pub mid : List ℕ
-  pub lower : Visits next g leaves before (p.x.0 / 2) mid
-  pub upper : Visits next g leaves mid (p.y.0 / 2) after
+  pub lower : Visits next g leaves kept before (p.x.0 / 2) mid
+  pub upper : Visits next g leaves kept mid (p.y.0 / 2) after
 
 -- no nodes, and one and others
 no_posts : (next : ℕ → List ℕ) (before after : List ℕ) → PostsAll next before [] after → after ≡ before
@@ -36,83 +63,83 @@ one_posts next before n ns after (more m rest below e p ps) =
     record { mid = below; one = subst (λ x. Posts next before x below) same p; others = subst (λ xs. PostsAll next below xs after) tail ps }
 
 -- what a node's edges lead to, by what its fan-ins are
-both_of : (S : Type 0) (next : ℕ → List ℕ) (g : Aig) (leaves before : List ℕ) (p : Pair) (after : List ℕ) (a b : Bool) → is_stop g leaves (p.x.0 / 2) ≡ a → is_stop g leaves (p.y.0 / 2) ≡ b
-    → PostsAll next before (nodes_of (ways_of {S = S} (cond a Pass (Node (p.x.0 / 2)) ∷ cond b Pass (Node (p.y.0 / 2)) ∷ []))) after → VisitsBoth next g leaves before p after
-both_of S next g leaves before p after true true ea eb all = record { mid = before; lower = passed ea refl; upper = passed eb (no_posts next before after all) }
-both_of S next g leaves before p after true false ea eb all =
+both_of : (S : Type 0) (next : ℕ → List ℕ) (g : Aig) (leaves : List ℕ) (kept : List Bool) (before : List ℕ) (p : Pair) (after : List ℕ) (a b : Bool) → ends_at g leaves kept (p.x.0 / 2) ≡ a → ends_at g leaves kept (p.y.0 / 2) ≡ b
+    → PostsAll next before (nodes_of (ways_of {S = S} (cond a Pass (Node (p.x.0 / 2)) ∷ cond b Pass (Node (p.y.0 / 2)) ∷ []))) after → VisitsBoth next g leaves kept before p after
+both_of S next g leaves kept before p after true true ea eb all = record { mid = before; lower = passed ea refl; upper = passed eb (no_posts next before after all) }
+both_of S next g leaves kept before p after true false ea eb all =
     let o : OnePosts next before (p.y.0 / 2) [] after = one_posts next before (p.y.0 / 2) [] after all in
     let e : after ≡ o.mid = no_posts next o.mid after o.others in
     record { mid = before; lower = passed ea refl; upper = walked eb (subst (λ xs. Posts next before (p.y.0 / 2) xs) (sym e) o.one) }
-both_of S next g leaves before p after false true ea eb all =
+both_of S next g leaves kept before p after false true ea eb all =
     let o : OnePosts next before (p.x.0 / 2) [] after = one_posts next before (p.x.0 / 2) [] after all in
     record { mid = o.mid; lower = walked ea o.one; upper = passed eb (no_posts next o.mid after o.others) }
-both_of S next g leaves before p after false false ea eb all =
+both_of S next g leaves kept before p after false false ea eb all =
     let o : OnePosts next before (p.x.0 / 2) ((p.y.0 / 2) ∷ []) after = one_posts next before (p.x.0 / 2) ((p.y.0 / 2) ∷ []) after all in
     let u : OnePosts next o.mid (p.y.0 / 2) [] after = one_posts next o.mid (p.y.0 / 2) [] after o.others in
     let e : after ≡ u.mid = no_posts next u.mid after u.others in
     record { mid = o.mid; lower = walked ea o.one; upper = walked eb (subst (λ xs. Posts next o.mid (p.y.0 / 2) xs) (sym e) u.one) }
 
-pub visits_both : (S : Type 0) (next : ℕ → List ℕ) (g : Aig) (leaves before : List ℕ) (n : ℕ) (p : Pair) (after : List ℕ) → IsNode g p n → PostsAll next before (cone_next S g leaves n) after → VisitsBoth next g leaves before p after
-visits_both S next g leaves before n p after is all =
-    both_of S next g leaves before p after (is_stop g leaves (p.x.0 / 2)) (is_stop g leaves (p.y.0 / 2)) refl refl
-    (subst (λ (es : List (Edge S)). PostsAll next before (nodes_of (ways_of es)) after) (edges_of_node S g leaves n p is) all)
+pub visits_both : (S : Type 0) (next : ℕ → List ℕ) (g : Aig) (leaves : List ℕ) (kept : List Bool) (before : List ℕ) (n : ℕ) (p : Pair) (after : List ℕ) → IsNode g p n → PostsAll next before (cone_next S g leaves kept n) after → VisitsBoth next g leaves kept before p after
+visits_both S next g leaves kept before n p after is all =
+    both_of S next g leaves kept before p after (ends_at g leaves kept (p.x.0 / 2)) (ends_at g leaves kept (p.y.0 / 2)) refl refl
+    (subst (λ (es : List (Edge S)). PostsAll next before (nodes_of (ways_of es)) after) (edges_of_node S g leaves kept n p is) all)
 
 -- a way on from an AND node leads to a fan-in that is an AND node and no leaf
-pub data IsFanIn (g : Aig) (leaves : List ℕ) (p : Pair) (m : ℕ) : Type 0 where
-  lower : m ≡ p.x.0 / 2 → is_stop g leaves m ≡ false → IsFanIn g leaves p m
-  upper : m ≡ p.y.0 / 2 → is_stop g leaves m ≡ false → IsFanIn g leaves p m
+pub data IsFanIn (g : Aig) (leaves : List ℕ) (kept : List Bool) (p : Pair) (m : ℕ) : Type 0 where
+  lower : m ≡ p.x.0 / 2 → ends_at g leaves kept m ≡ false → IsFanIn g leaves kept p m
+  upper : m ≡ p.y.0 / 2 → ends_at g leaves kept m ≡ false → IsFanIn g leaves kept p m
 
-abbrev LeadsTo : (S : Type 0) → Aig → List ℕ → Pair → Way ℕ S → Type 0
-LeadsTo S g leaves p (leads m) = IsFanIn g leaves p m
-LeadsTo S g leaves p (stops s) = ⊥
+abbrev LeadsTo : (S : Type 0) → Aig → List ℕ → List Bool → Pair → Way ℕ S → Type 0
+LeadsTo S g leaves kept p (leads m) = IsFanIn g leaves kept p m
+LeadsTo S g leaves kept p (stops s) = ⊥
 
-way_of : (S : Type 0) (g : Aig) (leaves : List ℕ) (p : Pair) (w : Way ℕ S) (a b : Bool) → is_stop g leaves (p.x.0 / 2) ≡ a → is_stop g leaves (p.y.0 / 2) ≡ b
-    → In (ways_of {S = S} (cond a Pass (Node (p.x.0 / 2)) ∷ cond b Pass (Node (p.y.0 / 2)) ∷ [])) w → LeadsTo S g leaves p w
-way_of S g leaves p w true true ea eb i = absurd i
-way_of S g leaves p w true false ea eb (inl e) = subst (LeadsTo S g leaves p) (sym e) (upper refl eb)
-way_of S g leaves p w true false ea eb (inr i) = absurd i
-way_of S g leaves p w false true ea eb (inl e) = subst (LeadsTo S g leaves p) (sym e) (lower refl ea)
-way_of S g leaves p w false true ea eb (inr i) = absurd i
-way_of S g leaves p w false false ea eb (inl e) = subst (LeadsTo S g leaves p) (sym e) (lower refl ea)
-way_of S g leaves p w false false ea eb (inr (inl e)) = subst (LeadsTo S g leaves p) (sym e) (upper refl eb)
-way_of S g leaves p w false false ea eb (inr (inr i)) = absurd i
+way_of : (S : Type 0) (g : Aig) (leaves : List ℕ) (kept : List Bool) (p : Pair) (w : Way ℕ S) (a b : Bool) → ends_at g leaves kept (p.x.0 / 2) ≡ a → ends_at g leaves kept (p.y.0 / 2) ≡ b
+    → In (ways_of {S = S} (cond a Pass (Node (p.x.0 / 2)) ∷ cond b Pass (Node (p.y.0 / 2)) ∷ [])) w → LeadsTo S g leaves kept p w
+way_of S g leaves kept p w true true ea eb i = absurd i
+way_of S g leaves kept p w true false ea eb (inl e) = subst (LeadsTo S g leaves kept p) (sym e) (upper refl eb)
+way_of S g leaves kept p w true false ea eb (inr i) = absurd i
+way_of S g leaves kept p w false true ea eb (inl e) = subst (LeadsTo S g leaves kept p) (sym e) (lower refl ea)
+way_of S g leaves kept p w false true ea eb (inr i) = absurd i
+way_of S g leaves kept p w false false ea eb (inl e) = subst (LeadsTo S g leaves kept p) (sym e) (lower refl ea)
+way_of S g leaves kept p w false false ea eb (inr (inl e)) = subst (LeadsTo S g leaves kept p) (sym e) (upper refl eb)
+way_of S g leaves kept p w false false ea eb (inr (inr i)) = absurd i
 
-pub way_to : (S : Type 0) (g : Aig) (leaves : List ℕ) (n : ℕ) (p : Pair) (w : Way ℕ S) → IsNode g p n → In (ways_from {S = S} (cone_edges g leaves) n) w → LeadsTo S g leaves p w
-way_to S g leaves n p w is i =
-    way_of S g leaves p w (is_stop g leaves (p.x.0 / 2)) (is_stop g leaves (p.y.0 / 2)) refl refl (subst (λ (es : List (Edge S)). In (ways_of es) w) (edges_of_node S g leaves n p is) i)
+pub way_to : (S : Type 0) (g : Aig) (leaves : List ℕ) (kept : List Bool) (n : ℕ) (p : Pair) (w : Way ℕ S) → IsNode g p n → In (ways_from {S = S} (cone_edges g leaves kept) n) w → LeadsTo S g leaves kept p w
+way_to S g leaves kept n p w is i =
+    way_of S g leaves kept p w (ends_at g leaves kept (p.x.0 / 2)) (ends_at g leaves kept (p.y.0 / 2)) refl refl (subst (λ (es : List (Edge S)). In (ways_of es) w) (edges_of_node S g leaves kept n p is) i)
 
 -- a fan-in is below its node
-fan_in_below : (g : Aig) (leaves : List ℕ) (n : ℕ) (p : Pair) (m : ℕ) → IsNormal n p → IsFanIn g leaves p m → m < n
-fan_in_below g leaves n p m normal (lower e s) = let a : p.x.0 / 2 < p.y.0 / 2 = normal.ordered in let b : p.y.0 / 2 < n = normal.below in omega arith
-fan_in_below g leaves n p m normal (upper e s) = let b : p.y.0 / 2 < n = normal.below in omega arith
+fan_in_below : (g : Aig) (leaves : List ℕ) (kept : List Bool) (n : ℕ) (p : Pair) (m : ℕ) → IsNormal n p → IsFanIn g leaves kept p m → m < n
+fan_in_below g leaves kept n p m normal (lower e s) = let a : p.x.0 / 2 < p.y.0 / 2 = normal.ordered in let b : p.y.0 / 2 < n = normal.below in omega arith
+fan_in_below g leaves kept n p m normal (upper e s) = let b : p.y.0 / 2 < n = normal.below in omega arith
 
-leads_below : (S : Type 0) (g : Aig) (leaves : List ℕ) (n : ℕ) (p : Pair) → IsNormal n p → (w : Way ℕ S) → LeadsTo S g leaves p w → LeadsBelow (ways_from {S = S} (cone_edges g leaves)) (n ∷ []) w
-leads_below S g leaves n p normal (stops s) l = l
-leads_below S g leaves n p normal (leads m) l = λ k i.
-    elim i [ inl q ↦ omega (arith, fan_in_below g leaves n p m normal l) | inr o ↦ absurd o ]
+leads_below : (S : Type 0) (g : Aig) (leaves : List ℕ) (kept : List Bool) (n : ℕ) (p : Pair) → IsNormal n p → (w : Way ℕ S) → LeadsTo S g leaves kept p w → LeadsBelow (ways_from {S = S} (cone_edges g leaves kept)) (n ∷ []) w
+leads_below S g leaves kept n p normal (stops s) l = l
+leads_below S g leaves kept n p normal (leads m) l = λ k i.
+    elim i [ inl q ↦ omega (arith, fan_in_below g leaves kept n p m normal l) | inr o ↦ absurd o ]
 
 -- a number past the AND nodes, or below them, has no edges
-no_edges_below : (S : Type 0) (g : Aig) (leaves : List ℕ) (n : ℕ) → n < first_and g → cone_edges {S = S} g leaves n ≡ []
-no_edges_below S g leaves n l = cond-true (ltb n (first_and g)) [] (fan_in_edges {S = S} g leaves (pair_of g n)) (lt-ltb n (first_and g) l)
+no_edges_below : (S : Type 0) (g : Aig) (leaves : List ℕ) (kept : List Bool) (n : ℕ) → n < first_and g → cone_edges {S = S} g leaves kept n ≡ []
+no_edges_below S g leaves kept n l = cond-true (ltb n (first_and g)) [] (fan_in_edges {S = S} g leaves kept (pair_of g n)) (lt-ltb n (first_and g) l)
 
-no_edges_past : (S : Type 0) (g : Aig) (leaves : List ℕ) (n : ℕ) → node_count g ≤ n → cone_edges {S = S} g leaves n ≡ []
-no_edges_past S g leaves n l =
-    cond-false (ltb n (first_and g)) [] (fan_in_edges {S = S} g leaves (pair_of g n)) (le-ltb n (first_and g) (omega arith))
-    ∙ ap (λ (o : Option Pair). fan_in_edges {S = S} g leaves o) (slice_get_past g.pairs (n - first_and g) (omega arith))
+no_edges_past : (S : Type 0) (g : Aig) (leaves : List ℕ) (kept : List Bool) (n : ℕ) → node_count g ≤ n → cone_edges {S = S} g leaves kept n ≡ []
+no_edges_past S g leaves kept n l =
+    cond-false (ltb n (first_and g)) [] (fan_in_edges {S = S} g leaves kept (pair_of g n)) (le-ltb n (first_and g) (omega arith))
+    ∙ ap (λ (o : Option Pair). fan_in_edges {S = S} g leaves kept o) (slice_get_past g.pairs (n - first_and g) (omega arith))
 
 -- so the edges of a cone fall
-pub cone_falls : (S : Type 0) (g : Aig) (leaves : List ℕ) → AreNormal (first_and g) g.pairs → (n : ℕ) (w : Way ℕ S) → In (ways_from (cone_edges g leaves) n) w → LeadsBelow (ways_from {S = S} (cone_edges g leaves)) (n ∷ []) w
-cone_falls S g leaves normal n w i = elim (cases_lt n (first_and g)) [
-  | inl l ↦ absurd (subst (λ (es : List (Edge S)). In (ways_of es) w) (no_edges_below S g leaves n l) i)
+pub cone_falls : (S : Type 0) (g : Aig) (leaves : List ℕ) (kept : List Bool) → AreNormal (first_and g) g.pairs → (n : ℕ) (w : Way ℕ S) → In (ways_from (cone_edges g leaves kept) n) w → LeadsBelow (ways_from {S = S} (cone_edges g leaves kept)) (n ∷ []) w
+cone_falls S g leaves kept normal n w i = elim (cases_lt n (first_and g)) [
+  | inl l ↦ absurd (subst (λ (es : List (Edge S)). In (ways_of es) w) (no_edges_below S g leaves kept n l) i)
   | inr a ↦ elim (cases_lt n (node_count g)) [
-    | inl b ↦ (let p = node_at g n a b in leads_below S g leaves n p.0 (node_normal g n p.0 normal p.1) w (way_to S g leaves n p.0 w p.1 i))
-    | inr b ↦ absurd (subst (λ (es : List (Edge S)). In (ways_of es) w) (no_edges_past S g leaves n b) i)
+    | inl b ↦ (let p = node_at g n a b in leads_below S g leaves kept n p.0 (node_normal g n p.0 normal p.1) w (way_to S g leaves kept n p.0 w p.1 i))
+    | inr b ↦ absurd (subst (λ (es : List (Edge S)). In (ways_of es) w) (no_edges_past S g leaves kept n b) i)
   ]
 ]
 
 -- a successor of a node of the cone is a fan-in of it
-pub next_fan_in : (S : Type 0) (g : Aig) (leaves : List ℕ) (n : ℕ) (p : Pair) (m : ℕ) → IsNode g p n → In (cone_next S g leaves n) m → IsFanIn g leaves p m
-next_fan_in S g leaves n p m is i = way_to S g leaves n p (leads m) is (nodes_ways (ways_from {S = S} (cone_edges g leaves) n) m i)
+pub next_fan_in : (S : Type 0) (g : Aig) (leaves : List ℕ) (kept : List Bool) (n : ℕ) (p : Pair) (m : ℕ) → IsNode g p n → In (cone_next S g leaves kept n) m → IsFanIn g leaves kept p m
+next_fan_in S g leaves kept n p m is i = way_to S g leaves kept n p (leads m) is (nodes_ways (ways_from {S = S} (cone_edges g leaves kept) n) m i)
   where
     nodes_ways : (ws : List (Way ℕ S)) (k : ℕ) → In (nodes_of ws) k → In ws (leads k)
     nodes_ways [] k j = absurd j
@@ -120,47 +147,93 @@ next_fan_in S g leaves n p m is i = way_to S g leaves n p (leads m) is (nodes_wa
     nodes_ways (leads a ∷ ws) k (inr j) = inr (nodes_ways ws k j)
     nodes_ways (stops s ∷ ws) k j = inr (nodes_ways ws k j)
 
-fan_in_inner : (g : Aig) (leaves : List ℕ) (p : Pair) (m : ℕ) → m < node_count g → IsFanIn g leaves p m → IsInner g leaves m
-fan_in_inner g leaves p m l (lower e s) = stop_inner g leaves m l s
-fan_in_inner g leaves p m l (upper e s) = stop_inner g leaves m l s
+fan_in_inner : (g : Aig) (leaves : List ℕ) (kept : List Bool) (p : Pair) (m : ℕ) → m < node_count g → IsFanIn g leaves kept p m → IsInner g leaves m
+fan_in_inner g leaves kept p m l (lower e s) = ends_inner g leaves kept m l s
+fan_in_inner g leaves kept p m l (upper e s) = ends_inner g leaves kept m l s
 
 -- and is a node of the cone
-pub next_inner : (S : Type 0) (g : Aig) (leaves : List ℕ) (n m : ℕ) → AreNormal (first_and g) g.pairs → IsInner g leaves n → In (cone_next S g leaves n) m → IsInner g leaves m
-next_inner S g leaves n m normal inner i =
+pub next_inner : (S : Type 0) (g : Aig) (leaves : List ℕ) (kept : List Bool) (n m : ℕ) → AreNormal (first_and g) g.pairs → IsInner g leaves n → In (cone_next S g leaves kept n) m → IsInner g leaves m
+next_inner S g leaves kept n m normal inner i =
     let p = node_at g n inner.and.0 inner.and.1 in
-    let f : IsFanIn g leaves p.0 m = next_fan_in S g leaves n p.0 m p.1 i in
-    fan_in_inner g leaves p.0 m (omega (arith, inner.and.1, fan_in_below g leaves n p.0 m (node_normal g n p.0 normal p.1) f)) f
+    let f : IsFanIn g leaves kept p.0 m = next_fan_in S g leaves kept n p.0 m p.1 i in
+    fan_in_inner g leaves kept p.0 m (omega (arith, inner.and.1, fan_in_below g leaves kept n p.0 m (node_normal g n p.0 normal p.1) f)) f
 
 -- the AND nodes that are no leaves are the nodes of the walk
-pub cone_nodes : (S : Type 0) (g : Aig) (leaves : List ℕ) → AreNormal (first_and g) g.pairs → AreNodes (IsInner g leaves) (successors {S = S} (cone_edges g leaves)) (node_count g)
-cone_nodes S g leaves normal = record { below = λ n inner. inner.and.1; closed = λ n m inner i. next_inner S g leaves n m normal inner i }
+pub cone_nodes : (S : Type 0) (g : Aig) (leaves : List ℕ) (kept : List Bool) → AreNormal (first_and g) g.pairs → AreNodes (IsInner g leaves) (successors {S = S} (cone_edges g leaves kept)) (node_count g)
+cone_nodes S g leaves kept normal = record { below = λ n inner. inner.and.1; closed = λ n m inner i. next_inner S g leaves kept n m normal inner i }
 
 -- what is reached from a node is a way down from it
-pub reach_path : (S : Type 0) (g : Aig) (leaves : List ℕ) (n m : ℕ) → AreNormal (first_and g) g.pairs → IsInner g leaves n → Reaches (cone_next S g leaves) n m → Path g leaves m n
-reach_path S g leaves n m normal inner (here e) = path_here inner (sym e)
-reach_path S g leaves n m normal inner (through k i r) =
+pub reach_path : (S : Type 0) (g : Aig) (leaves : List ℕ) (kept : List Bool) (n m : ℕ) → AreNormal (first_and g) g.pairs → IsInner g leaves n → Reaches (cone_next S g leaves kept) n m → Path g leaves m n
+reach_path S g leaves kept n m normal inner (here e) = path_here inner (sym e)
+reach_path S g leaves kept n m normal inner (through k i r) =
     let p = node_at g n inner.and.0 inner.and.1 in
-    let rest : Path g leaves m k = reach_path S g leaves k m normal (next_inner S g leaves n k normal inner i) r in
-    by p.0 p.1 (next_fan_in S g leaves n p.0 k p.1 i) rest
+    let rest : Path g leaves m k = reach_path S g leaves kept k m normal (next_inner S g leaves kept n k normal inner i) r in
+    by p.0 p.1 (next_fan_in S g leaves kept n p.0 k p.1 i) rest
   where
-    by : (p : Pair) → IsNode g p n → IsFanIn g leaves p k → Path g leaves m k → Path g leaves m n
+    by : (p : Pair) → IsNode g p n → IsFanIn g leaves kept p k → Path g leaves m k → Path g leaves m n
     by p is (lower e s) rest = path_left p inner is (subst (λ x. Path g leaves m x) e rest)
     by p is (upper e s) rest = path_right p inner is (subst (λ x. Path g leaves m x) e rest)
 
-pub reach_inner : (S : Type 0) (g : Aig) (leaves : List ℕ) (n m : ℕ) → AreNormal (first_and g) g.pairs → IsInner g leaves n → Reaches (cone_next S g leaves) n m → IsInner g leaves m
-reach_inner S g leaves n m normal inner (here e) = subst (λ x. IsInner g leaves x) (sym e) inner
-reach_inner S g leaves n m normal inner (through k i r) = reach_inner S g leaves k m normal (next_inner S g leaves n k normal inner i) r
+pub reach_inner : (S : Type 0) (g : Aig) (leaves : List ℕ) (kept : List Bool) (n m : ℕ) → AreNormal (first_and g) g.pairs → IsInner g leaves n → Reaches (cone_next S g leaves kept) n m → IsInner g leaves m
+reach_inner S g leaves kept n m normal inner (here e) = subst (λ x. IsInner g leaves x) (sym e) inner
+reach_inner S g leaves kept n m normal inner (through k i r) = reach_inner S g leaves kept k m normal (next_inner S g leaves kept n k normal inner i) r
+
+-- the walk goes on at all that it reaches
+fan_in_on : (g : Aig) (leaves : List ℕ) (kept : List Bool) (p : Pair) (m : ℕ) → IsFanIn g leaves kept p m → ends_at g leaves kept m ≡ false
+fan_in_on g leaves kept p m (lower e s) = s
+fan_in_on g leaves kept p m (upper e s) = s
+
+reach_on : (S : Type 0) (g : Aig) (leaves : List ℕ) (kept : List Bool) (n m : ℕ) → AreNormal (first_and g) g.pairs → IsInner g leaves n → ends_at g leaves kept n ≡ false → Reaches (cone_next S g leaves kept) n m → ends_at g leaves kept m ≡ false
+reach_on S g leaves kept n m normal inner on (here e) = ap (ends_at g leaves kept) e ∙ on
+reach_on S g leaves kept n m normal inner on (through k i r) =
+    let p = node_at g n inner.and.0 inner.and.1 in
+    reach_on S g leaves kept k m normal (next_inner S g leaves kept n k normal inner i) (fan_in_on g leaves kept p.0 k (next_fan_in S g leaves kept n p.0 k p.1 i)) r
+
+-- with more marks it ends wherever it did
+pub less_false : (a b : Bool) → (a ≡ true → b ≡ true) → b ≡ false → a ≡ false
+less_false true b h e = absurd (true≢false (sym (h refl) ∙ e))
+less_false false b h e = refl
+
+or_fails : (a b : Bool) → a ≡ false → b ≡ false → (a || b) ≡ false
+or_fails true b e f = e
+or_fails false b e f = f
+
+module _ (g : Aig) (leaves : List ℕ) (less more : List Bool) (grows : (m : ℕ) → mark_of less m ≡ true → mark_of more m ≡ true) where
+  ends_less : (n : ℕ) → ends_at g leaves more n ≡ false → ends_at g leaves less n ≡ false
+  ends_less n e =
+      or_fails (is_stop g leaves n) (mark_of less n) (or_fails_left (is_stop g leaves n) (mark_of more n) e) (less_false (mark_of less n) (mark_of more n) (grows n) (or_fails_right (is_stop g leaves n) (mark_of more n) e))
+
+  -- so it takes no other edges
+  next_less : (S : Type 0) (n k : ℕ) → In (cone_next S g leaves more n) k → In (cone_next S g leaves less n) k
+  next_less S n k i0 = by (ltb n (first_and g)) (pair_of g n) i0
+    where
+      by : (b : Bool) (o : Option Pair) → In (nodes_of (ways_of (cond b [] (fan_in_edges {S = S} g leaves more o)))) k → In (nodes_of (ways_of (cond b [] (fan_in_edges {S = S} g leaves less o)))) k
+      by true o i = i
+      by false None i = i
+      by false (Some p) i = elim (edge_taken S (ends_at g leaves more (p.x.0 / 2)) (p.x.0 / 2) _ k i) [
+        | inl h ↦ edge_here S (ends_at g leaves less (p.x.0 / 2)) (p.x.0 / 2) _ k (ends_less (p.x.0 / 2) h.0) h.1
+        | inr j ↦ elim (edge_taken S (ends_at g leaves more (p.y.0 / 2)) (p.y.0 / 2) [] k j) [
+          | inl h ↦ edge_later S (ends_at g leaves less (p.x.0 / 2)) (p.x.0 / 2) _ k (edge_here S (ends_at g leaves less (p.y.0 / 2)) (p.y.0 / 2) [] k (ends_less (p.y.0 / 2) h.0) h.1)
+          | inr o ↦ absurd o
+        ]
+      ]
+
+  -- and reaches no other nodes
+  reaches_less : (S : Type 0) (n m : ℕ) → Reaches (cone_next S g leaves more) n m → Reaches (cone_next S g leaves less) n m
+  reaches_less S n m (here e) = here e
+  reaches_less S n m (through k i r) = through k (next_less S n k i) (reaches_less S k m r)
+
+  pub order_within : (top : ℕ) (first rest : List ℕ) → IsConeOrder g leaves less top first → IsConeOrder g leaves more top rest → (m : ℕ) → In rest m → In first m
+  order_within top first rest a b m i = by b.visit
+    where
+      by : Visits (cone_next (Unit {0}) g leaves more) g leaves more [] top rest → In first m
+      by (passed stop e) = absurd (subst (λ xs. In xs m) e i)
+      by (walked on p) = a.all m (ends_less top on) (reaches_less (Unit {0}) top m (b.reached m i))
 
 -- in an order nothing stands twice
 after_apart : (next : ℕ → List ℕ) (order : List ℕ) → IsAfter next order → AreApart order
 after_apart next [] h = tt
 after_apart next (n ∷ ns) h = ((h.1).0, after_apart next ns (h.1).1)
-
--- so an order of a node's cone is no longer than the cone
-pub order_short : (S : Type 0) (g : Aig) (leaves : List ℕ) (n : ℕ) (order cone : List ℕ) → AreNormal (first_and g) g.pairs → IsInner g leaves n → IsAfter (cone_next S g leaves) order
-    → ((m : ℕ) → In order m → Reaches (cone_next S g leaves) n m) → IsCone g leaves n cone → length order ≤ length cone
-order_short S g leaves n order cone normal inner after reached is =
-    apart_short order cone (after_apart (cone_next S g leaves) order after) (λ m i. is.all m (reach_path S g leaves n m normal inner (reached m i)))
 
 -- what a start alone reaches
 from_one : (next : ℕ → List ℕ) (top m : ℕ) → IsReached next (top ∷ []) m → Reaches next top m
@@ -170,15 +243,35 @@ reached_in : (next : ℕ → List ℕ) (top m : ℕ) (before : List ℕ) → bef
 reached_in next top m before e (inl i) = absurd (subst (λ xs. In xs m) e i)
 reached_in next top m before e (inr r) = from_one next top m r
 
+-- the order of a node at which the walk ends at once
+pub no_order : (g : Aig) (leaves : List ℕ) (kept : List Bool) (top : ℕ) (order : List ℕ) → ends_at g leaves kept top ≡ true → order ≡ [] → IsConeOrder g leaves kept top order
+no_order g leaves kept top order ends e = subst (IsConeOrder g leaves kept top) (sym e) (record {
+  visit = passed ends refl;
+  inner = λ m i. absurd i;
+  apart = tt;
+  reached = λ m i. absurd i;
+  all = λ m on r. absurd (true≢false (sym ends ∙ on));
+  paths = λ m i. absurd i;
+  fresh = λ m i. absurd i;
+})
+
+-- the order that a walk over a table's leaves left
+pub walked_order : (g : Aig) (leaves given : List ℕ) (kept : List Bool) (top : ℕ) (left order : List ℕ) → given ≡ leaves → reverse order ≡ left → IsConeOrder g given kept top left → IsConeOrder g leaves kept top (reverse order)
+walked_order g leaves given kept top left order e f cone = subst (λ ls. IsConeOrder g ls kept top (reverse order)) e (subst (IsConeOrder g given kept top) (sym f) cone)
+
 -- of another one, the postorder of its cone
-pub cone_order : (g : Aig) (leaves : List ℕ) (top : ℕ) (w v : WalkValue) (found : Option (End (Unit {0}))) → AreNormal (first_and g) g.pairs → IsInner g leaves top → w.order ≡ []
-    → Visited (cone_edges g leaves) w v top found → IsConeOrder g leaves top v.order
-cone_order g leaves top w v None normal inner e did =
-    let reached : (m : ℕ) → In v.order m → Reaches (cone_next (Unit {0}) g leaves) top m = λ m i. reached_in (cone_next (Unit {0}) g leaves) top m w.order e ((did.reached).only m i) in
+pub cone_order : (g : Aig) (leaves : List ℕ) (kept : List Bool) (top : ℕ) (w v : WalkValue) (found : Option (End (Unit {0}))) → AreNormal (first_and g) g.pairs → IsInner g leaves top → ends_at g leaves kept top ≡ false → w.order ≡ []
+    → Visited (cone_edges g leaves kept) w v top found → IsConeOrder g leaves kept top v.order
+cone_order g leaves kept top w v None normal inner on e did =
+    let reached : (m : ℕ) → In v.order m → Reaches (cone_next (Unit {0}) g leaves kept) top m = λ m i. reached_in (cone_next (Unit {0}) g leaves kept) top m w.order e ((did.reached).only m i) in
     record {
-      visit = walked (inner_stop g leaves top inner) (subst (λ xs. Posts (cone_next (Unit {0}) g leaves) xs top v.order) e did.posts);
-      inner = λ m i. reach_inner (Unit {0}) g leaves top m normal inner (reached m i);
-      short = λ cone is. order_short (Unit {0}) g leaves top v.order cone normal inner did.after reached is;
+      visit = walked on (subst (λ xs. Posts (cone_next (Unit {0}) g leaves kept) xs top v.order) e did.posts);
+      inner = λ m i. reach_inner (Unit {0}) g leaves kept top m normal inner (reached m i);
+      apart = after_apart (cone_next (Unit {0}) g leaves kept) v.order did.after;
+      reached = reached;
+      all = λ m going r. (did.reached).all m (record { start = top; member = inl refl; reaches = r });
+      paths = λ m i. reach_path (Unit {0}) g leaves kept top m normal inner (reached m i);
+      fresh = λ m i. or_fails_right (is_stop g leaves m) (mark_of kept m) (reach_on (Unit {0}) g leaves kept top m normal inner on (reached m i));
     }
-cone_order g leaves top w v (Some end) normal inner e did =
-    absurd (none-some _ (sym (falls_through (ways_from {S = Unit {0}} (cone_edges g leaves)) (cone_falls (Unit {0}) g leaves normal) did.meets (λ k i. absurd i))))
+cone_order g leaves kept top w v (Some end) normal inner on e did =
+    absurd (none-some _ (sym (falls_through (ways_from {S = Unit {0}} (cone_edges g leaves kept)) (cone_falls (Unit {0}) g leaves kept normal) did.meets (λ k i. absurd i))))

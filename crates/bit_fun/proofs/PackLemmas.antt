@@ -1,5 +1,5 @@
 -- The configurations of a template's pack are those of the template, there is one pack, and the pack keeps what every pack keeps.
-use Rattle.bit_fun.proofs.Common.{◌≡◌, ℕ, ◌+◌, ◌<◌, Bool, false, List, [], length, map, get_or, sym, ap, ◌∙◌, subst, arith, length-map, length-replicate, get_or-map, none-some, Parameter, Lit, Pair, Aig, first_and, AreNormal, value_of, is_values_of, Extends-refl, Lut, bits_of, Param, PackValue, IsConf, param_count, IsBit, IsMapped, IsConfiguration, pack_param, BitsMade, MakesTables, IsPackOf, HasOnePack, ◌-◌, ◌*◌, ◌/◌, ◌≤◌, ◌∷◌, replicate, refl, inl, inr, slice_get_within, In, Regular, node_count, IsTableOf, source, free, node, IsLight, bits_worked, PackParam, IsPack, IsTableIn, AreTablesMadeTo}
+use Rattle.bit_fun.proofs.Common.{◌≡◌, ℕ, ◌+◌, ◌<◌, Bool, false, List, [], length, map, get_or, sym, ap, ◌∙◌, subst, arith, length-map, length-replicate, get_or-map, none-some, Parameter, Lit, Pair, Aig, first_and, AreNormal, value_of, is_values_of, Extends-refl, Lut, bits_of, Param, PackValue, IsConf, param_count, IsBit, IsMapped, IsConfiguration, pack_param, BitsMade, MakesTables, IsPackOf, HasOnePack, ◌-◌, ◌*◌, ◌/◌, ◌≤◌, ◌∷◌, replicate, refl, inl, inr, slice_get_within, In, Regular, node_count, IsTableOf, source, free, node, IsLight, IsMakeable, bits_worked, waiting, PackParam, IsPack, IsTableIn, HasAllTables}
 use Rattle.aig_core.specs.Roots.{lits_of}
 use Rattle.bit_fun.specs.PackLaw.{HasConfigurations}
 use Rattle.bit_fun.proofs.LawLemmas.{table_leaves, table_blocks, configuration_lawful}
@@ -102,22 +102,22 @@ names_same [] = refl
 names_same (q ∷ qs) = ap (λ ns. q.name ∷ ns) (names_same qs)
 
 -- the pack
-pub pack_of : (g : Aig) (luts : List Lut) (list : List Param) (old new : Aig) (lits bits : List Lit) → old.kinds ≡ replicate (length list) Parameter → old.pairs ≡ [] → AreTablesMadeTo g luts [] old new lits bits
+pub pack_of : (g : Aig) (luts : List Lut) (list : List Param) (old new : Aig) (lits bits : List Lit) → old.kinds ≡ replicate (length list) Parameter → old.pairs ≡ [] → HasAllTables g luts old new lits bits
     → IsPackOf g luts list (record { params = map pack_param list; graph = new; bits = bits })
 pack_of g luts list old new lits bits kinds none made =
     let first : first_and old ≡ 1 + length list = ap (λ n. 1 + n) (ap length kinds ∙ length-replicate (length list) Parameter) in
-    let all : MakesTables g (first_and old) old.pairs luts (record { pairs = new.pairs; bits = bits }) = tables_done g luts old new lits bits made in
+    let all : MakesTables g (first_and old) old.pairs luts (record { pairs = new.pairs; bits = bits }) = tables_done g made.free luts old new made.kept lits bits made.made in
     record {
       made = record { pairs = new.pairs; bits = bits };
       makes = subst (λ f. MakesTables g f [] luts (record { pairs = new.pairs; bits = bits })) first (subst (λ ps. MakesTables g (first_and old) ps luts (record { pairs = new.pairs; bits = bits })) none all);
       params_are = refl;
-      kinds = ap (λ (m : Aig). m.kinds) made.same ∙ kinds;
+      kinds = ap (λ (m : Aig). m.kinds) (made.made).same ∙ kinds;
       pairs = refl;
       bits = refl;
     }
 
-pub pack_kept : (g : Aig) (luts : List Lut) (list : List Param) (old new : Aig) (lits bits : List Lit) → IsMapped g luts → IsLight g luts → param_count g.kinds ≡ length list → AreNamed list → old.kinds ≡ replicate (length list) Parameter
-    → old.pairs ≡ [] → old.max ≡ 33554432 → AreTablesMadeTo g luts [] old new lits bits → IsPack (map pack_param list) new bits
+pub pack_kept : (g : Aig) (luts : List Lut) (list : List Param) (old new : Aig) (lits bits : List Lit) → IsMapped g luts → IsMakeable g luts → param_count g.kinds ≡ length list → AreNamed list → old.kinds ≡ replicate (length list) Parameter
+    → old.pairs ≡ [] → old.max ≡ 33554432 → HasAllTables g luts old new lits bits → IsPack (map pack_param list) new bits
 unfolding pack_of
 pack_kept g luts list old new lits bits m light count named kinds none max made =
     let is : IsPackOf g luts list (record { params = map pack_param list; graph = new; bits = bits }) = pack_of g luts list old new lits bits kinds none made in
@@ -126,9 +126,10 @@ pack_kept g luts list old new lits bits m light count named kinds none max made 
     let long : length (map pack_param list) ≡ length list = length-map list pack_param in
     let new_kinds : new.kinds ≡ replicate (length list) Parameter = is.kinds in
     let sources : length new.kinds ≡ length list = ap length new_kinds ∙ length-replicate (length list) Parameter in
-    let room : length new.pairs + made.work ≤ old.max = made.room in
-    let fits : bits_of luts ≤ light.work = bits_worked g luts light.work light.is in
-    let low : light.work ≤ 33554432 = light.light in
+    let room : length new.pairs + (made.made).work + waiting made.kept (made.made).shared ≤ old.max = (made.made).room in
+    let by_rule : IsLight light.supply g luts = light.light in
+    let fits : bits_of luts ≤ by_rule.work = bits_worked g luts by_rule.work by_rule.is in
+    let low : by_rule.work ≤ 33554432 = by_rule.light in
     let bits_len : length bits ≡ bits_of luts = all.count in
     let few : length list ≤ 65535 = named.few in
     record {

@@ -8,7 +8,8 @@ pub use Rattle.aig_core.specs.declared.lit.Lit.{Lit}
 pub use Rattle.aig_core.specs.declared.lit.Pair.{Pair}
 pub use Rattle.cover_pick.specs.Cone.{is_stop}
 pub use Rattle.cover_pick.specs.Mapping.{IsMapping, bits_of, HaveBases, IsTableOf, free, node, source}
-pub use Rattle.cover_pick.specs.Work.{IsInner, IsCone, IsWork, IsLight, IsTableWork, Path, here as path_here, left as path_left, right as path_right}
+pub use Rattle.cover_pick.specs.Work.{IsInner, IsFree, free_constant, free_parameter, free_product, AreOwn, IsTableWork, IsOwnWork, AreShared, IsWork, once_by, IsLight, IsMakeable, Path, here as path_here, left as path_left, right as path_right}
+pub use Rattle.cover_pick.specs.Free.{mark_of, AreFree}
 pub use Rattle.cover_pick.specs.declared.lut.Lut.{Lut}
 pub use Rattle.cut_sets.specs.Cuts.{Blocks, CanBeLeaf, constant, constant as blocks_constant, fan_ins, member, parameter, parameter as blocks_parameter}
 pub use Rattle.depth_first.specs.DepthFirst.{Posts, PostsAll, Way, leads, more, nodes_of, none, posts, skips, stops}

@@ -1,13 +1,13 @@
 //! The functions of a cone's nodes. One pass over its postorder builds the literal of each node once.
-ghost use Rattle.std.specs.Prelude.{◌≡◌, ℕ, ◌+◌, ◌*◌, ◌/◌, ◌<◌, ◌≤◌, ◌∷◌, [], length, reverse, IfOk, OnOk};
+ghost use Rattle.std.specs.Prelude.{◌≡◌, ℕ, ◌+◌, ◌*◌, ◌/◌, ◌<◌, ◌≤◌, Bool, List, ◌∷◌, [], length, reverse, IfOk, OnOk};
 ghost use Rattle.list_laws.specs.Members.{In};
 ghost use Rattle.list_laws.specs.Digits.{bit_value};
-ghost use Rattle.aig_core.specs.Aig.{first_and, node_count, AreNormal, IsAnd, IsLit};
+ghost use Rattle.aig_core.specs.Aig.{first_and, AreNormal, IsAnd, IsLit};
 ghost use Rattle.aig_core.specs.And.{and_of, with_pairs};
 ghost use Rattle.cut_sets.specs.declared.limits.TheConstants.{MOST_LEAVES};
-ghost use Rattle.cover_pick.specs.Work.{IsInner};
+ghost use Rattle.cover_pick.specs.declared.lut.Lut.{Lut as LutValue};
 ghost use Rattle.bit_fun.specs.PackOf.{phase_literal};
-ghost use Rattle.bit_fun.specs.ConeFunctions.{lit_of, fan_in, with_leaves, AreLits, IsMadeOver, HaveSourceLits, IsTableIn, IsConeOrder, IsBetween, IsBitMade};
+ghost use Rattle.bit_fun.specs.ConeFunctions.{fan_in, with_leaves, AreLits, IsGrown, IsMadeOver, IsTableIn, IsBitReady, IsBitMade};
 
 use aig_core::{AigErr, Graph, Lit};
 use cover_pick::Lut;
@@ -113,10 +113,11 @@ pub fn make_bit(
     requires normal { AreNormal (first_and graph.now) graph.now.pairs }
     requires few { length table.now.leaves ≤ MOST_LEAVES }
     requires table { IsTableIn graph.now table.now }
-    requires order { IsConeOrder graph.now table.now.leaves (table.now.lit.0 / 2) (reverse order.now) }
-    requires between { IsBetween graph.now pack.old lits.old }
+    requires nodes { (n : ℕ) → In order.now n → IsAnd graph.now n }
+    requires lits { AreLits graph.now pack.old lits.old }
     requires room { length pack.old.pairs + length order.now ≤ pack.old.max }
-    ensures { IfOk result (λ bit. IsBitMade graph.now table.now v (reverse order.now) pack.old pack.new lits.new bit) }
+    ensures made { IfOk result (λ bit. (luts : List LutValue) (kept : List Bool) → IsBitReady graph.now luts kept table.now (reverse order.now) pack.old lits.old → IsBitMade graph.now luts kept table.now v (reverse order.now) pack.old pack.new lits.new bit) }
+    ensures grown { OnOk result (IsGrown graph.now pack.old pack.new (length order.now) lits.new) }
 {
     set_leaves(table.leaves.leaves(), v, lits);
     make_nodes(graph, order, pack, lits)?;

@@ -29,6 +29,11 @@
 //! node for the digits of v is built by recursion (`specs/PackOf.antt`): a leaf is a constant, a parameter is its source, and
 //! an AND node is the product of its fan-ins, the lower one built first. Building it again adds nothing. So one pass over the
 //! postorder of a LUT's cone gives the same, with one lookup for each node and address (`proofs/ConeMakesLemmas.antt`).
+//! A *free* node is above no leaf of a LUT: it is the constant, a parameter, or an AND node that is no leaf and whose fan-ins
+//! are free. Its function is the same for all LUTs and digits (`proofs/FreeLemmas.antt`). So its literal is kept once it is
+//! made, and later passes stop at it: that making it again adds nothing is what keeps the pack's nodes and their order.
+//! A pack has room for all nodes if the work of the LUTs by either rule is within the limit: the nodes of a LUT's own are made
+//! once for each of its addresses, and the free nodes that the rule counts once are made once (`proofs/RoomLemmas.antt`).
 //! Exactly one such pack exists (`one`), and its configurations are those of the template, lawful for all values of the
 //! parameters (`conf`).
 //!
@@ -36,12 +41,13 @@
 //!
 //! # The files
 //!
-//! `cone_graph` has the cone of a LUT as a graph for a walk, `cone_functions` the functions of its nodes, and
-//! `template_functions` those of all LUTs, the pack.
+//! `cone_graph` has the cone of a LUT as a graph for a walk, `marks` the marks of nodes whose literals are kept, `cone_functions` the
+//! functions of a cone's nodes, and `template_functions` those of all LUTs, the pack.
 #![tactic(auto)]
 
 mod cone_functions;
 mod cone_graph;
+mod marks;
 mod template_functions;
 
 pub use template_functions::functions;

@@ -1,26 +1,28 @@
 //! The functions of a template's bits over one graph: its pack.
-ghost use Rattle.std.specs.Prelude.{◌≡◌, ℕ, ◌+◌, ◌*◌, ◌/◌, ◌^◌, ◌<◌, ◌≤◌, List, [], Bool, length, map, replicate, reverse, IfOk, OnOk};
+ghost use Rattle.std.specs.Prelude.{◌≡◌, ℕ, ◌+◌, ◌-◌, ◌*◌, ◌/◌, ◌^◌, ◌<◌, ◌≤◌, List, [], Bool, length, map, replicate, reverse, IfOk, OnOk};
 ghost use Rattle.list_laws.specs.Members.{In};
 ghost use Rattle.param_list.specs.Parameters.{AreNamed};
 ghost use Rattle.aig_core.specs.declared.lit.Kind.TheVariants.{Parameter};
-ghost use Rattle.aig_core.specs.Aig.{first_and, node_count, AreNormal};
+ghost use Rattle.aig_core.specs.Aig.{first_and, node_count, AreNormal, IsAnd};
 ghost use Rattle.cover_pick.specs.declared.lut.Lut.{Lut as LutValue};
 ghost use Rattle.cover_pick.specs.Mapping.{bits_of};
 ghost use Rattle.tl_text.specs.declared.limits.TheConstants.{MOST_PARAMETERS};
 ghost use Rattle.cover_pick.specs.declared.limits.TheConstants.{MOST_WORK};
-ghost use Rattle.cover_pick.specs.Work.{IsLight};
+ghost use Rattle.cover_pick.specs.Work.{IsMakeable};
+ghost use Rattle.cover_pick.specs.Free.{AreFree};
 ghost use Rattle.ppc_pack.specs.Pack.{IsPack};
 ghost use Rattle.bit_fun.specs.Parameters.{param_count};
 ghost use Rattle.bit_fun.specs.BitFunction.{HasOneBit};
 ghost use Rattle.bit_fun.specs.Configuration.{IsMapped, HasOneConfiguration};
 ghost use Rattle.bit_fun.specs.PackOf.{pack_param, IsPackOf, HasOnePack};
 ghost use Rattle.bit_fun.specs.PackLaw.{HasConfigurations};
-ghost use Rattle.bit_fun.specs.ConeFunctions.{lit_of, HaveSourceLits, HaveSourceLitsTo, IsTableIn, IsConeOrder, IsBetween, AreBitsMade, AreTablesMadeTo};
+ghost use Rattle.bit_fun.specs.ConeFunctions.{lit_of, HaveSourceLits, HaveSourceLitsTo, AreLits, HasRoom, IsTableWithin, IsTableIn, IsGrown, IsBitReady, IsBetween, AreBitsMade, HasAllTables};
 
 use crate::cone_functions::make_bit;
 use crate::cone_graph::walk_cone;
+use crate::marks::mark_order;
 use aig_core::{Graph, Kind, Lit};
-use cover_pick::{Lut, Template};
+use cover_pick::{Lut, Template, free_nodes};
 use depth_first::Walk;
 use param_list::Params;
 use ppc_pack::{MOST_PACK_NODES, Pack, PackParam};
@@ -59,8 +61,8 @@ fn source_lits(alloc: Global, graph: &Graph) -> Result<Vec<Lit>, AllocError>
     Ok(lits)
 }
 
-// Appends the literals of a LUT's bits, v ascending.
-fn push_table(
+// Appends the literals of a LUT's bits from the second on.
+fn push_bits(
     graph: &Graph,
     table: &Lut,
     order: &[u32],
@@ -70,16 +72,53 @@ fn push_table(
 ) -> Result<(), AllocError>
     requires normal { AreNormal (first_and graph.now) graph.now.pairs }
     requires table { IsTableIn graph.now table.now }
-    requires order { IsConeOrder graph.now table.now.leaves (table.now.lit.0 / 2) (reverse order.now) }
-    requires between { IsBetween graph.now pack.old lits.old }
-    requires room { length pack.old.pairs + 2 ^ length table.now.leaves * length order.now ≤ pack.old.max }
-    ensures { OnOk result (AreBitsMade graph.now table.now (2 ^ length table.now.leaves) (reverse order.now) pack.old bits.old.items pack.new lits.new bits.new.items) }
+    requires nodes { (n : ℕ) → In order.now n → IsAnd graph.now n }
+    requires lits { AreLits graph.now pack.old lits.old }
+    requires room { length pack.old.pairs + (2 ^ length table.now.leaves - 1) * length order.now ≤ pack.old.max }
+    ensures made { OnOk result ((luts : List LutValue) (kept : List Bool) → IsBitReady graph.now luts kept table.now (reverse order.now) pack.old lits.old → AreBitsMade graph.now luts table.now 1 (2 ^ length table.now.leaves) pack.old bits.old.items pack.new kept lits.new bits.new.items) }
+    ensures grown { OnOk result (IsGrown graph.now pack.old pack.new ((2 ^ length table.now.leaves - 1) * length order.now) lits.new) }
 {
     let count = 1u32 << table.leaves.len();
-    for v in 0..count {
+    for v in 1..count {
         let bit = make_bit(graph, table, order, v, pack, lits)?;
         bits.push(bit)?;
     }
+    Ok(())
+}
+
+// Appends the literals of a LUT's bits, v ascending. After the first of them the walk passes over the free nodes of the cone,
+// whose literals are kept.
+fn push_table(
+    graph: &Graph,
+    free: &[bool],
+    table: &Lut,
+    kept: &mut [bool],
+    walk: &mut Walk,
+    pack: &mut Graph,
+    lits: &mut [Lit],
+    bits: &mut Vec<Lit>,
+) -> Result<(), AllocError>
+    requires normal { AreNormal (first_and graph.now) graph.now.pairs }
+    requires table { IsTableIn graph.now table.now }
+    requires lits { AreLits graph.now pack.old lits.old }
+    requires long { length kept.old ≡ node_count graph.now }
+    requires room { HasRoom graph.now free.now table.now kept.old pack.old }
+    requires count { walk.old.count ≡ node_count graph.now }
+    ensures made { OnOk result ((luts : List LutValue) → In luts table.now → AreFree graph.now luts free.now → IsBetween graph.now luts pack.old kept.old lits.old → AreBitsMade graph.now luts table.now 0 (2 ^ length table.now.leaves) pack.old bits.old.items pack.new kept.new lits.new bits.new.items) }
+    ensures few { OnOk result (IsTableWithin graph.now free.now table.now pack.old kept.old pack.new kept.new) }
+    ensures long { length kept.new ≡ length kept.old }
+    ensures count { walk.new.count ≡ walk.old.count }
+{
+    let top = table.lit.0 / 2;
+    let leaves = table.leaves.leaves();
+    let _count = table.leaves.len();
+    walk_cone(graph, leaves, kept, top, walk)?;
+    let order = walk.order();
+    let first = make_bit(graph, table, order, 0, pack, lits)?;
+    bits.push(first)?;
+    mark_order(free, order, kept);
+    walk_cone(graph, leaves, kept, top, walk)?;
+    push_bits(graph, table, walk.order(), pack, lits, bits)?;
     Ok(())
 }
 
@@ -94,16 +133,18 @@ fn push_tables(
 ) -> Result<Vec<Lit>, AllocError>
     requires normal { AreNormal (first_and graph.now) graph.now.pairs }
     requires tables { (t : LutValue) → In tables.now t → IsTableIn graph.now t }
-    requires light { IsLight graph.now tables.now }
-    requires between { IsBetween graph.now pack.old lits.old }
+    requires light { IsMakeable graph.now tables.now }
+    requires literals { AreLits graph.now pack.old lits.old }
+    requires sources { HaveSourceLits graph.now lits.old }
     requires room { length pack.old.pairs + MOST_WORK ≤ pack.old.max }
     requires count { walk.old.count ≡ node_count graph.now }
-    ensures { IfOk result (λ bits. AreTablesMadeTo graph.now tables.now [] pack.old pack.new lits.new bits.items) }
+    ensures { IfOk result (λ bits. HasAllTables graph.now tables.now pack.old pack.new lits.new bits.items) }
 {
+    let free = free_nodes(alloc, graph, tables)?;
+    let mut kept = vec![in alloc; false; graph.len() as usize]?;
     let mut bits = Vec::new(alloc);
     for table in tables {
-        walk_cone(graph, table.leaves.leaves(), table.lit.0 / 2, walk)?;
-        push_table(graph, table, walk.order(), pack, lits, &mut bits)?;
+        push_table(graph, &free, table, &mut kept, walk, pack, lits, &mut bits)?;
     }
     Ok(bits)
 }
@@ -140,7 +181,7 @@ fn make_pack(
     params: &Params,
 ) -> Result<Pack, AllocError>
     requires mapped { IsMapped graph.now template.now.luts }
-    requires light { IsLight graph.now template.now.luts }
+    requires light { IsMakeable graph.now template.now.luts }
     requires count { param_count graph.now.kinds ≡ length params.now.list }
     requires names { AreNamed params.now.list }
     ensures pack { IfOk result (λ pack. IsPackOf graph.now template.now.luts params.now.list pack) }
@@ -159,9 +200,11 @@ fn make_pack(
 
 /// The functions of a template's bits, as a pack.
 ///
-/// The cone of each LUT is walked once. For each address of the LUT, one pass over the postorder builds the functions of its
-/// nodes, each once. So time is linear in the work of the LUTs, and the pack has at most as many nodes. The depth of calls
-/// doesn't grow with the graph.
+/// For each address of a LUT, one pass over the postorder of its cone builds the functions of its nodes, each once. The
+/// function of a node above no leaf of a LUT is the same at each address, so it is built once, at the first address whose LUT
+/// has the node in its cone, and passes for later addresses leave it out. So time is at most linear in the graph and in the
+/// work of the LUTs by either rule, and the pack has at most as many nodes as this work. The depth of calls doesn't grow with
+/// the graph.
 ///
 /// # Errors
 /// Only if memory runs out.
@@ -172,7 +215,7 @@ pub fn functions(
     params: &Params,
 ) -> Result<Pack, AllocError>
     requires mapped { IsMapped graph.now template.now.luts }
-    requires light { IsLight graph.now template.now.luts }
+    requires light { IsMakeable graph.now template.now.luts }
     requires count { param_count graph.now.kinds ≡ length params.now.list }
     requires names { AreNamed params.now.list }
     ensures pack { IfOk result (λ pack. IsPackOf graph.now template.now.luts params.now.list pack) }

@@ -26,7 +26,7 @@ module _ (files : Files) (words : CertWords) (settled : IsAuditSettled files wor
   -- files hold one list of roots
   roots_once : (a b : Source) (g h : Aig) (roots others : RootsValue) → HasGraph files words.source a g roots → HasGraph files words.source b h others → roots ≡ others
   roots_once a b g h roots others x y =
-      let here : IsBuilt b g roots = subst (λ s. IsBuilt s g roots) (settled_once files words.source a b settled.source x.has y.has) x.built in
+      let here : IsBuilt words.source.rule b g roots = subst (λ s. IsBuilt words.source.rule s g roots) (settled_once files words.source a b settled.source x.has y.has) x.built in
       same_roots b (settled.source.made b y.has).one_graph g h roots others here.is_graph y.built.is_graph
 
   -- a refusal of the certificate for a graph is one for another that the files hold

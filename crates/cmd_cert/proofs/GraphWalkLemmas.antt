@@ -8,7 +8,7 @@ module _ (files : Files) (words : CertWords) (settled : IsSourceSettled ToGraph 
   -- files hold one graph
   pub graph_once : (a b : Source) (g h : Aig) (roots others : RootsValue) → HasGraph files words.source a g roots → HasGraph files words.source b h others → g ≡ h
   graph_once a b g h roots others x y =
-      let here : IsBuilt b g roots = subst (λ s. IsBuilt s g roots) (settled_once files words.source a b settled x.has y.has) x.built in
+      let here : IsBuilt words.source.rule b g roots = subst (λ s. IsBuilt words.source.rule s g roots) (settled_once files words.source a b settled x.has y.has) x.built in
       same_graph b (settled.made b y.has).one_graph g h roots others here.is_graph y.built.is_graph
 
   -- where that is normal, the certificate is settled

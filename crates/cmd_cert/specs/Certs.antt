@@ -55,7 +55,7 @@ abbrev pub cert_words : Option SourceWords → List ℕ → Option CertWords
 cert_words None cert = None
 cert_words (Some source) cert = Some (record { source = source; cert = cert })
 
--- the words NAME K NETLIST PARAMS CERT, and the rule that says how nodes are labelled
+-- the words NAME K NETLIST PARAMS CERT, and the rule that says how many nodes are too many, and how they are labelled
 abbrev pub cert_words_of : Rule → List ℕ → List (List ℕ) → Option CertWords
 cert_words_of rule name (command ∷ k ∷ netlist ∷ params ∷ cert ∷ []) = if bytes_eq command name then cert_words (source_words rule (k_of k) netlist params) cert else None
 cert_words_of rule name words = None

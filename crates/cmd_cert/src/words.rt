@@ -2,7 +2,6 @@
 ghost use Rattle.std.specs.Prelude.{◌≡◌, map, string_bytes, codes, IfSome};
 ghost use Rattle.std.specs.Option.{option_map};
 ghost use Rattle.cmd_stations.specs.Source.{IsTableSize};
-ghost use Rattle.cover_pick.specs.declared.rule.Rule.TheVariants.{FewestLeaves};
 ghost use Rattle.cmd_cert.specs.Certs.{cert_words_of, cert_seen, cert_word};
 
 use cmd_base::File;
@@ -16,8 +15,8 @@ pub struct CertWords<'a> {
     pub cert: &'a str,
 }
 
-// Reads the arguments of the command with this name. The labels are by all cuts for the rule of the fewest leaves, and otherwise by
-// flow.
+// Reads the arguments of the command with this name. The rule limits the number of nodes. Labels are by all cuts for the rule of the
+// fewest leaves, and otherwise by flow.
 fn read_words<'a>(rule: Rule, name: &str, words: &'a [String]) -> Option<CertWords<'a>>
     ensures value { option_map (λ w. cert_seen w) result ≡ cert_words_of rule name.now (map string_bytes words.now) }
     ensures range { IfSome result (λ w. IsTableSize w.source.k) }
@@ -39,13 +38,13 @@ pub fn read_prove(rule: Rule, words: &[String]) -> Option<CertWords<'_>>
     read_words(rule, "prove", words)
 }
 
-/// Reads the arguments `audit K NETLIST PARAMS CERT`. `None` if and only if they have another form. Nothing is labelled, so the rule
-/// is a placeholder, the fewest leaves.
-pub fn read_audit(words: &[String]) -> Option<CertWords<'_>>
-    ensures value { option_map (λ w. cert_seen w) result ≡ cert_words_of FewestLeaves (codes "audit") (map string_bytes words.now) }
+/// Reads the arguments `audit K NETLIST PARAMS CERT`. `None` if and only if they have another form. Nothing is labelled: the rule
+/// only limits the number of nodes.
+pub fn read_audit(rule: Rule, words: &[String]) -> Option<CertWords<'_>>
+    ensures value { option_map (λ w. cert_seen w) result ≡ cert_words_of rule (codes "audit") (map string_bytes words.now) }
     ensures range { IfSome result (λ w. IsTableSize w.source.k) }
 {
-    read_words(Rule::FewestLeaves, "audit", words)
+    read_words(rule, "audit", words)
 }
 
 /// The argument that names a file.

@@ -1,6 +1,6 @@
 -- The walk of `graph`: a source circuit is read, and its graph is written as the text of its circuit.
 use Rattle.std.specs.Prelude.{ℕ, if◌then◌else◌, List, [], ◌∷◌, bytes_eq, codes, Option, Some, None, decimal}
-use Rattle.cover_pick.specs.declared.rule.Rule.TheVariants.{FewestLeaves}
+use Rattle.cover_pick.specs.declared.rule.Rule.{Rule}
 use Rattle.cmd_graph.specs.declared.words.GraphWords.{GraphWords as GraphWordsRead}
 use Rattle.cmd_stations.specs.Source.{SourceWords, source_seen, HasGraph}
 use Rattle.std.specs.List.{concat}
@@ -30,11 +30,11 @@ pub record GraphWords : Type 0 where
   pub source : SourceWords
   pub out : List ℕ
 
--- the words graph NETLIST PARAMS OUT; no tables are made, so 0 stands for their size, and the fewest leaves for their rule
-abbrev pub graph_words_of : List (List ℕ) → Option GraphWords
-graph_words_of (command ∷ netlist ∷ params ∷ out ∷ []) =
-    if bytes_eq command (codes "graph") then Some (record { source = record { rule = FewestLeaves; k = 0; netlist = netlist; params = params }; out = out }) else None
-graph_words_of words = None
+-- the words graph NETLIST PARAMS OUT, and the rule that says how many nodes are too many; no tables are made, so 0 stands for their size
+abbrev pub graph_words_of : Rule → List (List ℕ) → Option GraphWords
+graph_words_of rule (command ∷ netlist ∷ params ∷ out ∷ []) =
+    if bytes_eq command (codes "graph") then Some (record { source = record { rule = rule; k = 0; netlist = netlist; params = params }; out = out }) else None
+graph_words_of rule words = None
 
 -- words as they are read
 abbrev pub graph_seen : GraphWordsRead → GraphWords

@@ -13,17 +13,18 @@ pub struct GraphWords<'a> {
     pub out: &'a str,
 }
 
-// A placeholder for the number of LUT inputs, since no LUTs are computed. The rule is a placeholder too, the fewest leaves.
+// A placeholder for the number of LUT inputs, since no LUTs are computed.
 const NO_TABLES: u8 = 0;
 
-/// Reads the arguments `graph NETLIST PARAMS OUT`. `None` if and only if they have another form.
-pub fn read_graph_words(words: &[String]) -> Option<GraphWords<'_>>
-    ensures { option_map (λ w. graph_seen w) result ≡ graph_words_of (map string_bytes words.now) }
+/// Reads the arguments `graph NETLIST PARAMS OUT`. The rule limits the number of nodes. `None` if and only if the arguments have
+/// another form.
+pub fn read_graph_words(rule: Rule, words: &[String]) -> Option<GraphWords<'_>>
+    ensures { option_map (λ w. graph_seen w) result ≡ graph_words_of rule (map string_bytes words.now) }
 {
     match words {
         [command, netlist, params, out] if command.as_str() == "graph" => Some(GraphWords {
             source: SourceWords {
-                rule: Rule::FewestLeaves,
+                rule,
                 k: NO_TABLES,
                 netlist: netlist.as_str(),
                 params: params.as_str(),

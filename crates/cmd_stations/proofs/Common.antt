@@ -10,7 +10,7 @@ pub use Rattle.std.specs.Prelude.{slice_get, if◌then◌else◌, IsErrAnd, IfEr
 pub use Rattle.aig_build.specs.CoverGraph.{Literals}
 pub use Rattle.aig_build.specs.NetlistCycle.{source_values, literal_values}
 pub use Rattle.aig_build.specs.NetlistGraph.{none, more, MakesAll, IsGraphOf, HasTooManyNodes, HasOneGraph, input_names, source_kinds, IsSourceLiteral, Makes, a_source}
-pub use Rattle.aig_build.specs.declared.TheConstants.{MOST_NODES}
+pub use Rattle.cmd_stations.specs.declared.limits.TheConstants.{GRAPH_ROOM}
 pub use Rattle.aig_core.specs.Aig.{Aig, node_count, IsSource, first_and, AreNormal}
 pub use Rattle.aig_core.specs.Roots.{RootsValue, roots_of, lits_of}
 pub use Rattle.aig_core.specs.Value.{FitsGraph, value_of, HasOneFit}
@@ -79,7 +79,7 @@ pub use Rattle.tl_io.specs.Shelf.{Files, ShelfSeen, apart, written, emptied}
 pub use Rattle.tl_io.specs.Sink.{SinkSeen, IsPut}
 pub use Rattle.tl_text.specs.Once.{AreOnce}
 pub use Rattle.tl_text.specs.declared.logical_lines.TheConstants.{MOST_BYTES}
-pub use Rattle.cmd_stations.specs.Mapped.{Aim, ToTables, IsUnmade, IsBuilt, IsUnlabelled, unbuilt, many_cuts, ToGraph, ToLabels, IsLabelled, HasSupply, AreLabelsBy, HasManyCutsBy, HasOneLimit, HasManyCuts, IsChosen, IsUnchosen, cuts, work, IsLeastMapping, IsMapped, IsUnmappedGraph, IsUnmapped, too_many, unchosen, HasFewLeaves}
+pub use Rattle.cmd_stations.specs.Mapped.{most_nodes, Aim, ToTables, IsUnmade, IsBuilt, IsUnlabelled, unbuilt, many_cuts, ToGraph, ToLabels, IsLabelled, HasSupply, AreLabelsBy, HasManyCutsBy, HasOneLimit, HasManyCuts, IsChosen, IsUnchosen, cuts, work, IsLeastMapping, IsMapped, IsUnmappedGraph, IsUnmapped, too_many, unchosen, HasFewLeaves}
 pub use Rattle.cmd_stations.specs.FileWrites.{WritesAll, WritesFile}
 pub use Rattle.cmd_stations.specs.Host.{IsHostStart, SamePacksReplay}
 pub use Rattle.cmd_stations.specs.Texts.{LibraryRefusal, is_aag, DenotesLibrary, HasOneLibrary, HasText, IsNetlistText, NetlistRefusal, IsParamsRefusal, HasBytes, IsOverlong, fault, unsound, IsScriptRefusal, IsLongText}

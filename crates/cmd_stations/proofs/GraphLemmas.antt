@@ -1,5 +1,5 @@
 -- A graph has one template, or is refused for one reason.
-use Rattle.cmd_stations.proofs.Common.{◌≡◌, ℕ, ◌≤◌, ◌/◌, [], ◌∷◌, length, sym, ap, subst, inl, inr, arith, In, Regular, Aig, IsSource, RootsValue, roots_of, Lut, IsTableOf, source, free, node, IsMapping, IsLeast, TemplateValue, HasFewLeaves, IsLeastMapping, ◌<◌, List, Some, ◌∙◌, MOST_NODES, Literals, IsGraphOf, HasTooManyNodes, HasOneGraph, fun_ext, same_Some, none-some, node_count, IsLimit, CutErr, LabelsValue, label_of, AreLabelled, HasOneLabelling, Rule, IsTemplate, IsTooMuch, PickErr, RefusalValue, Source, IsChosen, IsUnchosen, cuts, work, IsMapped, IsUnmappedGraph, IsUnmapped, too_many, unchosen, IsBuilt, IsUnlabelled, unbuilt, many_cuts, IsGraphSettled, IsMappingSettled, IsBuildingSettled, IsLabellingSettled, AreMade, AreTables, Tables, HasSupply, AreLabelsBy, HasOneLimit, Supply, Rows, Sets, FewestLeaves, LeastCost, AreLeastHeights, AreLowsOf}
+use Rattle.cmd_stations.proofs.Common.{◌≡◌, ℕ, ◌≤◌, ◌/◌, [], ◌∷◌, length, sym, ap, subst, inl, inr, arith, In, Regular, Aig, IsSource, RootsValue, roots_of, Lut, IsTableOf, source, free, node, IsMapping, IsLeast, TemplateValue, HasFewLeaves, IsLeastMapping, ◌<◌, List, Some, ◌∙◌, most_nodes, GRAPH_ROOM, Literals, IsGraphOf, HasTooManyNodes, HasOneGraph, fun_ext, same_Some, none-some, node_count, IsLimit, CutErr, LabelsValue, label_of, AreLabelled, HasOneLabelling, Rule, IsTemplate, IsTooMuch, PickErr, RefusalValue, Source, IsChosen, IsUnchosen, cuts, work, IsMapped, IsUnmappedGraph, IsUnmapped, too_many, unchosen, IsBuilt, IsUnlabelled, unbuilt, many_cuts, IsGraphSettled, IsMappingSettled, IsBuildingSettled, IsLabellingSettled, AreMade, AreTables, Tables, HasSupply, AreLabelsBy, HasOneLimit, Supply, Rows, Sets, FewestLeaves, LeastCost, AreLeastHeights, AreLowsOf}
 use Rattle.cut_sets.specs.Cuts.{CanBeLeaf}
 use Rattle.cut_enum.specs.Table.{AreRows}
 use Rattle.cut_enum.specs.Refusals.{refusal_of as cut_refusal}
@@ -82,7 +82,7 @@ module _ (rule : Rule) (g : Aig) (k : ℕ) (roots : RootsValue) (label : ℕ →
     (one : (other : ℕ → ℕ) (some : Supply) → HasSupply rule g k other some → (other ≡ label) × (some ≡ supply))
     (no_limit : rule ≡ FewestLeaves → (e : CutErr) → IsLimit g k e → ⊥)
     (same_template : (t u : TemplateValue) → IsTemplate supply g label roots t → IsTemplate supply g label roots u → t ≡ u)
-    (apart : (t : TemplateValue) → IsTemplate supply g label roots t → IsLight g t.luts → IsTooMuch supply g label (roots_of roots) → ⊥)
+    (apart : (t : TemplateValue) → IsTemplate supply g label roots t → IsLight supply g t.luts → IsTooMuch supply g label (roots_of roots) → ⊥)
     (big : 2 ≤ k) (mapping : (t : TemplateValue) → IsTemplate supply g label roots t → IsMapping g k (roots_of roots) t.luts t.bits)
     (least : (t : TemplateValue) → IsTemplate supply g label roots t → IsLeast g k (roots_of roots) t.luts t.depth) where
   at_supply : (P : Supply → (ℕ → ℕ) → Type 0) (other : ℕ → ℕ) (some : Supply) → HasSupply rule g k other some → P some other → P supply label
@@ -104,7 +104,7 @@ module _ (rule : Rule) (g : Aig) (k : ℕ) (roots : RootsValue) (label : ℕ →
 
       chosen_or : (t : TemplateValue) (r : RefusalValue) → IsChosen rule g k roots t → IsUnchosen rule g k roots r → ⊥
       chosen_or t r c (cuts all e l told) = no_limit all e l
-      chosen_or t r c (work o told) = apart t (chosen_here t c) c.light (at_supply (λ s l. IsTooMuch s g l (roots_of roots)) o.label o.supply o.has o.too_much)
+      chosen_or t r c (work o told) = apart t (chosen_here t c) (at_supply (λ s _. IsLight s g t.luts) c.label c.supply c.has c.light) (at_supply (λ s l. IsTooMuch s g l (roots_of roots)) o.label o.supply o.has o.too_much)
 
       refused : (r s : RefusalValue) → IsUnchosen rule g k roots r → IsUnchosen rule g k roots s → r ≡ s
       refused r s (cuts all e l told) other = absurd (no_limit all e l)
@@ -131,7 +131,7 @@ work_is pick_err.Memory r is = absurd (none-some r is)
 -- the graph of a source circuit is the only one
 module _ (source : Source) (one : HasOneGraph source.netlist.library source.netlist.flat source.params.list) where
   abbrev pub IsGraph : Aig → RootsValue → Type 0
-  IsGraph g roots = IsGraphOf source.netlist.library source.netlist.flat source.params.list g roots
+  IsGraph g roots = IsGraphOf source.netlist.library source.netlist.flat source.params.list GRAPH_ROOM g roots
 
   pub same_graph : (g h : Aig) (roots others : RootsValue) → IsGraph g roots → IsGraph h others → g ≡ h
   same_graph g h roots others a b =
@@ -148,34 +148,34 @@ module _ (source : Source) (one : HasOneGraph source.netlist.library source.netl
       ap (λ o. record { outputs = o; next = roots.next }) parts.0 ∙ ap (λ n. record { outputs = others.outputs; next = n }) parts.1
 
   -- it has too many nodes or it doesn't
-  few_or_many : (g : Aig) (roots : RootsValue) → IsGraph g roots → length g.pairs ≤ MOST_NODES → HasTooManyNodes source.netlist.library source.netlist.flat source.params.list → ⊥
-  few_or_many g roots a few over =
+  few_or_many : (most : ℕ) (g : Aig) (roots : RootsValue) → IsGraph g roots → length g.pairs ≤ most → HasTooManyNodes source.netlist.library source.netlist.flat source.params.list most → ⊥
+  few_or_many most g roots a few over =
       let made : a.made ≡ over.made = one.only a.made over.made a.are_made over.are_made in
       let count : length g.pairs ≡ length over.made.pairs = ap length (a.pairs ∙ ap (λ (m : Literals). m.pairs) made) in
-      let many : MOST_NODES < length over.made.pairs = over.many in
+      let many : most < length over.made.pairs = over.many in
       omega arith
 
   -- So it is settled.
-  pub building_settled : IsBuildingSettled source
-  building_settled = record { one_graph = one; not_both = λ g roots r built u. few_or_many g roots built.is_graph built.nodes u.too_many }
+  pub building_settled : (rule : Rule) → IsBuildingSettled rule source
+  building_settled rule = record { one_graph = one; not_both = λ g roots r built u. few_or_many (most_nodes rule) g roots built.is_graph built.nodes u.too_many }
 
   -- Its labels are settled where it has too many nodes,
-  pub full_labelling : (rule : Rule) (k : ℕ) → HasTooManyNodes source.netlist.library source.netlist.flat source.params.list → IsLabellingSettled rule source k
+  pub full_labelling : (rule : Rule) (k : ℕ) → HasTooManyNodes source.netlist.library source.netlist.flat source.params.list (most_nodes rule) → IsLabellingSettled rule source k
   full_labelling rule k over = record {
-    building = building_settled;
-    not_both = λ g roots labels r built labelled u. few_or_many g roots built.is_graph built.nodes over;
+    building = building_settled rule;
+    not_both = λ g roots labels r built labelled u. few_or_many (most_nodes rule) g roots built.is_graph built.nodes over;
     one_refusal = once;
   }
     where
       once : (r s : RefusalValue) → IsUnlabelled rule source k r → IsUnlabelled rule source k s → r ≡ s
       once r s (unbuilt u) (unbuilt v) = same_Some r s (sym u.tells ∙ v.tells)
-      once r s (many_cuts all u) other = absurd (few_or_many u.graph u.roots u.built.is_graph u.built.nodes over)
-      once r s some (many_cuts all u) = absurd (few_or_many u.graph u.roots u.built.is_graph u.built.nodes over)
+      once r s (many_cuts all u) other = absurd (few_or_many (most_nodes rule) u.graph u.roots u.built.is_graph u.built.nodes over)
+      once r s some (many_cuts all u) = absurd (few_or_many (most_nodes rule) u.graph u.roots u.built.is_graph u.built.nodes over)
 
   -- and where a graph of it stands, as its limit on cuts is.
-  pub labelling_settled : (rule : Rule) (k : ℕ) (g : Aig) (roots : RootsValue) → IsGraph g roots → length g.pairs ≤ MOST_NODES → HasOneLimit rule g k → IsLabellingSettled rule source k
+  pub labelling_settled : (rule : Rule) (k : ℕ) (g : Aig) (roots : RootsValue) → IsGraph g roots → length g.pairs ≤ most_nodes rule → HasOneLimit rule g k → IsLabellingSettled rule source k
   labelling_settled rule k g roots is few limit = record {
-    building = building_settled;
+    building = building_settled rule;
     not_both = labelled_or;
     one_refusal = once;
   }
@@ -183,33 +183,33 @@ module _ (source : Source) (one : HasOneGraph source.netlist.library source.netl
       limit_here : (h : Aig) (others : RootsValue) (e : CutErr) → IsGraph h others → IsLimit h k e → IsLimit g k e
       limit_here h others e a l = subst (λ x. IsLimit x k e) (same_graph h g others roots a is) l
 
-      labelled_or : (h : Aig) (others : RootsValue) (labels : List ℕ) (r : RefusalValue) → IsBuilt source h others → AreLabelsBy rule h k labels → IsUnlabelled rule source k r → ⊥
-      labelled_or h others labels r built labelled (unbuilt u) = few_or_many g roots is few u.too_many
+      labelled_or : (h : Aig) (others : RootsValue) (labels : List ℕ) (r : RefusalValue) → IsBuilt rule source h others → AreLabelsBy rule h k labels → IsUnlabelled rule source k r → ⊥
+      labelled_or h others labels r built labelled (unbuilt u) = few_or_many (most_nodes rule) g roots is few u.too_many
       labelled_or h others labels r built labelled (many_cuts all u) =
           limit.excluded u.e labels all (limit_here u.graph u.roots u.e u.built.is_graph u.limit) (subst (λ x. AreLabelsBy rule x k labels) (same_graph h g others roots built.is_graph is) labelled)
 
       once : (r s : RefusalValue) → IsUnlabelled rule source k r → IsUnlabelled rule source k s → r ≡ s
-      once r s (unbuilt u) other = absurd (few_or_many g roots is few u.too_many)
-      once r s some (unbuilt u) = absurd (few_or_many g roots is few u.too_many)
+      once r s (unbuilt u) other = absurd (few_or_many (most_nodes rule) g roots is few u.too_many)
+      once r s some (unbuilt u) = absurd (few_or_many (most_nodes rule) g roots is few u.too_many)
       once r s (many_cuts all u) (many_cuts all2 v) =
           same_Some r s (sym u.tells ∙ (ap (λ x. cut_refusal x) (limit.once u.e v.e all (limit_here u.graph u.roots u.e u.built.is_graph u.limit) (limit_here v.graph v.roots v.e v.built.is_graph v.limit)) ∙ v.tells))
 
   -- A source circuit with too many nodes is settled.
-  pub full_settled : (rule : Rule) (k : ℕ) → HasTooManyNodes source.netlist.library source.netlist.flat source.params.list → IsMappingSettled rule source k
+  pub full_settled : (rule : Rule) (k : ℕ) → HasTooManyNodes source.netlist.library source.netlist.flat source.params.list (most_nodes rule) → IsMappingSettled rule source k
   full_settled rule k over = record {
-    maps = λ t m. absurd (few_or_many m.graph m.roots m.is_graph m.nodes over);
-    one_template = λ t u m n. absurd (few_or_many m.graph m.roots m.is_graph m.nodes over);
-    not_both = λ t r m u. few_or_many m.graph m.roots m.is_graph m.nodes over;
+    maps = λ t m. absurd (few_or_many (most_nodes rule) m.graph m.roots m.is_graph m.nodes over);
+    one_template = λ t u m n. absurd (few_or_many (most_nodes rule) m.graph m.roots m.is_graph m.nodes over);
+    not_both = λ t r m u. few_or_many (most_nodes rule) m.graph m.roots m.is_graph m.nodes over;
     one_refusal = once;
   }
     where
       once : (r s : RefusalValue) → IsUnmapped rule source k r → IsUnmapped rule source k s → r ≡ s
       once r s (too_many h e) (too_many h2 e2) = same_Some r s (sym e ∙ e2)
-      once r s (unchosen u) other = absurd (few_or_many u.graph u.roots u.is_graph u.nodes over)
-      once r s some (unchosen u) = absurd (few_or_many u.graph u.roots u.is_graph u.nodes over)
+      once r s (unchosen u) other = absurd (few_or_many (most_nodes rule) u.graph u.roots u.is_graph u.nodes over)
+      once r s some (unchosen u) = absurd (few_or_many (most_nodes rule) u.graph u.roots u.is_graph u.nodes over)
 
   -- So is one whose graph is settled.
-  pub mapping_settled : (rule : Rule) (k : ℕ) (g : Aig) (roots : RootsValue) → IsGraph g roots → length g.pairs ≤ MOST_NODES → IsGraphSettled rule g k roots → IsMappingSettled rule source k
+  pub mapping_settled : (rule : Rule) (k : ℕ) (g : Aig) (roots : RootsValue) → IsGraph g roots → length g.pairs ≤ most_nodes rule → IsGraphSettled rule g k roots → IsMappingSettled rule source k
   mapping_settled rule k g roots is few graph = record {
     maps = λ t m.
         subst (λ x. IsLeastMapping x k m.roots t) (same_graph g m.graph roots m.roots is m.is_graph)
@@ -226,12 +226,12 @@ module _ (source : Source) (one : HasOneGraph source.netlist.library source.netl
       refused_here r u = subst (λ x. IsUnchosen rule g k x r) (same_roots u.graph g u.roots roots u.is_graph is) (subst (λ x. IsUnchosen rule x k u.roots r) (same_graph u.graph g u.roots roots u.is_graph is) u.unchosen)
 
       mapped_or : (t : TemplateValue) (r : RefusalValue) → IsMapped rule source k t → IsUnmapped rule source k r → ⊥
-      mapped_or t r m (too_many over e) = few_or_many g roots is few over
+      mapped_or t r m (too_many over e) = few_or_many (most_nodes rule) g roots is few over
       mapped_or t r m (unchosen u) = graph.not_both t r (chosen_here m.graph m.roots t m.is_graph m.chosen) (refused_here r u)
 
       once : (r s : RefusalValue) → IsUnmapped rule source k r → IsUnmapped rule source k s → r ≡ s
-      once r s (too_many over e) other = absurd (few_or_many g roots is few over)
-      once r s some (too_many over e) = absurd (few_or_many g roots is few over)
+      once r s (too_many over e) other = absurd (few_or_many (most_nodes rule) g roots is few over)
+      once r s some (too_many over e) = absurd (few_or_many (most_nodes rule) g roots is few over)
       once r s (unchosen u) (unchosen v) = graph.one_refusal r s (refused_here r u) (refused_here s v)
 
 -- tables by the template that was chosen

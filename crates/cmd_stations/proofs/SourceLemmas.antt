@@ -1,5 +1,5 @@
 -- The sources and the roots of a source circuit's graph: how many there are, the shape of the sources, how many of them are parameters, and their values in a cycle.
-use Rattle.cmd_stations.proofs.Common.{◌≡◌, ℕ, zero, suc, ◌+◌, ◌-◌, ◌<◌, ◌≤◌, Bool, true, ◌&&◌, leb, ltb, List, ◌++◌, length, map, replicate, Some, refl, sym, ap, ◌∙◌, subst, inl, inr, ◌⊎◌, arith, append_assoc, length-map, length-append, length-replicate, same_Some, slice_get_within, and_parts, and_from, or_cases, or_left, or_right, leb-true, le-leb, lt-ltb, ltb-true, cases_lt, get_left, replicate_at, AreOnce, Param, param_names, regular_names, Kind, Regular, Parameter, Aig, input_names, source_kinds, source_values, Shape, is_regular, last_source, HasShape, AreSourceValues, Source, width_of, shape_of, ◌∷◌, LibraryValue, FlatLatch, Net, OutPort, FlatValue, Lit, Pair, RootsValue, Literals, MakesAll, none, more, IsGraphOf}
+use Rattle.cmd_stations.proofs.Common.{GRAPH_ROOM, ◌≡◌, ℕ, zero, suc, ◌+◌, ◌-◌, ◌<◌, ◌≤◌, Bool, true, ◌&&◌, leb, ltb, List, ◌++◌, length, map, replicate, Some, refl, sym, ap, ◌∙◌, subst, inl, inr, ◌⊎◌, arith, append_assoc, length-map, length-append, length-replicate, same_Some, slice_get_within, and_parts, and_from, or_cases, or_left, or_right, leb-true, le-leb, lt-ltb, ltb-true, cases_lt, get_left, replicate_at, AreOnce, Param, param_names, regular_names, Kind, Regular, Parameter, Aig, input_names, source_kinds, source_values, Shape, is_regular, last_source, HasShape, AreSourceValues, Source, width_of, shape_of, ◌∷◌, LibraryValue, FlatLatch, Net, OutPort, FlatValue, Lit, Pair, RootsValue, Literals, MakesAll, none, more, IsGraphOf}
 use Rattle.std.specs.List.{slice_get}
 use Rattle.list_laws.proofs.TwoLists.{get_right}
 use Rattle.bit_fun.specs.Parameters.{param_count}
@@ -165,7 +165,7 @@ made_count library flat params {nets = nets} {made = made} (more net rest this o
     let there : length nets ≡ length (net ∷ rest) = ap (λ (ns : List Net). length ns) are in
     omega arith
 
-module _ (source : Source) (g : Aig) (roots : RootsValue) (is : IsGraphOf source.netlist.library source.netlist.flat source.params.list g roots) where
+module _ (source : Source) (g : Aig) (roots : RootsValue) (is : IsGraphOf source.netlist.library source.netlist.flat source.params.list GRAPH_ROOM g roots) where
   abbrev flat : FlatValue
   flat = source.netlist.flat
 

@@ -1,5 +1,5 @@
 -- The LUTs of a source circuit that was read can be written: they are few, their numbers are small, and an output that is a regular input has this input as its root.
-use Rattle.cmd_stations.proofs.Common.{◌≡◌, ℕ, zero, suc, ◌+◌, ◌-◌, ◌*◌, ◌/◌, ◌^◌, ◌<◌, ◌≤◌, Bool, true, cond, ◌&&◌, leb, ltb, List, [], length, map, Some, refl, sym, ap, ◌∙◌, inl, inr, subst, subst₂, arith, slice_get, slice_index_or, option_map, and_from, or_left, le-leb, none-some, same_Some, slice_get-map, slice_get_within, get_or_from_slice_get, In, place_in, length-filter_le, get_left, AreOnce, LibraryValue, FlatLatch, OutPort, FlatValue, Places, IsFlat, IsNumbered, IsNetOf, AreNetsOf, In-filter, Param, param_names, regular_names, is_split, Lit, Pair, Aig, node_count, MOST_NODES, Literals, input_names, IsSourceLiteral, Makes, a_source, MakesAll, none, more, Lut, IsTableOf, bits_of, TemplateValue, IsPlayable, is_regular, last_source, HasPorts, AreTablesOf, naming_of, literal_name, latch_name, Source, shape_of, HasTables, IsReadSource}
+use Rattle.cmd_stations.proofs.Common.{◌≡◌, ℕ, zero, suc, ◌+◌, ◌-◌, ◌*◌, ◌/◌, ◌^◌, ◌<◌, ◌≤◌, Bool, true, cond, ◌&&◌, leb, ltb, List, [], length, map, Some, refl, sym, ap, ◌∙◌, inl, inr, subst, subst₂, arith, slice_get, slice_index_or, option_map, and_from, or_left, le-leb, none-some, same_Some, slice_get-map, slice_get_within, get_or_from_slice_get, In, place_in, length-filter_le, get_left, AreOnce, LibraryValue, FlatLatch, OutPort, FlatValue, Places, IsFlat, IsNumbered, IsNetOf, AreNetsOf, In-filter, Param, param_names, regular_names, is_split, Lit, Pair, Aig, node_count, GRAPH_ROOM, Literals, input_names, IsSourceLiteral, Makes, a_source, MakesAll, none, more, Lut, IsTableOf, bits_of, TemplateValue, IsPlayable, is_regular, last_source, HasPorts, AreTablesOf, naming_of, literal_name, latch_name, Source, shape_of, HasTables, IsReadSource}
 use Rattle.netlist.specs.declared.flat.Net.{Net as FlatNet}
 use Rattle.netlist.specs.declared.flat.Net.TheVariants.{Input, Latch}
 use Rattle.netlist.specs.Flat as flat_fields
@@ -178,11 +178,11 @@ module _ (source : Source) (read : IsReadSource source) where
     small_node k u (mapping.IsTableOf.free (inr is) leaves) = let within : u.lit.0 / 2 - 1 < length g.kinds = slice_get_within g.kinds (u.lit.0 / 2 - 1) _ is.is in omega (arith, within)
     small_node k u (mapping.IsTableOf.node is cut) = is.1
 
-    small : length g.pairs ≤ MOST_NODES → (u : Lut) → In t.luts u → u.lit.0 < 2 ^ 32
+    small : length g.pairs ≤ GRAPH_ROOM → (u : Lut) → In t.luts u → u.lit.0 < 2 ^ 32
     small nodes u i =
         let below : u.lit.0 / 2 < node_count g = small_node tables.k u (tables.least.mapping.table u i) in
         let kinds : length g.kinds ≤ 8454143 = few_kinds in
-        let pairs : length g.pairs ≤ 131072 = nodes in
+        let pairs : length g.pairs ≤ 1048576 = nodes in
         omega (arith, below, kinds, pairs)
 
     few_bits : t.bits < 2 ^ 32
@@ -193,7 +193,7 @@ module _ (source : Source) (read : IsReadSource source) where
         omega (arith, sum, worked, light)
 
     -- The tables can be written.
-    pub tables_written : length g.pairs ≤ MOST_NODES → IsPlayable t (shape_of source) → AreTablesOf flat params t
+    pub tables_written : length g.pairs ≤ GRAPH_ROOM → IsPlayable t (shape_of source) → AreTablesOf flat params t
     tables_written nodes playable = record {
       roots = roots_are;
       playable = playable;

@@ -1,6 +1,7 @@
 -- What a command makes of its source circuit: its graph, the labels of the graph's nodes, or LUTs by a rule; and what it is refused for on the way.
 use Rattle.std.specs.Prelude.{◌≡◌, ℕ, ◌≤◌, List, length, Some}
 use Rattle.aig_build.specs.declared.TheConstants.{MOST_NODES}
+use Rattle.cmd_stations.specs.declared.limits.TheConstants.{GRAPH_ROOM}
 use Rattle.aig_build.specs.declared.build_err.BuildErr.TheVariants.{TooManyNodes}
 use Rattle.aig_build.specs.NetlistGraph.{IsGraphOf, HasTooManyNodes}
 use Rattle.aig_build.specs.Refusals.{refusal_of as build_refusal}
@@ -28,6 +29,11 @@ use Rattle.run_text.specs.Lines.{header_line}
 use Rattle.tl_fault.specs.RefusalValue.{RefusalValue}
 use Rattle.cmd_stations.specs.declared.source.Source.{Source}
 
+-- how many AND nodes a graph may have, by the rule that chooses cuts of its nodes; each graph has room for as many as any
+abbrev pub most_nodes : Rule → ℕ
+most_nodes FewestLeaves = MOST_NODES
+most_nodes LeastCost = GRAPH_ROOM
+
 -- the minimal cuts of all nodes of a graph and their labels, within the limits
 pub record IsLabelled (g : Aig) (k : ℕ) (rows : List (List (List ℕ))) (labels : LabelsValue) : Type 0 where
   pub rows_are : AreRows g k (node_count g) rows
@@ -44,7 +50,7 @@ pub record IsChosen (rule : Rule) (g : Aig) (k : ℕ) (roots : RootsValue) (t : 
   pub supply : Supply
   pub has : HasSupply rule g k label supply
   pub chosen : IsTemplate supply g label roots t
-  pub light : IsLight g t.luts
+  pub light : IsLight supply g t.luts
 
 -- at most k leaves, each a regular source or an AND node, and so none a parameter
 pub record HasFewLeaves (g : Aig) (k : ℕ) (t : Lut) : Type 0 where
@@ -77,21 +83,21 @@ pub data IsUnchosen (rule : Rule) (g : Aig) (k : ℕ) (roots : RootsValue) (refu
 pub record IsMapped (rule : Rule) (source : Source) (k : ℕ) (t : TemplateValue) : Type 0 where
   pub graph : Aig
   pub roots : RootsValue
-  pub is_graph : IsGraphOf source.netlist.library source.netlist.flat source.params.list graph roots
-  pub nodes : length graph.pairs ≤ MOST_NODES
+  pub is_graph : IsGraphOf source.netlist.library source.netlist.flat source.params.list GRAPH_ROOM graph roots
+  pub nodes : length graph.pairs ≤ most_nodes rule
   pub chosen : IsChosen rule graph k roots t
 
 -- what its graph is refused for, when there are no too many nodes
 pub record IsUnmappedGraph (rule : Rule) (source : Source) (k : ℕ) (refusal : RefusalValue) : Type 0 where
   pub graph : Aig
   pub roots : RootsValue
-  pub is_graph : IsGraphOf source.netlist.library source.netlist.flat source.params.list graph roots
-  pub nodes : length graph.pairs ≤ MOST_NODES
+  pub is_graph : IsGraphOf source.netlist.library source.netlist.flat source.params.list GRAPH_ROOM graph roots
+  pub nodes : length graph.pairs ≤ most_nodes rule
   pub unchosen : IsUnchosen rule graph k roots refusal
 
 -- what a source circuit is refused for when it is mapped: too many AND nodes, else what its graph is refused for
 pub data IsUnmapped (rule : Rule) (source : Source) (k : ℕ) (refusal : RefusalValue) : Type 0 where
-  too_many : HasTooManyNodes source.netlist.library source.netlist.flat source.params.list → build_refusal TooManyNodes ≡ Some refusal → IsUnmapped rule source k refusal
+  too_many : HasTooManyNodes source.netlist.library source.netlist.flat source.params.list (most_nodes rule) → build_refusal TooManyNodes ≡ Some refusal → IsUnmapped rule source k refusal
   unchosen : IsUnmappedGraph rule source k refusal → IsUnmapped rule source k refusal
 
 -- What a command makes of its source circuit: its graph, the labels of the graph's nodes, or LUTs; and what a source circuit is refused for on the way.
@@ -101,28 +107,28 @@ pub data Aim : Type 0 where
   ToTables : Aim
 
 -- the graph of a source circuit, which has no more AND nodes than it may
-pub record IsBuilt (source : Source) (graph : Aig) (roots : RootsValue) : Type 0 where
-  pub is_graph : IsGraphOf source.netlist.library source.netlist.flat source.params.list graph roots
-  pub nodes : length graph.pairs ≤ MOST_NODES
+pub record IsBuilt (rule : Rule) (source : Source) (graph : Aig) (roots : RootsValue) : Type 0 where
+  pub is_graph : IsGraphOf source.netlist.library source.netlist.flat source.params.list GRAPH_ROOM graph roots
+  pub nodes : length graph.pairs ≤ most_nodes rule
 
 -- it has too many
-pub record IsUnbuilt (source : Source) (refusal : RefusalValue) : Type 0 where
-  pub too_many : HasTooManyNodes source.netlist.library source.netlist.flat source.params.list
+pub record IsUnbuilt (rule : Rule) (source : Source) (refusal : RefusalValue) : Type 0 where
+  pub too_many : HasTooManyNodes source.netlist.library source.netlist.flat source.params.list (most_nodes rule)
   pub tells : build_refusal TooManyNodes ≡ Some refusal
 
 -- a node of its graph has too many cuts
-pub record HasManyCuts (source : Source) (k : ℕ) (refusal : RefusalValue) : Type 0 where
+pub record HasManyCuts (rule : Rule) (source : Source) (k : ℕ) (refusal : RefusalValue) : Type 0 where
   pub graph : Aig
   pub roots : RootsValue
-  pub built : IsBuilt source graph roots
+  pub built : IsBuilt rule source graph roots
   pub e : CutErr
   pub limit : IsLimit graph k e
   pub tells : cut_refusal e ≡ Some refusal
 
 -- its graph's nodes aren't labelled: it has too many nodes, else one has too many cuts, where labels are by all cuts
 pub data IsUnlabelled (rule : Rule) (source : Source) (k : ℕ) (refusal : RefusalValue) : Type 0 where
-  unbuilt : IsUnbuilt source refusal → IsUnlabelled rule source k refusal
-  many_cuts : rule ≡ FewestLeaves → HasManyCuts source k refusal → IsUnlabelled rule source k refusal
+  unbuilt : IsUnbuilt rule source refusal → IsUnlabelled rule source k refusal
+  many_cuts : rule ≡ FewestLeaves → HasManyCuts rule source k refusal → IsUnlabelled rule source k refusal
 
 -- the labels of a graph's nodes that a rule goes by: those of its minimal cuts, within the limits, or the least heights of its cuts
 pub data AreLabelsBy (rule : Rule) (g : Aig) (k : ℕ) (labels : List ℕ) : Type 0 where
@@ -143,6 +149,6 @@ pub record HasOneLimit (rule : Rule) (g : Aig) (k : ℕ) : Type 0 where
 
 -- what a source circuit is refused for on the way there
 abbrev pub IsUnmade : Aim → Rule → Source → ℕ → RefusalValue → Type 0
-IsUnmade ToGraph rule source k refusal = IsUnbuilt source refusal
+IsUnmade ToGraph rule source k refusal = IsUnbuilt rule source refusal
 IsUnmade ToLabels rule source k refusal = IsUnlabelled rule source k refusal
 IsUnmade ToTables rule source k refusal = IsUnmapped rule source k refusal

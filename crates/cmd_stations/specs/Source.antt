@@ -69,7 +69,7 @@ pub record HasSource (files : Files) (words : SourceWords) (source : Source) : T
 -- the walk comes past the netlist, the list and the graph
 pub record HasGraph (files : Files) (words : SourceWords) (source : Source) (graph : Aig) (roots : RootsValue) : Type 0 where
   pub has : HasSource files words source
-  pub built : IsBuilt source graph roots
+  pub built : IsBuilt words.rule source graph roots
 
 -- past the labels of the graph's nodes
 pub record HasLabels (files : Files) (words : SourceWords) (source : Source) (graph : Aig) (roots : RootsValue) : Type 0 where
@@ -132,19 +132,19 @@ pub record IsMappingSettled (rule : Rule) (source : Source) (k : ℕ) : Type 0 w
   pub one_refusal : (r s : RefusalValue) → IsUnmapped rule source k r → IsUnmapped rule source k s → r ≡ s
 
 -- the graph of a source circuit
-pub record IsBuildingSettled (source : Source) : Type 0 where
+pub record IsBuildingSettled (rule : Rule) (source : Source) : Type 0 where
   pub one_graph : HasOneGraph source.netlist.library source.netlist.flat source.params.list
-  pub not_both : (g : Aig) (roots : RootsValue) (r : RefusalValue) → IsBuilt source g roots → IsUnbuilt source r → ⊥
+  pub not_both : (g : Aig) (roots : RootsValue) (r : RefusalValue) → IsBuilt rule source g roots → IsUnbuilt rule source r → ⊥
 
 -- the labels of its nodes
 pub record IsLabellingSettled (rule : Rule) (source : Source) (k : ℕ) : Type 0 where
-  pub building : IsBuildingSettled source
-  pub not_both : (g : Aig) (roots : RootsValue) (labels : List ℕ) (r : RefusalValue) → IsBuilt source g roots → AreLabelsBy rule g k labels → IsUnlabelled rule source k r → ⊥
+  pub building : IsBuildingSettled rule source
+  pub not_both : (g : Aig) (roots : RootsValue) (labels : List ℕ) (r : RefusalValue) → IsBuilt rule source g roots → AreLabelsBy rule g k labels → IsUnlabelled rule source k r → ⊥
   pub one_refusal : (r s : RefusalValue) → IsUnlabelled rule source k r → IsUnlabelled rule source k s → r ≡ s
 
 -- what a command makes of a source circuit
 abbrev pub IsMakingSettled : Aim → Rule → Source → ℕ → Type 0
-IsMakingSettled ToGraph rule source k = IsBuildingSettled source
+IsMakingSettled ToGraph rule source k = IsBuildingSettled rule source
 IsMakingSettled ToLabels rule source k = IsLabellingSettled rule source k
 IsMakingSettled ToTables rule source k = IsMappingSettled rule source k
 

@@ -16,6 +16,7 @@ use Rattle.cut_sets.specs.Labels.{label_at, AreLeastHeights}
 use Rattle.aig_build.specs.NetlistCycle.{HasSourceCycles}
 use Rattle.cover_pick.specs.declared.rule.Rule.{Rule}
 use Rattle.cover_pick.specs.Template.{TemplateValue}
+use Rattle.cmd_stations.specs.declared.limits.TheConstants.{GRAPH_ROOM}
 use Rattle.cmd_stations.specs.declared.source.Source.{Source}
 use Rattle.cmd_stations.specs.declared.tables.Tables.{Tables}
 use Rattle.cmd_stations.specs.declared.mapped.MappedSource.{MappedSource}
@@ -53,7 +54,7 @@ pub record HasTables (source : Source) (g : Aig) (t : TemplateValue) : Type 0 wh
   pub rule : Rule
   pub k : ℕ
   pub roots : RootsValue
-  pub is_graph : IsGraphOf source.netlist.library source.netlist.flat source.params.list g roots
+  pub is_graph : IsGraphOf source.netlist.library source.netlist.flat source.params.list GRAPH_ROOM g roots
   pub one_graph : HasOneGraph source.netlist.library source.netlist.flat source.params.list
   pub cycles : HasSourceCycles source.netlist.library source.netlist.flat source.params.list g roots
   pub chosen : IsChosen rule g k roots t
@@ -100,8 +101,9 @@ pub record ComesPast (files : Files) (words : SourceWords) (m : MappedSource) : 
 
 -- A source circuit with its graph, and with the labels of the graph's nodes, as the code makes them.
 pub record IsBuiltSource (b : BuiltSource) : Type 0 where
+  pub rule : Rule
   pub read : IsReadSource b.source
-  pub built : IsBuilt b.source b.graph b.roots
+  pub built : IsBuilt rule b.source b.graph b.roots
   pub cycles : HasSourceCycles b.source.netlist.library b.source.netlist.flat b.source.params.list b.graph b.roots
   pub lits : AreRoots b.graph (roots_of b.roots)
   pub normal : AreNormal (first_and b.graph) b.graph.pairs

@@ -8,6 +8,7 @@ use Rattle.ppc_pack.specs.Pack.{PackValue, IsConf}
 use Rattle.bit_fun.specs.PackOf.{IsPackOf}
 use Rattle.bit_fun.specs.PackLaw.{HasConfigurations}
 use Rattle.lut_sim.specs.Cycle.{IsOnlyTableCycle}
+use Rattle.cmd_stations.specs.declared.limits.TheConstants.{GRAPH_ROOM}
 use Rattle.cmd_stations.specs.declared.source.Source.{Source}
 use Rattle.cmd_stations.specs.SourceCircuit.{width_of, shape_of, IsSourceCycle}
 
@@ -20,7 +21,7 @@ pub record HasSourceTables (source : Source) (template : TemplateValue) (pack : 
 pub record IsTunable (source : Source) (template : TemplateValue) (pack : PackValue) : Type 0 where
   pub graph : Aig
   pub roots : RootsValue
-  pub is_graph : IsGraphOf source.netlist.library source.netlist.flat source.params.list graph roots
+  pub is_graph : IsGraphOf source.netlist.library source.netlist.flat source.params.list GRAPH_ROOM graph roots
   pub one_graph : HasOneGraph source.netlist.library source.netlist.flat source.params.list
   pub pack_is : IsPackOf graph template.luts source.params.list pack
   pub configurations : HasConfigurations graph template.luts pack

@@ -70,7 +70,7 @@ fn label_source(alloc: Global, rule: Rule, source: &Source, k: u8) -> Result<Lab
     requires least { 2 ≤ k }
     requires most { k ≤ MOST_LEAVES }
     requires read { IsReadSource source.now }
-    ensures built { IfOk result (λ l. IsBuilt source.now l.graph l.roots) }
+    ensures built { IfOk result (λ l. IsBuilt rule source.now l.graph l.roots) }
     ensures cycles { IfOk result (λ l. HasSourceCycles source.now.netlist.library source.now.netlist.flat source.now.params.list l.graph l.roots) }
     ensures lits { IfOk result (λ l. AreRoots l.graph (roots_of l.roots)) }
     ensures normal { IfOk result (λ l. AreNormal (first_and l.graph) l.graph.pairs) }
@@ -79,7 +79,7 @@ fn label_source(alloc: Global, rule: Rule, source: &Source, k: u8) -> Result<Lab
     ensures err { IfErr result (Stops (IsUnlabelled rule source.now k)) }
     ensures settled { MatchResult result (λ _. IsLabellingSettled rule source.now k) (Stops (λ _. IsLabellingSettled rule source.now k)) }
 {
-    let (graph, roots) = source_graph(alloc, source)?;
+    let (graph, roots) = source_graph(alloc, rule, source)?;
     let labels = label_graph(alloc, rule, &graph, k)?;
     Ok(LabelledGraph {
         graph,

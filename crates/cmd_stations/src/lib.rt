@@ -6,7 +6,8 @@
 //! can't be mapped. Together with a file it becomes an outcome.
 //!
 //! - From a netlist to its graph, the graph's labels or its mapping: `files.rt`, `library_text.rt`, `netlist_text.rt`,
-//!   `params.rt`, `graphs.rt`, `labelling.rt`, `mapping.rt`, `mapped.rt`, and `words.rt`, the arguments that name them.
+//!   `params.rt`, `graphs.rt` with `limits.rt`, `labelling.rt`, `mapping.rt`, `mapped.rt`, and `words.rt`, the arguments that
+//!   name them.
 //! - Writing: `drafts.rt`, `netlist_files.rt`, `pack_files.rt`, and `header.rt`, the header line.
 //! - Playing: `packs.rt`, `script.rt`, and `scripted.rt`, a mapped source circuit with its script.
 //!
@@ -20,6 +21,7 @@ mod graphs;
 mod header;
 mod labelling;
 mod library_text;
+mod limits;
 mod mapped;
 mod mapping;
 mod netlist_files;
@@ -39,6 +41,7 @@ pub use files::read_file;
 pub use graphs::{BuiltSource, read_graph};
 pub use header::put_template_header;
 pub use labelling::{LabelledSource, read_labelled};
+pub use limits::{GRAPH_ROOM, most_nodes};
 pub use mapped::{MappedSource, read_mapped};
 pub use mapping::map_source;
 pub use netlist_files::{write_specialised, write_template};

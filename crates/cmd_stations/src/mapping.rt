@@ -3,7 +3,6 @@ ghost use Rattle.std.specs.Prelude.{◌≡◌, ◌≤◌, length, IfOk, IfErr, M
 ghost use Rattle.tl_fault.specs.OrMemory.{OrMemory};
 ghost use Rattle.aig_core.specs.Aig.{first_and, AreNormal};
 ghost use Rattle.aig_core.specs.Roots.{AreRoots, roots_of};
-ghost use Rattle.aig_build.specs.declared.TheConstants.{MOST_NODES};
 ghost use Rattle.aig_build.specs.NetlistGraph.{IsGraphOf, HasTooManyNodes, HasOneGraph, source_kinds};
 ghost use Rattle.aig_build.specs.NetlistCycle.{HasSourceCycles};
 ghost use Rattle.aig_build.specs.Refusals.{refusal_of};
@@ -11,6 +10,7 @@ ghost use Rattle.cut_sets.specs.declared.limits.TheConstants.{MOST_LEAVES};
 ghost use Rattle.cover_pick.specs.declared.rule.Rule.TheVariants.{FewestLeaves, LeastCost};
 ghost use Rattle.cover_pick.specs.Template.{TemplateValue};
 ghost use Rattle.lut_sim.specs.Playable.{IsPlayable};
+ghost use Rattle.cmd_stations.specs.declared.limits.TheConstants.{GRAPH_ROOM};
 ghost use Rattle.cmd_stations.specs.Stops.{Stops};
 ghost use Rattle.cmd_stations.specs.SourceCircuit.{shape_of};
 ghost use Rattle.cmd_stations.specs.Mapped.{IsChosen, IsLeastMapping, IsUnchosen, IsUnmapped};
@@ -54,7 +54,7 @@ fn choose_cheapest(alloc: Global, graph: &Graph, roots: &Roots, k: u8) -> Result
     requires least { 2 ≤ k }
     requires most { k ≤ MOST_LEAVES }
     requires roots { AreRoots graph.now (roots_of roots.now) }
-    requires nodes { length graph.now.pairs ≤ MOST_NODES }
+    requires nodes { length graph.now.pairs ≤ GRAPH_ROOM }
     ensures chosen { IfOk result (λ t. IsChosen LeastCost graph.now k roots.now t) }
     ensures least { IfOk result (λ t. IsLeastMapping graph.now k roots.now t) }
     ensures err { IfErr result (Stops (IsUnchosen LeastCost graph.now k roots.now)) }
@@ -72,7 +72,7 @@ fn choose(alloc: Global, rule: Rule, graph: &Graph, roots: &Roots, k: u8) -> Res
     requires least { 2 ≤ k }
     requires most { k ≤ MOST_LEAVES }
     requires roots { AreRoots graph.now (roots_of roots.now) }
-    requires nodes { length graph.now.pairs ≤ MOST_NODES }
+    requires nodes { length graph.now.pairs ≤ GRAPH_ROOM }
     ensures chosen { IfOk result (λ t. IsChosen rule graph.now k roots.now t) }
     ensures least { IfOk result (λ t. IsLeastMapping graph.now k roots.now t) }
     ensures err { IfErr result (Stops (IsUnchosen rule graph.now k roots.now)) }
@@ -108,7 +108,7 @@ fn tabulate(
     requires read { IsReadSource source.now }
     requires normal { AreNormal (first_and graph.now) graph.now.pairs }
     requires tables { HasTables source.now graph.now template }
-    requires nodes { length graph.now.pairs ≤ MOST_NODES }
+    requires nodes { length graph.now.pairs ≤ GRAPH_ROOM }
     ensures template { IfOk result (λ t. t.template ≡ template) }
     ensures made { IfOk result (AreMade source.now) }
 {
@@ -133,7 +133,7 @@ pub fn map_source(alloc: Global, rule: Rule, source: &Source, k: u8) -> Result<T
     ensures err { IfErr result (Stops (IsUnmapped rule source.now k)) }
     ensures settled { MatchResult result (λ _. IsMappingSettled rule source.now k) (Stops (λ _. IsMappingSettled rule source.now k)) }
 {
-    let (graph, roots) = source_graph(alloc, source)?;
+    let (graph, roots) = source_graph(alloc, rule, source)?;
     let template = choose(alloc, rule, &graph, &roots, k)?;
     let made = tabulate(alloc, source, &graph, template);
     drop(graph);

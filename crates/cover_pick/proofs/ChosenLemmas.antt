@@ -1,13 +1,13 @@
--- What the marks and the searches find is the tables and the work by their own words.
-use Rattle.cover_pick.proofs.Common.{◌≡◌, ℕ, ◌-◌, ◌*◌, ◌/◌, ◌%◌, ◌<◌, ◌≤◌, cond, List, [], ◌∷◌, Option, Some, None, refl, sym, ap, ◌∙◌, subst, inl, inr, arith, slice_get, sum_by-cons, same_Some, cases_lt, cases_eq, eq-eqb, Aig, first_and, node_count, IsAnd, AreNormal, Regular, Parameter, Lit, RootsValue, roots_of, AreRoots, In, OrMemory, source_below, MOST_WORK, refusal_of, PickErr, Work, Memory, Lut, target, Supply, IsSupplied, HasPlan, cut_at, and_depths, depths_of, cone_of, table_work, work_of, IsWork, IsLight, TablesWithin, AreChosen, IsTemplate, AreTimely, IsTooMuch}
+-- What the marks find is the tables by their own words.
+use Rattle.cover_pick.proofs.Common.{◌≡◌, ℕ, ◌-◌, ◌*◌, ◌/◌, ◌%◌, ◌<◌, ◌≤◌, cond, List, [], ◌∷◌, Option, Some, None, refl, sym, ap, ◌∙◌, subst, inl, inr, arith, slice_get, same_Some, cases_lt, cases_eq, eq-eqb, Aig, first_and, node_count, IsAnd, Regular, Parameter, Lit, RootsValue, roots_of, AreRoots, In, OrMemory, source_below, refusal_of, PickErr, Work, Memory, target, Supply, IsSupplied, HasPlan, cut_at, and_depths, depths_of, CanBeLeaf, once_by, IsPast, TablesWithin, AreChosen, IsTemplate, AreTimely, IsTooMuch}
 use Rattle.cover_pick.specs.Tables.{IsNeeded, root, leaf, IsLeaves, constant, parameter, source, node}
 use Rattle.cover_pick.specs.Marks.{IsMarked, root as marked_root, leaf as marked_leaf, leaves_of, source_leaves, Made, IsMade, tables_of, AreMade}
 use Rattle.cover_pick.proofs.TableLemmas.{tables_needed}
 use Rattle.cover_pick.proofs.MappingLemmas.{leaves_zero, leaves_source, kind_there, regular_leaves}
-use Rattle.cover_pick.proofs.TemplateLemmas.{leaves_and, cut_in, in_cut, to_tables, tables_within, tables_exact, leaves_inside}
+use Rattle.cover_pick.proofs.TemplateLemmas.{leaves_and, cut_in, in_cut, to_tables, tables_within, tables_exact, cut_leaves}
 use Rattle.cover_pick.proofs.RuleLemmas.{depth_from, node_of}
 use Rattle.cover_pick.proofs.RoundsOnceLemmas.{plan_once}
-use Rattle.cover_pick.proofs.WorkLemmas.{cone_is}
+use Rattle.cover_pick.proofs.FreeLemmas.{leaf_inside}
 
 pub marked_is : (roots : List ℕ) (cuts : List (Option (List ℕ))) (l : ℕ) → IsMarked roots cuts l → IsNeeded roots (cut_at cuts) l
 marked_is roots cuts l (marked_root i) = root i
@@ -74,48 +74,32 @@ module _ (supply : Supply) (g : Aig) (label : ℕ → ℕ) (roots : List ℕ) (m
         to_tables g a.serving.k roots a.cuts made (a.plan.least a.serving.k a.serving.served).is a.tables (a.plan.timely (u.lit.0 / 2) r and d.1) u.lit.0 refl and (a.tables.only u i).0;
   }
 
-pub work_is : (g : Aig) (ts : List Lut) → AreNormal (first_and g) g.pairs → ((t : Lut) → In ts t → t.lit.0 < 2 * node_count g) → IsWork g ts (work_of g ts)
-work_is g [] normal inside = refl
-work_is g (t ∷ ts) normal inside =
-    let b : t.lit.0 < 2 * node_count g = inside t (inl refl) in (
-      table_work g t.lit.0 t.leaves,
-      work_of g ts,
-      record { cone = cone_of g t.leaves (t.lit.0 / 2); is = cone_is g t.leaves (t.lit.0 / 2) normal (omega arith); work_is = refl },
-      work_is g ts normal (λ u i. inside u (inr i)),
-      sum_by-cons (λ (u : Lut). table_work g u.lit.0 u.leaves) t ts,
-    )
-
-pub light_is : (supply : Supply) (g : Aig) (label : ℕ → ℕ) (roots : List ℕ) (made : Made) → AreNormal (first_and g) g.pairs → IsMade supply g label roots made → made.work ≤ MOST_WORK → IsLight g made.luts
-light_is supply g label roots made normal a l = record {
-  work = made.work;
-  is = subst (λ w. IsWork g made.luts w) (sym a.tables.work) (work_is g made.luts normal a.tables.below);
-  light = l;
-}
-
 -- the tables of a plan's cuts
-abbrev pub made_of : (supply : Supply) (g : Aig) (label : ℕ → ℕ) (roots : List ℕ) (cuts : List (Option (List ℕ))) (made : Made) → HasPlan supply g label roots cuts → AreMade g cuts (IsMarked roots cuts) (2 * node_count g) made → IsMade supply g label roots made
+abbrev made_of : (supply : Supply) (g : Aig) (label : ℕ → ℕ) (roots : List ℕ) (cuts : List (Option (List ℕ))) (made : Made) → HasPlan supply g label roots cuts → AreMade g cuts (IsMarked roots cuts) (2 * node_count g) made → IsMade supply g label roots made
 made_of supply g label roots cuts made h are = record { rule = h.rule; rows = h.rows; serving = h.serving; flows = h.flows; cuts = cuts; plan = h.plan; chosen = h.chosen; tables = are }
 
-pub plan_leaves : (supply : Supply) (g : Aig) (label : ℕ → ℕ) (roots : List ℕ) (cuts : List (Option (List ℕ))) → HasPlan supply g label roots cuts → (c : List ℕ) (m : ℕ) → In cuts (Some c) → In c m → m < node_count g
-plan_leaves supply g label roots cuts h = leaves_inside h.rule g h.rows label roots h.flows cuts h.serving h.plan
+pub plan_leaves : (supply : Supply) (g : Aig) (label : ℕ → ℕ) (roots : List ℕ) (cuts : List (Option (List ℕ))) → HasPlan supply g label roots cuts → (c : List ℕ) (m : ℕ) → In cuts (Some c) → In c m → CanBeLeaf g m
+plan_leaves supply g label roots cuts h = cut_leaves h.rule g h.rows label roots h.flows cuts h.serving h.plan
 
--- where the work of the tables that would be made is too much
-pub too_much : (supply : Supply) (g : Aig) (label : ℕ → ℕ) (roots : List ℕ) (cuts : List (Option (List ℕ))) → AreNormal (first_and g) g.pairs → HasPlan supply g label roots cuts → AreRoots g roots → MOST_WORK < (tables_of g roots cuts).work → IsTooMuch supply g label roots
-too_much supply g label roots cuts normal h lits l =
-    let are : AreMade g cuts (IsMarked roots cuts) (2 * node_count g) (tables_of g roots cuts) = tables_needed g roots cuts (plan_leaves supply g label roots cuts h) lits in
-    record {
-      luts = (tables_of g roots cuts).luts;
-      bits = (tables_of g roots cuts).bits;
-      chosen = chosen_is supply g label roots (tables_of g roots cuts) lits (made_of supply g label roots cuts (tables_of g roots cuts) h are);
-      work = (tables_of g roots cuts).work;
-      is = subst (λ w. IsWork g (tables_of g roots cuts).luts w) (sym are.work) (work_is g (tables_of g roots cuts).luts normal are.below);
-      past = l;
-    }
+-- the tables that are made of them
+abbrev pub tables_made : (supply : Supply) (g : Aig) (label : ℕ → ℕ) (roots : List ℕ) (cuts : List (Option (List ℕ))) → HasPlan supply g label roots cuts → AreRoots g roots → IsMade supply g label roots (tables_of g roots cuts)
+tables_made supply g label roots cuts h lits = made_of supply g label roots cuts (tables_of g roots cuts) h (tables_needed g roots cuts (λ c m i j. leaf_inside g m (plan_leaves supply g label roots cuts h c m i j)) lits)
 
-pub too_much_told : (supply : Supply) (g : Aig) (label : ℕ → ℕ) (roots : List ℕ) (cuts : List (Option (List ℕ))) → AreNormal (first_and g) g.pairs → HasPlan supply g label roots cuts → AreRoots g roots
-    → (e : PickErr) → OrMemory refusal_of (λ _. MOST_WORK < (tables_of g roots cuts).work) e → OrMemory refusal_of (λ _. IsTooMuch supply g label roots) e
-too_much_told supply g label roots cuts normal h lits Work l = too_much supply g label roots cuts normal h lits l
-too_much_told supply g label roots cuts normal h lits Memory l = tt
+-- where their work is too much
+pub too_much : (supply : Supply) (g : Aig) (label : ℕ → ℕ) (roots : List ℕ) (cuts : List (Option (List ℕ))) → HasPlan supply g label roots cuts → AreRoots g roots → IsPast g (once_by supply g (tables_of g roots cuts).luts) (tables_of g roots cuts).luts → IsTooMuch supply g label roots
+too_much supply g label roots cuts h lits past = record {
+  luts = (tables_of g roots cuts).luts;
+  bits = (tables_of g roots cuts).bits;
+  chosen = chosen_is supply g label roots (tables_of g roots cuts) lits (tables_made supply g label roots cuts h lits);
+  work = past.work;
+  is = past.is;
+  past = past.past;
+}
+
+pub too_much_told : (supply : Supply) (g : Aig) (label : ℕ → ℕ) (roots : List ℕ) (cuts : List (Option (List ℕ))) → HasPlan supply g label roots cuts → AreRoots g roots
+    → (e : PickErr) → OrMemory refusal_of (λ _. IsPast g (once_by supply g (tables_of g roots cuts).luts) (tables_of g roots cuts).luts) e → OrMemory refusal_of (λ _. IsTooMuch supply g label roots) e
+too_much_told supply g label roots cuts h lits Work l = too_much supply g label roots cuts h lits l
+too_much_told supply g label roots cuts h lits Memory l = tt
 
 pub template_is : (supply : Supply) (g : Aig) (label : ℕ → ℕ) (roots : RootsValue) (made : Made) (outputs next : List Lit) (depth : ℕ) → AreRoots g (roots_of roots) → IsMade supply g label (roots_of roots) made
     → outputs ≡ roots.outputs → next ≡ roots.next → depth ≡ target g label (roots_of roots)

@@ -23,7 +23,10 @@ pub use Rattle.bounded_cuts.specs.Sets.{AreSets, AreServing}
 pub use Rattle.cover_pick.specs.Flow.{allowed_flow, flows_by}
 pub use Rattle.cover_pick.specs.Served.{IsServed, IsServing}
 pub use Rattle.cover_pick.specs.Ruled.{cheaper, cheaper_low, cheapest, AreCapped, cut_cost, cost_where, leaf_cost, IsOffer, IsAt, IsShorter, better, fewest, choice_of, found_of, found_in, choice_by, found_from}
-pub use Rattle.cover_pick.specs.Cone.{cone_of, table_work, work_of, is_stop, put_down, put_fan_ins, cone, SearchValue, stamp_at, reach}
+pub use Rattle.cover_pick.specs.Cone.{is_stop, SearchValue, stamp_at, reach, once_in, with_fan_ins, AreClosed, IsBelowMet, MeetsCone, HasOwn, HasBelowMet}
+pub use Rattle.cover_pick.specs.Counted.{IsWithin, IsPast, AreCountable, CountOnce, AreMet, IsOwnWorkTo}
+pub use Rattle.cover_pick.specs.Free.{mark_of, AreFree, AreFreeTo, HasFreeParts, is_constant, is_parameter, has_fan_ins, unmarked, all_unmarked}
+pub use Rattle.cut_sets.specs.Cuts.{CanBeLeaf}
 pub use Rattle.cover_pick.specs.Counts.{count_at, count_one, count_pair, AreCounted, AreLeaves, AreUsed, count_each}
 pub use Rattle.cover_pick.specs.Mapping.{HaveBases, bits_of, IsMapping, IsLeast, AscendByLit}
 pub use Rattle.cover_pick.specs.Marks.{IsMarked, Made, IsMade, tables_of, AreMade, mark_each, mark_leaves, mark_cut, mark_cuts, tables_from}
@@ -38,7 +41,7 @@ pub use Rattle.cover_pick.specs.Tables.{HasTable}
 pub use Rattle.cover_pick.specs.Target.{target, source_level, kind_level, root_level}
 pub use Rattle.cover_pick.specs.Template.{TablesWithin, AreChosen, IsTemplate, AreTimely, IsTooMuch, TemplateValue}
 pub use Rattle.cover_pick.specs.Uses.{uses, has_cut, cost_of, times_in, times_leaf, uses_below, price, cost_below}
-pub use Rattle.cover_pick.specs.Work.{IsTableWork, IsWork, IsLight, IsCone, IsInner, Path, here, left, right}
+pub use Rattle.cover_pick.specs.Work.{IsTableWork, IsOwnWork, IsWork, IsLight, IsCone, AreOwn, AreShared, IsFree, free_constant, free_parameter, free_product, once_by, IsInner, Path, here, left, right}
 pub use Rattle.cover_pick.specs.Supplied.{HaveOneMaking, IsSupplied, HasPlan}
 pub use Rattle.cut_sets.specs.Labels.{AreLeastHeights}
 pub use Rattle.bounded_cuts.specs.Making.{low_in, count_in, favoured_in}

@@ -5,6 +5,7 @@ use Rattle.cover_pick.specs.Choice.{Precedes, before, IsChosen}
 use Rattle.cover_pick.specs.Sharing.{IsNeededAbove, shared, free as free_leaf, new, IsCost}
 use Rattle.cover_pick.specs.Tables.{IsNeeded, root, leaf, IsLeaves, constant, parameter, source, node, HasTable, AreTables}
 use Rattle.cover_pick.proofs.WorkLemmas.{cone_is}
+use Rattle.cover_pick.proofs.OwnLemmas.{cone_own, none_shared}
 
 -- node 6 is required by depth 1, and takes its cut of the two inputs; no other node is needed
 abbrev pub mux_depths : ℕ → Option ℕ
@@ -96,8 +97,14 @@ mux_tables = record {
 pub mux_cone : IsCone mux (1 ∷ 2 ∷ []) 6 (6 ∷ 5 ∷ 4 ∷ [])
 mux_cone = cone_is mux (1 ∷ 2 ∷ []) 6 mux_normal (omega arith)
 
-pub mux_work : IsWork mux mux_luts 16
-mux_work = (16, 0, record { cone = 6 ∷ 5 ∷ 4 ∷ []; is = mux_cone; work_is = refl }, refl, refl)
+pub mux_work : IsWork mux (λ n. ⊥) mux_luts 16
+mux_work = record {
+  own = 16;
+  is_own = (16, 0, record { nodes = 6 ∷ 5 ∷ 4 ∷ []; are = cone_own mux (1 ∷ 2 ∷ []) 6 (6 ∷ 5 ∷ 4 ∷ []) mux_cone; work_is = refl }, refl, refl);
+  shared = [];
+  are_shared = none_shared mux mux_luts;
+  work_is = refl;
+}
 
 -- The flows: a table of one input above each of the two inputs, and one of both above them.
 pub mux_flows : flows_below mux AnyHeight (label_of mux_labels) mux_rows (fan_out mux) 7 ≡ 0 ∷ 0 ∷ 0 ∷ 0 ∷ 258 ∷ 258 ∷ 260 ∷ []

@@ -1,14 +1,7 @@
--- The LUTs that are made are those of the needed literals, with their bases, bits and work.
-use Rattle.cover_pick.proofs.Common.{◌≡◌, ℕ, zero, suc, ◌+◌, ◌*◌, ◌^◌, ◌<◌, ◌≤◌, Bool, true, false, List, [], ◌∷◌, ◌++◌, length, Option, Some, None, refl, sym, ◌∙◌, subst, inl, inr, ◌⊎◌, arith, get_or, slice_set, get_or-set_same, get_or-set_other, replicate, drop, drop_more, length-set, length-replicate, get_or-replicate, get_or_past, sum_by_push, sum_by-cons, same_Some, none-some, cases_lt, cases_eq, false≢true, Aig, node_count, In, MOST_LEAVES, In-left, In-push, In-pushed, OrMemory, refusal_of, MOST_WORK, PickErr, Work, Memory, Lut, HaveBases, AscendByLit, bits_of, table_work, work_of, rules}
+-- The LUTs that are made are those of the needed literals, with their bases and bits.
+use Rattle.cover_pick.proofs.Common.{◌≡◌, ℕ, suc, ◌+◌, ◌*◌, ◌^◌, ◌<◌, ◌≤◌, Bool, true, false, List, [], ◌∷◌, ◌++◌, length, Option, Some, None, refl, sym, ◌∙◌, subst, inl, inr, ◌⊎◌, arith, get_or, slice_set, get_or-set_same, replicate, drop, drop_more, length-set, length-replicate, get_or-replicate, get_or_past, sum_by_push, sum_by-cons, same_Some, none-some, cases_lt, false≢true, Aig, node_count, In, In-left, In-push, In-pushed, OrMemory, refusal_of, MOST_WORK, PickErr, Work, Memory, Lut, HaveBases, AscendByLit, bits_of, rules}
+use Rattle.cover_pick.proofs.MarkLemmas.{mark_stays, mark_from}
 use Rattle.cover_pick.specs.Marks.{mark_at, mark_each, mark_leaves, mark_cut, mark_cuts, marks_of, IsMarked, root, leaf, leaves_of, Made, add_table, add_marked, tables_from, tables_of, AreMade}
-
-mark_stays : (xs : List Bool) (n m : ℕ) → mark_at xs m ≡ true → mark_at (slice_set xs n true) m ≡ true
-mark_stays (x ∷ xs) zero zero h = refl
-mark_stays (x ∷ xs) (suc n) (suc m) h = mark_stays xs n m h
-mark_stays xs n m h = h
-
-mark_from : (xs : List Bool) (n m : ℕ) → mark_at (slice_set xs n true) m ≡ true → (m ≡ n) ⊎ (mark_at xs m ≡ true)
-mark_from xs n m h = elim (cases_eq m n) [ inl e ↦ inl e | inr d ↦ inr (sym (get_or-set_other xs n m true false d) ∙ h) ]
 
 each_stays : (ls : List ℕ) (xs : List Bool) (m : ℕ) → mark_at xs m ≡ true → mark_at (mark_each xs ls) m ≡ true
 each_stays [] xs m h = h
@@ -100,7 +93,7 @@ module _ (g : Aig) (cuts : List (Option (List ℕ))) (S : ℕ → Type 0) where
   skip_are : (l : ℕ) (made : Made) → AreMade g cuts S l made → ((c : List ℕ) → S l → leaves_of g cuts l ≡ Some c → ⊥) → AreMade g cuts S (l + 1) made
   skip_are l made a none = search (rules, cases_lt)
 
-  add_are : (l : ℕ) (made : Made) (c : List ℕ) → AreMade g cuts S l made → S l → leaves_of g cuts l ≡ Some c → AreMade g cuts S (l + 1) (add_table g made l (Some c))
+  add_are : (l : ℕ) (made : Made) (c : List ℕ) → AreMade g cuts S l made → S l → leaves_of g cuts l ≡ Some c → AreMade g cuts S (l + 1) (add_table made l (Some c))
   add_are l made c a s e =
       let x : Lut = record { lit = record { 0 = l }; leaves = c; base = made.bits } in
       record {
@@ -112,11 +105,10 @@ module _ (g : Aig) (cuts : List (Option (List ℕ))) (S : ℕ → Type 0) where
         ];
         ascending = ascend_push made.luts x a.ascending (λ t i. a.below t i);
         bases = bases_push made.luts x 0 a.bases (let d : made.bits ≡ bits_of made.luts = a.sum in omega arith);
-        work = (let b : work_of g (made.luts ++ x ∷ []) ≡ work_of g made.luts + table_work g l c = sum_by_push (λ (t : Lut). table_work g t.lit.0 t.leaves) made.luts x in let d : made.work ≡ work_of g made.luts = a.work in omega arith);
         sum = (let b : bits_of (made.luts ++ x ∷ []) ≡ bits_of made.luts + 2 ^ length c = sum_by_push (λ (t : Lut). 2 ^ length t.leaves) made.luts x in let d : made.bits ≡ bits_of made.luts = a.sum in omega arith);
       }
 
-  table_are : (l : ℕ) (made : Made) (o : Option (List ℕ)) → AreMade g cuts S l made → S l → leaves_of g cuts l ≡ o → AreMade g cuts S (l + 1) (add_table g made l o)
+  table_are : (l : ℕ) (made : Made) (o : Option (List ℕ)) → AreMade g cuts S l made → S l → leaves_of g cuts l ≡ o → AreMade g cuts S (l + 1) (add_table made l o)
   table_are l made None a s e = skip_are l made a (λ c _ f. absurd (none-some c (sym e ∙ f)))
   table_are l made (Some c) a s e = add_are l made c a s e
 
@@ -130,8 +122,8 @@ module _ (g : Aig) (cuts : List (Option (List ℕ))) (S : ℕ → Type 0) where
       let z : l + 0 ≡ l = omega arith in
       grind (arith, marked_are, tables_are ms (l + 1) (add_marked g cuts made l m) (marked_are l made m a (λ t. subst (λ i. S i) z ((h 0 (omega arith)).0 t)) (λ s. (h 0 (omega arith)).1 (subst (λ i. S i) (sym z) s))) (λ j b. let q : l + suc j ≡ l + 1 + j = omega arith in ((λ t. subst (λ i. S i) q ((h (suc j) (omega arith)).0 t)), (λ s. (h (suc j) (omega arith)).1 (subst (λ i. S i) (sym q) s)))))
 
-  no_tables : AreMade g cuts S 0 (record { luts = []; bits = 0; work = 0 })
-  no_tables = record { below = λ t i. absurd i; only = λ t i. absurd i; all = λ m c b s e. absurd (omega arith); ascending = tt; bases = tt; sum = refl; work = refl }
+  no_tables : AreMade g cuts S 0 (record { luts = []; bits = 0 })
+  no_tables = record { below = λ t i. absurd i; only = λ t i. absurd i; all = λ m c b s e. absurd (omega arith); ascending = tt; bases = tt; sum = refl }
 
 cuts_length : (os : List (Option (List ℕ))) (xs : List Bool) → length (mark_cuts xs os) ≡ length xs
 cuts_length [] xs = refl
@@ -145,29 +137,26 @@ pub tables_needed : (g : Aig) (roots : List ℕ) (cuts : List (Option (List ℕ)
     → AreMade g cuts (IsMarked roots cuts) (2 * node_count g) (tables_of g roots cuts)
 tables_needed g roots cuts inside lits =
     subst (λ i. AreMade g cuts (IsMarked roots cuts) i (tables_of g roots cuts)) (let z : 0 + length (marks_of g roots cuts) ≡ 2 * node_count g = omega (arith, marks_length g roots cuts) in z)
-    (tables_are g cuts (IsMarked roots cuts) (marks_of g roots cuts) 0 (record { luts = []; bits = 0; work = 0 }) (no_tables g cuts (IsMarked roots cuts))
+    (tables_are g cuts (IsMarked roots cuts) (marks_of g roots cuts) 0 (record { luts = []; bits = 0 }) (no_tables g cuts (IsMarked roots cuts))
     (λ j b. let z : j ≡ 0 + j = omega arith in ((λ t. subst (λ i. IsMarked roots cuts i) z (marked_needed g roots cuts j t)), (λ n. needed_marked g roots cuts j inside lits (subst (λ i. IsMarked roots cuts i) (sym z) n)))))
 
-table_more : (g : Aig) (made : Made) (l : ℕ) (o : Option (List ℕ)) → made.work ≤ (add_table g made l o).work
-table_more g made l None = omega arith
-table_more g made l (Some c) = omega arith
+table_more : (made : Made) (l : ℕ) (o : Option (List ℕ)) → made.bits ≤ (add_table made l o).bits
+table_more made l None = omega arith
+table_more made l (Some c) = omega arith
 
-marked_more : (g : Aig) (cuts : List (Option (List ℕ))) (made : Made) (l : ℕ) (m : Bool) → made.work ≤ (add_marked g cuts made l m).work
+marked_more : (g : Aig) (cuts : List (Option (List ℕ))) (made : Made) (l : ℕ) (m : Bool) → made.bits ≤ (add_marked g cuts made l m).bits
 marked_more g cuts made l false = omega arith
-marked_more g cuts made l true = table_more g made l (leaves_of g cuts l)
+marked_more g cuts made l true = table_more made l (leaves_of g cuts l)
 
-pub tables_more : (g : Aig) (cuts : List (Option (List ℕ))) (ms : List Bool) (made : Made) (l : ℕ) → made.work ≤ (tables_from g cuts made l ms).work
+pub tables_more : (g : Aig) (cuts : List (Option (List ℕ))) (ms : List Bool) (made : Made) (l : ℕ) → made.bits ≤ (tables_from g cuts made l ms).bits
 tables_more g cuts [] made l = omega arith
 tables_more g cuts (m ∷ ms) made l = grind (arith, marked_more, tables_more g cuts ms (add_marked g cuts made l m) (l + 1))
 
-pub work_small : (bits size count : ℕ) → bits ≤ 2 ^ MOST_LEAVES → size ≤ count → count ≤ 2 ^ 30 → bits * (1 + size) ≤ 2 ^ 37
-work_small bits size count b s l = grind arith
-
--- where the work so far are too many, all are
+-- where the bits so far are too many, all are
 pub tables_past : (g : Aig) (cuts : List (Option (List ℕ))) (marks : List Bool) (made all : Made) (l i : ℕ) → i < length marks → tables_from g cuts made l (drop i marks) ≡ all
-    → (add_marked g cuts made l (get_or marks i false)).work ≤ all.work
+    → (add_marked g cuts made l (get_or marks i false)).bits ≤ all.bits
 tables_past g cuts marks made all l i b e = grind (arith, tables_more, drop_more)
 
-pub work_more : (e : PickErr) {some all : ℕ} → some ≤ all → OrMemory refusal_of (λ _. MOST_WORK < some) e → OrMemory refusal_of (λ _. MOST_WORK < all) e
-work_more Work l h = omega arith
-work_more Memory l h = tt
+pub bits_more : (e : PickErr) {some all : ℕ} → some ≤ all → OrMemory refusal_of (λ _. MOST_WORK < some) e → OrMemory refusal_of (λ _. MOST_WORK < all) e
+bits_more Work l h = omega arith
+bits_more Memory l h = tt

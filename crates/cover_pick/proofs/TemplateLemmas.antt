@@ -1,5 +1,5 @@
 -- The depth of the chosen LUTs is the depth of the chosen cuts.
-use Rattle.cover_pick.proofs.Common.{◌≡◌, ℕ, suc, ◌*◌, ◌/◌, ◌<◌, ◌≤◌, List, [], ◌∷◌, length, Option, Some, None, refl, sym, ◌∙◌, subst, inl, inr, ◌⊎◌, arith, get_or_past, none-some, cases_lt, Aig, first_and, node_count, IsAnd, In, IsCover, HasDepth, source, no_leaves, table, In-get_or, Rule, Supply, IsServing, target, cut_at, IsPlanned, HasTable}
+use Rattle.cover_pick.proofs.Common.{◌≡◌, ℕ, suc, ◌*◌, ◌/◌, ◌<◌, ◌≤◌, List, [], ◌∷◌, length, Option, Some, None, refl, sym, ◌∙◌, subst, inl, inr, ◌⊎◌, arith, get_or_past, none-some, cases_lt, Aig, first_and, node_count, IsAnd, In, IsCover, HasDepth, source, no_leaves, table, In-get_or, Rule, Supply, IsServing, CanBeLeaf, target, cut_at, IsPlanned, HasTable}
 use Rattle.cover_pick.specs.Marks.{leaves_of, Made, AreMade, IsMarked, root, leaf, IsMade}
 use Rattle.cover_pick.specs.Template.{TableDepth, free, over, TablesWithin}
 
@@ -59,9 +59,6 @@ tables_exact supply g label roots made a d w =
     let p = a.plan.least a.serving.k a.serving.served in
     p.least.least (cut_at a.cuts) d p.is (record { complemented = w.complemented; nodes = λ l i and. from_tables g a.serving.k roots a.cuts made p.is a.tables (w.nodes l i and) (l / 2) refl and })
 
--- a chosen cut's leaves are nodes
-pub leaves_inside : (rule : Rule) (g : Aig) (rows : List (List (List ℕ))) (label : ℕ → ℕ) (roots flows : List ℕ) (cuts : List (Option (List ℕ))) → IsServing rule g label rows → IsPlanned rule g rows label roots flows (cut_at cuts) → (c : List ℕ) (m : ℕ) → In cuts (Some c) → In c m → m < node_count g
-leaves_inside rule g rows label roots flows cuts t plan c m i j =
-    let r = in_cut cuts c i in
-    let both = (plan.least t.k t.served).is.cuts r.0 c r.1 in
-    let a : r.0 < node_count g = both.0.1 in let b : m < r.0 = (both.1.below m j).0 in omega arith
+-- a chosen cut's leaves are AND nodes and regular sources
+pub cut_leaves : (rule : Rule) (g : Aig) (rows : List (List (List ℕ))) (label : ℕ → ℕ) (roots flows : List ℕ) (cuts : List (Option (List ℕ))) → IsServing rule g label rows → IsPlanned rule g rows label roots flows (cut_at cuts) → (c : List ℕ) (m : ℕ) → In cuts (Some c) → In c m → CanBeLeaf g m
+cut_leaves rule g rows label roots flows cuts t plan c m i j = let r = in_cut cuts c i in (((plan.least t.k t.served).is.cuts r.0 c r.1).1.below m j).1

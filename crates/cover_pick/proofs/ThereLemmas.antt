@@ -1,16 +1,15 @@
 -- The chosen template is there, whether it is found or not; and as there is one, each template maps the graph with the least depth.
-use Rattle.cover_pick.proofs.Common.{◌≡◌, ℕ, zero, suc, ◌+◌, ◌<◌, List, [], ◌∷◌, length, Option, refl, ap, sym, ◌∙◌, subst, arith, Bool, false, cases_lt, Aig, first_and, node_count, AreNormal, RootsValue, roots_of, AreRoots, Supply, Rows, Sets, IsSupplied, HasPlan, HaveOneMaking, Rule, FewestLeaves, LeastCost, IsServing, IsServed, AreServing, AreSets, AreFlows, IsMapping, IsLeast, Made, IsMade, tables_of, cut_at, plan_of, IsPlanned, six_rounds, PlanValue, IsFirst, IsLeastOfMakings, fan_out, uses, has_cut, cost_of, target, TemplateValue, IsTemplate, ◌*◌, ◌/◌, ◌^◌, ◌≤◌, inl, inr, ◌⊎◌, Result, Ok, Err, IfOk, Lit, In, Lut, PickErr, Work, Memory, AscendByLit, HaveBases, bits_of, IsCone, IsWork, IsLight, TablesWithin, AreChosen, IsTooMuch}
-use Rattle.cover_pick.proofs.ChosenLemmas.{template_is, made_of, plan_leaves}
+use Rattle.cover_pick.proofs.Common.{◌≡◌, ℕ, zero, suc, ◌+◌, ◌<◌, List, [], ◌∷◌, length, Option, refl, ap, sym, ◌∙◌, subst, arith, Bool, false, cases_lt, Aig, first_and, node_count, AreNormal, RootsValue, roots_of, AreRoots, Supply, Rows, Sets, IsSupplied, HasPlan, HaveOneMaking, Rule, FewestLeaves, LeastCost, IsServing, IsServed, AreServing, AreSets, AreFlows, IsMapping, IsLeast, Made, IsMade, tables_of, cut_at, plan_of, IsPlanned, six_rounds, PlanValue, IsFirst, IsLeastOfMakings, fan_out, uses, has_cut, cost_of, target, TemplateValue, IsTemplate, ◌/◌, ◌^◌, ◌≤◌, inl, inr, ◌⊎◌, Result, Ok, Err, IfOk, Lit, In, Lut, PickErr, Work, Memory, AscendByLit, HaveBases, bits_of, IsWork, IsLight, once_by, TablesWithin, AreChosen, IsTooMuch}
+use Rattle.cover_pick.proofs.ChosenLemmas.{template_is, tables_made}
 use Rattle.cover_pick.proofs.MappingLemmas.{mapping_is, least_is}
 use Rattle.cover_pick.proofs.UsesLemmas.{no_flows_fit}
 use Rattle.cover_pick.proofs.RuleLemmas.{plan_all, cuts_all, plan_is, roots_inside}
 use Rattle.cover_pick.proofs.RoundLemmas.{six, first_six, six_are, six_fit}
 use Rattle.cover_pick.proofs.ServedLemmas.{serving_of}
 use Rattle.cover_pick.proofs.MakingLemmas.{best as best_of_first, best_flows, other, other_flows, first_wins, second_wins}
-use Rattle.cover_pick.proofs.TableLemmas.{tables_needed}
 use Rattle.cover_pick.specs.Tables.{IsNeeded, IsLeaves, HasTable}
 use Rattle.cover_pick.proofs.RoundsOnceLemmas.{plan_once, six_once, first_once}
-use Rattle.cover_pick.proofs.SearchLemmas.{distinct_descending, length_same}
+use Rattle.cover_pick.proofs.OwnLemmas.{work_once}
 
 lut_same : (x y : Lut) → x.lit.0 ≡ y.lit.0 → x.leaves ≡ y.leaves → x.base ≡ y.base → x ≡ y
 lut_same x y l c b = grind arith
@@ -66,25 +65,15 @@ template_once supply g label roots table t u x y =
     ∙ (ap (λ o. make u.luts o t.next t.bits t.depth) outputs
     ∙ (ap (λ n. make u.luts u.outputs n t.bits t.depth) next ∙ (ap (λ b. make u.luts u.outputs u.next b t.depth) bits ∙ ap (λ d. make u.luts u.outputs u.next u.bits d) depth)))
 
--- A node has one cone, so tables have one work.
-pub cone_once : (g : Aig) (leaves : List ℕ) (n : ℕ) (xs ys : List ℕ) → IsCone g leaves n xs → IsCone g leaves n ys → length xs ≡ length ys
-cone_once g leaves n xs ys a b = length_same xs ys (distinct_descending xs a.descending) (distinct_descending ys b.descending) (λ m i. b.all m (a.only m i)) (λ m i. a.all m (b.only m i))
-
-pub work_once : (g : Aig) (ts : List Lut) (v w : ℕ) → IsWork g ts v → IsWork g ts w → v ≡ w
-work_once g [] v w a b = a ∙ sym b
-work_once g (t ∷ ts) v w a b =
-    let first : a.0 ≡ b.0 = a.2.work_is ∙ (ap (λ n. 2 ^ length t.leaves * (1 + n)) (cone_once g t.leaves (t.lit.0 / 2) a.2.cone b.2.cone a.2.is b.2.is) ∙ sym b.2.work_is) in
-    omega (arith, work_once g ts a.1 b.1 a.3 b.3, a.4, b.4)
-
 -- No template within the limit stands where the work is too much.
-pub light_or_too_much : (supply : Supply) (g : Aig) (label : ℕ → ℕ) (roots : RootsValue) → IsSupplied supply g label → (t : TemplateValue) → IsTemplate supply g label roots t → IsLight g t.luts → IsTooMuch supply g label (roots_of roots) → ⊥
+pub light_or_too_much : (supply : Supply) (g : Aig) (label : ℕ → ℕ) (roots : RootsValue) → IsSupplied supply g label → (t : TemplateValue) → IsTemplate supply g label roots t → IsLight supply g t.luts → IsTooMuch supply g label (roots_of roots) → ⊥
 light_or_too_much supply g label roots table t is light much =
     let e : t.luts ≡ much.luts = chosen_once supply g label (roots_of roots) table t.luts much.luts t.bits much.bits is.chosen much.chosen in
-    let same : light.work ≡ much.work = work_once g much.luts light.work much.work (subst (λ ts. IsWork g ts light.work) e light.is) much.is in
+    let same : light.work ≡ much.work = work_once g (once_by supply g much.luts) much.luts light.work much.work (subst (λ ts. IsWork g (once_by supply g ts) ts light.work) e light.is) much.is in
     omega (arith, light.light, much.past)
 
 -- An answer that is a template within the limit, or an error, is an error where the work is too much.
-pub too_much_answer : (supply : Supply) (g : Aig) (label : ℕ → ℕ) (roots : RootsValue) → IsSupplied supply g label → (r : Result TemplateValue PickErr) → IfOk r (λ t. IsTemplate supply g label roots t) → IfOk r (λ t. IsLight g t.luts)
+pub too_much_answer : (supply : Supply) (g : Aig) (label : ℕ → ℕ) (roots : RootsValue) → IsSupplied supply g label → (r : Result TemplateValue PickErr) → IfOk r (λ t. IsTemplate supply g label roots t) → IfOk r (λ t. IsLight supply g t.luts)
     → IsTooMuch supply g label (roots_of roots) → (r ≡ Err Work) ⊎ (r ≡ Err Memory)
 too_much_answer supply g label roots table (Ok t) is light much = absurd (light_or_too_much supply g label roots table t is light much)
 too_much_answer supply g label roots table (Err Work) is light much = inl refl
@@ -127,7 +116,7 @@ module _ (supply : Supply) (g : Aig) (label : ℕ → ℕ) (roots : RootsValue) 
   made = tables_of g (roots_of roots) cuts
 
   abbrev is_made : IsMade supply g label (roots_of roots) made
-  is_made = made_of supply g label (roots_of roots) cuts made h (tables_needed g (roots_of roots) cuts (plan_leaves supply g label (roots_of roots) cuts h) lits)
+  is_made = tables_made supply g label (roots_of roots) cuts h lits
 
   abbrev there : TemplateValue
   there = record { luts = made.luts; outputs = roots.outputs; next = roots.next; bits = made.bits; depth = target g label (roots_of roots) }

@@ -1,5 +1,6 @@
 -- The cone of a node, as a list, is what is reached from it.
-use Rattle.cover_pick.proofs.Common.{◌≡◌, ℕ, zero, suc, ◌-◌, ◌/◌, ◌<◌, ◌≤◌, true, false, ltb, eqb, List, [], ◌∷◌, Option, Some, None, refl, sym, length, subst, inl, inr, ◌⊎◌, arith, slice_get_within, cases_Bool, or_cases, or_parts, cases_lt, ltb-true, ltb-false, both_ways, lt-ltb, Aig, first_and, node_count, pair_of, IsNode, IsNormal, AreNormal, Pair, node_normal, In, choose, IsDescending, put_down, is_stop, put_fan_ins, cone, cone_of, IsInner, Path, here, left, right, IsCone, rules}
+use Rattle.cover_pick.proofs.Common.{◌≡◌, ℕ, zero, suc, ◌-◌, ◌/◌, ◌<◌, ◌≤◌, true, false, ltb, eqb, List, [], ◌∷◌, Option, Some, None, refl, sym, length, subst, inl, inr, ◌⊎◌, arith, slice_get_within, cases_Bool, or_cases, or_parts, cases_lt, ltb-true, ltb-false, both_ways, lt-ltb, Aig, first_and, node_count, pair_of, IsNode, IsNormal, AreNormal, Pair, node_normal, In, choose, IsDescending, is_stop, IsInner, Path, here, left, right, IsCone, rules}
+use Rattle.std.specs.Prelude.{if◌then◌else◌, ◌==◌, nat_lt}
 use Rattle.cut_sets.proofs.SetLemmas.{has_true, has_from}
 
 -- what does not end the way down is an AND node that is no leaf
@@ -21,6 +22,25 @@ pub stopped : (g : Aig) (c : List ℕ) (m n : ℕ) → Path g c m n → is_stop 
 stopped g c m n (here t e) h = both_ways (is_stop g c n) (inner_stop g c n t) h
 stopped g c m n (left p t e q) h = both_ways (is_stop g c n) (inner_stop g c n t) h
 stopped g c m n (right p t e q) h = both_ways (is_stop g c n) (inner_stop g c n t) h
+
+-- a descending list without repeats, with one more
+abbrev pub put_down : ℕ → List ℕ → List ℕ
+put_down x [] = x ∷ []
+put_down x (y ∷ ys) = if nat_lt y x then x ∷ y ∷ ys else if x == y then y ∷ ys else y ∷ put_down x ys
+
+abbrev pub put_fan_ins : Option Pair → List ℕ → List ℕ
+put_fan_ins None rest = rest
+put_fan_ins (Some p) rest = put_down (p.x.0 / 2) (put_down (p.y.0 / 2) rest)
+
+-- the AND nodes reached from the pending nodes without passing a leaf, the greatest first, of at most f nodes taken
+abbrev pub cone : Aig → List ℕ → ℕ → List ℕ → List ℕ
+cone g c zero pending = []
+cone g c (suc f) [] = []
+cone g c (suc f) (n ∷ rest) = if is_stop g c n then cone g c f rest else n ∷ cone g c f (put_fan_ins (pair_of g n) rest)
+
+-- the cone of a node above some leaves
+abbrev pub cone_of : Aig → List ℕ → ℕ → List ℕ
+cone_of g c n = cone g c (suc n) (n ∷ [])
 
 -- a node that is reached from a pending one
 pub record From (g : Aig) (c pending : List ℕ) (m : ℕ) : Type 0 where

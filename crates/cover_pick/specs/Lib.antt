@@ -20,5 +20,7 @@ pub mod Required
 pub mod Planned
 pub mod Supplied
 pub mod Places
+pub mod Free
 pub mod Cone
+pub mod Counted
 pub mod Marks

@@ -8,7 +8,6 @@ use Rattle.cover_pick.specs.Rounds.{Supply, IsPlan}
 use Rattle.cover_pick.specs.Served.{IsServing}
 use Rattle.cover_pick.specs.Planned.{cut_at, and_depths, depths_of, IsPlanned}
 use Rattle.cover_pick.specs.Tables.{HasTable}
-use Rattle.cover_pick.specs.Cone.{table_work, work_of}
 
 -- a literal is marked: a root, or the positive literal of a leaf of a cut of the list
 pub data IsMarked (roots : List ℕ) (cuts : List (Option (List ℕ))) (l : ℕ) : Type 0 where
@@ -46,22 +45,20 @@ mark_cuts marks (o ∷ os) = mark_cuts (mark_cut marks o) os
 abbrev pub marks_of : Aig → List ℕ → List (Option (List ℕ)) → List Bool
 marks_of g roots cuts = mark_cuts (mark_each (replicate (2 * node_count g) false) roots) cuts
 
--- the tables made so far, their bits and their work
+-- the tables made so far, and their bits
 pub record Made : Type 0 where
   pub luts : List Lut
   pub bits : ℕ
-  pub work : ℕ
 
-abbrev pub add_table : Aig → Made → ℕ → Option (List ℕ) → Made
-add_table g made l None = made
-add_table g made l (Some c) = record {
+abbrev pub add_table : Made → ℕ → Option (List ℕ) → Made
+add_table made l None = made
+add_table made l (Some c) = record {
   luts = made.luts ++ record { lit = record { 0 = l }; leaves = c; base = made.bits } ∷ [];
   bits = made.bits + 2 ^ length c;
-  work = made.work + table_work g l c;
 }
 
 abbrev pub add_marked : Aig → List (Option (List ℕ)) → Made → ℕ → Bool → Made
-add_marked g cuts made l needed = if needed then add_table g made l (leaves_of g cuts l) else made
+add_marked g cuts made l needed = if needed then add_table made l (leaves_of g cuts l) else made
 
 -- the tables of the marked literals from l on
 abbrev pub tables_from : Aig → List (Option (List ℕ)) → Made → ℕ → List Bool → Made
@@ -69,9 +66,9 @@ tables_from g cuts made l [] = made
 tables_from g cuts made l (m ∷ ms) = tables_from g cuts (add_marked g cuts made l m) (l + 1) ms
 
 abbrev pub tables_of : Aig → List ℕ → List (Option (List ℕ)) → Made
-tables_of g roots cuts = tables_from g cuts (record { luts = []; bits = 0; work = 0 }) 0 (marks_of g roots cuts)
+tables_of g roots cuts = tables_from g cuts (record { luts = []; bits = 0 }) 0 (marks_of g roots cuts)
 
--- the tables of the needed literals below l, with their bits and their work
+-- the tables of the needed literals below l, with their bits
 pub record AreMade (g : Aig) (cuts : List (Option (List ℕ))) (needed : ℕ → Type 0) (l : ℕ) (made : Made) : Type 0 where
   pub below : (t : Lut) → In made.luts t → t.lit.0 < l
   pub only : (t : Lut) → In made.luts t → needed t.lit.0 × (leaves_of g cuts t.lit.0 ≡ Some t.leaves)
@@ -79,7 +76,6 @@ pub record AreMade (g : Aig) (cuts : List (Option (List ℕ))) (needed : ℕ →
   pub ascending : AscendByLit made.luts
   pub bases : HaveBases 0 made.luts
   pub sum : made.bits ≡ bits_of made.luts
-  pub work : made.work ≡ work_of g made.luts
 
 -- the tables of the marked literals over the cuts that the walk finds in some rows by some flows, which are the plan
 pub record IsMade (supply : Supply) (g : Aig) (label : ℕ → ℕ) (roots : List ℕ) (made : Made) : Type 0 where

@@ -3,7 +3,7 @@ use Rattle.std.specs.Prelude.{◌≡◌, ℕ, suc, ◌*◌, ◌/◌, ◌%◌, �
 use Rattle.cover_pick.specs.Words.{Aig, first_and, IsAnd, IsSource, Regular, Lit, RootsValue, roots_of, In, MOST_WORK, Lut}
 use Rattle.cover_pick.specs.Rounds.{Supply, IsPlan}
 use Rattle.cover_pick.specs.Tables.{HasTable, AreTables}
-use Rattle.cover_pick.specs.Work.{IsWork}
+use Rattle.cover_pick.specs.Work.{IsWork, once_by}
 
 -- what a template is seen as
 pub record TemplateValue : Type 0 where
@@ -48,5 +48,5 @@ pub record IsTooMuch (supply : Supply) (g : Aig) (label : ℕ → ℕ) (roots : 
   pub bits : ℕ
   pub chosen : AreChosen supply g label roots luts bits
   pub work : ℕ
-  pub is : IsWork g luts work
+  pub is : IsWork g (once_by supply g luts) luts work
   pub past : MOST_WORK < work

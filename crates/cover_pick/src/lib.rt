@@ -18,7 +18,12 @@
 //! - A *LUT* belongs to a needed literal. Its inputs are the leaves of the chosen cut; the source itself for a complemented
 //!   regular source; and none for a constant or a parameter. A positive regular source is a wire and has no LUT. A LUT of m
 //!   leaves has 2^m bits, which begin at its *base*.
-//! - The *work* of a LUT is its bits times one more than the number of AND nodes that it computes, its *cone*.
+//! - The *cone* of a LUT is the AND nodes that it computes: those reached from its node without passing a leaf.
+//! - A *free* node is above no leaf of a LUT and above no regular source: only parameters and constants are below it. Its
+//!   function is the same in all LUTs and at all their addresses.
+//! - The *work* of the LUTs is the sum over them of their bits times one more than their *own* nodes, plus 1 for each node
+//!   that is counted once. By the fewest leaves a LUT owns its whole cone, and no node is counted once. By the least cost the
+//!   free nodes of the cones are counted once for all LUTs, and each LUT owns the rest of its cone.
 //!
 //! # The steps, one file each
 //!
@@ -33,19 +38,22 @@
 //!    flows of a round are over the uses in the cover of the round before it. Bounded sets of cuts (crate `bounded_cuts`) are
 //!    made twice, the second time over what the best cover so far uses.
 //! 7. `needed`, `tables`: the needed literals and their LUTs, in ascending order.
-//! 8. `cone`: the AND nodes in the cone of a LUT, each visited once.
+//! 8. `free`: the free nodes, in one pass up.
+//! 9. `cone`, `work`, `light`: the own nodes of a LUT, each visited once, and the limit on the work. The walk of a cone stops at
+//!    the nodes that are counted once and marks them as met. One pass down counts those that were met and all below them.
 //!
 //! # What is proved
 //!
 //! The contracts of `pick` and `pick_compact` say three things about their LUTs: the rule chooses them (`specs/Template.antt`, `IsTemplate`),
 //! they map the graph (`specs/Mapping.antt`, `IsMapping`), and no cover of the graph is less deep (`IsLeast`, same file). The
 //! rule is defined by relations alone, independently of the pass that finds the answer: required depths and chosen cuts by
-//! `IsPlan` (`specs/Rounds.antt`), the LUTs by `AreTables`, and the work by the cones as sets of nodes (`specs/Work.antt`).
+//! `IsPlan` (`specs/Rounds.antt`), the LUTs by `AreTables`, and the work by sets of nodes (`specs/Work.antt`).
 //! `IsPlan` is `IsPlanBy` some flows (`specs/Schedule.antt`), and `specs/Rounds.antt` says which flows these are for the least
 //! cost. The least depth holds of every plan by flows. A graph with its labels, roots and table of cuts, or low cuts, has
 //! exactly one plan, one template and one work. So too much work is always reported.
 //!
 //! `proofs/Examples.antt` has the plan, the LUT and the work of a small graph, and two rounds over another one.
+//! `proofs/WorkExample.antt` has the work of two LUTs that share a free node, by both rules.
 #![tactic(auto)]
 
 mod choice;
@@ -53,6 +61,8 @@ mod cone;
 mod cost;
 mod cuts;
 mod flow;
+mod free;
+mod light;
 mod limits;
 mod lut;
 mod makings;
@@ -64,7 +74,9 @@ mod tables;
 mod target;
 mod template;
 mod uses;
+mod work;
 
+pub use free::free_nodes;
 pub use lut::{Lut, PickErr};
 pub use rule::Rule;
 pub use template::{Template, pick, pick_compact};

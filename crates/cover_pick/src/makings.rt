@@ -15,9 +15,10 @@ ghost use Rattle.cover_pick.specs.Template.{IsTooMuch};
 ghost use Rattle.cover_pick.specs.Marks.{IsMade};
 
 use crate::flow::fan_outs;
+use crate::light::sharing_tables;
 use crate::lut::PickErr;
 use crate::rounds::{cheaper, six_rounds};
-use crate::tables::{Tables, make_tables};
+use crate::tables::Tables;
 use crate::uses::{needed_nodes, uses};
 use aig_core::{Graph, Lit};
 use bounded_cuts::{Wanted, bounded_sets};
@@ -73,7 +74,7 @@ pub fn cheapest_tables(
     requires room { places k * length graph.now.pairs ≤ MOST_CUTS }
     requires roots { AreRoots graph.now (lits_of roots.now) }
     ensures ok { IfOk result (λ made. IsMade (Sets k (low_in lows.now)) graph.now (label_at labels.now) (lits_of roots.now) made) }
-    ensures light { IfOk result (λ made. IsLight graph.now made.luts) }
+    ensures light { IfOk result (λ made. IsLight (Sets k (low_in lows.now)) graph.now made.luts) }
     ensures err { IfErr result (OrMemory refusal_of (λ _. IsTooMuch (Sets k (low_in lows.now)) graph.now (label_at labels.now) (lits_of roots.now))) }
 {
     // The contract of this call says that the graph's pairs are normal, which the least depth needs.
@@ -86,6 +87,6 @@ pub fn cheapest_tables(
     let second = sets_for(alloc, graph, k, labels, lows, &used, &needed)?;
     let other = six_rounds(alloc, graph, &second, labels, roots, &used)?;
     let cuts = cheaper(graph, best, other);
-    let made = make_tables(alloc, graph, &cuts, roots)?;
+    let made = sharing_tables(alloc, graph, &cuts, roots)?;
     Ok(made)
 }

@@ -5,7 +5,7 @@
 pub enum Rule {
     /// The fewest leaves, then the least height. Gives few bits, and functions of few parameters.
     FewestLeaves,
-    /// The least cost, where a leaf that is needed already costs nothing. Gives few LUTs. It makes six covers, each with other
-    /// flows, and takes the first one of the least cost.
+    /// The least cost, where a leaf that is needed already costs nothing. Gives few LUTs. Two makings of six covers, each with
+    /// other flows, give twelve covers, and the first one of the least cost is taken.
     LeastCost,
 }

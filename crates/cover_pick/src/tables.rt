@@ -1,15 +1,13 @@
 //! The LUTs of the needed literals.
 ghost use Rattle.std.specs.Prelude.{◌≡◌, ℕ, List, ◌+◌, ◌*◌, ◌/◌, ◌<◌, ◌≤◌, ◌^◌, length, Option, Some, [], IfOk, IfErr, OnOk};
-ghost use Rattle.aig_core.specs.Aig.{first_and, node_count, AreNormal};
+ghost use Rattle.aig_core.specs.Aig.{node_count};
 ghost use Rattle.aig_core.specs.Roots.{lits_of, AreRoots};
 ghost use Rattle.list_laws.specs.Members.{In};
 ghost use Rattle.cut_sets.specs.declared.limits.TheConstants.{MOST_LEAVES};
 ghost use Rattle.tl_fault.specs.OrMemory.{OrMemory};
 ghost use Rattle.cover_pick.specs.Refusals.{refusal_of};
-ghost use Rattle.cover_pick.specs.Cone.{stamp_at};
-ghost use Rattle.cover_pick.specs.Marks.{leaves_of as the_leaves, add_table as with_table, add_marked as with_marked, tables_from, tables_of, IsMarked, AreMade};
+ghost use Rattle.cover_pick.specs.Marks.{leaves_of as the_leaves, add_table as with_table, add_marked as with_marked, tables_from, tables_of};
 
-use crate::cone::Search;
 use crate::cuts::ChosenCuts;
 use crate::limits::MOST_WORK;
 use crate::lut::{Lut, PickErr};
@@ -19,12 +17,11 @@ use cut_enum::Cut;
 use std::alloc::Global;
 use std::marker::Model;
 
-/// LUTs, the sum of their bits and the sum of their work.
+/// LUTs, and the sum of their bits.
 #[derive(Drop)]
 pub struct Tables {
     pub luts: Vec<Lut>,
     pub bits: u32,
-    pub work: u64,
 }
 
 impl Model for Tables {
@@ -32,7 +29,7 @@ impl Model for Tables {
 
     ghost Value = { Made };
 
-    ghost view = { λ t. record { luts = t.luts.items; bits = t.bits; work = t.work } };
+    ghost view = { λ t. record { luts = t.luts.items; bits = t.bits } };
 }
 
 // The leaves of the LUT of a literal, if it has one.
@@ -68,38 +65,20 @@ pub fn table_bits(leaves: usize) -> u32
     1 << leaves
 }
 
-// Appends a LUT, unless the work would exceed the limit.
-fn add_table(
-    graph: &Graph,
-    search: &mut Search,
-    made: &mut Tables,
-    lit: Lit,
-    leaves: Cut,
-) -> Result<(), PickErr>
-    requires node { lit.0 / 2 < node_count graph.now }
-    requires small { node_count graph.now ≤ 2 ^ 30 }
-    requires normal { AreNormal (first_and graph.now) graph.now.pairs }
-    requires work { made.old.work ≤ MOST_WORK }
-    requires bits { made.old.bits ≤ made.old.work }
-    requires len { length search.old.stamps ≡ node_count graph.now }
-    requires stamps { (n : ℕ) → stamp_at search.old.stamps n ≤ lit.0 }
-    ensures ok { OnOk result (made.new ≡ with_table graph.now made.old lit.0 (Some leaves)) }
-    ensures within { OnOk result (made.new.work ≤ MOST_WORK) }
-    ensures fits { OnOk result (made.new.bits ≤ made.new.work) }
-    ensures err { IfErr result (OrMemory refusal_of (λ _. MOST_WORK < (with_table graph.now made.old lit.0 (Some leaves)).work)) }
-    ensures len { OnOk result (length search.new.stamps ≡ node_count graph.now) }
-    ensures stamps { OnOk result ((n : ℕ) → stamp_at search.new.stamps n ≤ lit.0 + 1) }
+// Appends a LUT, unless the bits would exceed the limit on the work, which is no less than they are.
+fn add_table(made: &mut Tables, lit: Lit, leaves: Cut) -> Result<(), PickErr>
+    requires bits { made.old.bits ≤ MOST_WORK }
+    ensures ok { OnOk result (made.new ≡ with_table made.old lit.0 (Some leaves)) }
+    ensures within { OnOk result (made.new.bits ≤ MOST_WORK) }
+    ensures err { IfErr result (OrMemory refusal_of (λ _. MOST_WORK < (with_table made.old lit.0 (Some leaves)).bits)) }
 {
-    let size = search.cone_size(graph, leaves.leaves(), lit.0 / 2, lit.0 + 1)?;
-    let bits = table_bits(leaves.len());
-    let work = made.work + bits as u64 * (1 + size as u64);
-    if work > MOST_WORK {
+    let base = made.bits;
+    let bits = base + table_bits(leaves.len());
+    if bits as u64 > MOST_WORK {
         return Err(PickErr::Work);
     }
-    let base = made.bits;
     made.luts.push(Lut { lit, leaves, base })?;
-    made.bits = base + bits;
-    made.work = work;
+    made.bits = bits;
     Ok(())
 }
 
@@ -108,31 +87,22 @@ fn add_marked(
     alloc: Global,
     graph: &Graph,
     cuts: &ChosenCuts,
-    search: &mut Search,
     made: &mut Tables,
     lit: Lit,
     needed: bool,
 ) -> Result<(), PickErr>
     requires node { lit.0 / 2 < node_count graph.now }
-    requires small { node_count graph.now ≤ 2 ^ 30 }
-    requires normal { AreNormal (first_and graph.now) graph.now.pairs }
-    requires work { made.old.work ≤ MOST_WORK }
-    requires bits { made.old.bits ≤ made.old.work }
-    requires len { length search.old.stamps ≡ node_count graph.now }
-    requires stamps { (n : ℕ) → stamp_at search.old.stamps n ≤ lit.0 }
+    requires bits { made.old.bits ≤ MOST_WORK }
     ensures ok { OnOk result (made.new ≡ with_marked graph.now cuts.now made.old lit.0 needed) }
-    ensures within { OnOk result (made.new.work ≤ MOST_WORK) }
-    ensures fits { OnOk result (made.new.bits ≤ made.new.work) }
-    ensures err { IfErr result (OrMemory refusal_of (λ _. MOST_WORK < (with_marked graph.now cuts.now made.old lit.0 needed).work)) }
-    ensures len { OnOk result (length search.new.stamps ≡ node_count graph.now) }
-    ensures stamps { OnOk result ((n : ℕ) → stamp_at search.new.stamps n ≤ lit.0 + 1) }
+    ensures within { OnOk result (made.new.bits ≤ MOST_WORK) }
+    ensures err { IfErr result (OrMemory refusal_of (λ _. MOST_WORK < (with_marked graph.now cuts.now made.old lit.0 needed).bits)) }
 {
     if !needed {
         return Ok(());
     }
     match leaves_of(alloc, graph, cuts, lit) {
         None => Ok(()),
-        Some(leaves) => add_table(graph, search, made, lit, leaves),
+        Some(leaves) => add_table(made, lit, leaves),
     }
 }
 
@@ -144,33 +114,23 @@ fn marked_tables(
     marks: &[bool],
 ) -> Result<Tables, PickErr>
     requires { length marks.now ≡ 2 * node_count graph.now }
-    ensures ok { IfOk result (λ made. made ≡ tables_from graph.now cuts.now (record { luts = []; bits = 0; work = 0 }) 0 marks.now) }
-    ensures within { IfOk result (λ made. made.work ≤ MOST_WORK) }
-    ensures err { IfErr result (OrMemory refusal_of (λ _. MOST_WORK < (tables_from graph.now cuts.now (record { luts = []; bits = 0; work = 0 }) 0 marks.now).work)) }
+    ensures ok { IfOk result (λ made. made ≡ tables_from graph.now cuts.now (record { luts = []; bits = 0 }) 0 marks.now) }
+    ensures err { IfErr result (OrMemory refusal_of (λ _. MOST_WORK < (tables_from graph.now cuts.now (record { luts = []; bits = 0 }) 0 marks.now).bits)) }
 {
-    let mut search = Search::start(alloc, graph)?;
+    let _count = graph.len();
     let mut made = Tables {
         luts: Vec::new(alloc),
         bits: 0,
-        work: 0,
     };
     let mut lit = 0;
     for needed in marks {
-        add_marked(
-            alloc,
-            graph,
-            cuts,
-            &mut search,
-            &mut made,
-            Lit(lit),
-            *needed,
-        )?;
+        add_marked(alloc, graph, cuts, &mut made, Lit(lit), *needed)?;
         lit += 1;
     }
     Ok(made)
 }
 
-// The LUTs of the needed literals, in ascending order, unless their work exceeds the limit.
+// The LUTs of the needed literals, in ascending order, unless they have too many bits.
 pub fn make_tables(
     alloc: Global,
     graph: &Graph,
@@ -180,9 +140,8 @@ pub fn make_tables(
     requires cuts { length cuts.now ≡ node_count graph.now }
     requires roots { AreRoots graph.now (lits_of roots.now) }
     requires leaves { (c : List ℕ) (m : ℕ) → In cuts.now (Some c) → In c m → m < node_count graph.now }
-    ensures ok { IfOk result (λ made. AreMade graph.now cuts.now (IsMarked (lits_of roots.now) cuts.now) (2 * node_count graph.now) made) }
-    ensures within { IfOk result (λ made. made.work ≤ MOST_WORK) }
-    ensures err { IfErr result (OrMemory refusal_of (λ _. MOST_WORK < (tables_of graph.now (lits_of roots.now) cuts.now).work)) }
+    ensures ok { IfOk result (λ made. made ≡ tables_of graph.now (lits_of roots.now) cuts.now) }
+    ensures err { IfErr result (OrMemory refusal_of (λ _. MOST_WORK < (tables_of graph.now (lits_of roots.now) cuts.now).bits)) }
 {
     let marks = needed(alloc, graph, cuts, roots)?;
     let made = marked_tables(alloc, graph, cuts, &marks)?;

@@ -18,10 +18,11 @@ ghost use Rattle.cover_pick.specs.Marks.{IsMade};
 ghost use Rattle.cover_pick.specs.Supplied.{IsSupplied};
 
 use crate::cuts::cuts_by;
+use crate::light::apart_tables;
 use crate::lut::{Lut, PickErr};
 use crate::makings::cheapest_tables;
 use crate::rule::Rule;
-use crate::tables::{Tables, make_tables};
+use crate::tables::Tables;
 use crate::target::target;
 use aig_core::{Graph, Lit, Roots};
 use bounded_cuts::set_laws;
@@ -71,7 +72,7 @@ fn fewest_tables(
     requires labels { AreLabelled graph.now table.now labels.now }
     requires roots { AreRoots graph.now (lits_of roots.now) }
     ensures ok { IfOk result (λ made. IsMade (Rows table.now) graph.now (label_of labels.now) (lits_of roots.now) made) }
-    ensures light { IfOk result (λ made. IsLight graph.now made.luts) }
+    ensures light { IfOk result (λ made. IsLight (Rows table.now) graph.now made.luts) }
     ensures err { IfErr result (OrMemory refusal_of (λ _. IsTooMuch (Rows table.now) graph.now (label_of labels.now) (lits_of roots.now))) }
 {
     // The contract of this call says that the graph's pairs are normal, which the least depth needs.
@@ -79,7 +80,7 @@ fn fewest_tables(
     let labels = labels.node_labels();
     let rule = Rule::FewestLeaves;
     let cuts = cuts_by(alloc, rule, graph, table.rows(), labels, roots, &[])?;
-    let made = make_tables(alloc, graph, &cuts, roots)?;
+    let made = apart_tables(alloc, graph, &cuts, roots)?;
     Ok(made)
 }
 
@@ -123,7 +124,7 @@ fn fewest_template(
     requires roots { AreRoots graph.now (roots_of roots.now) }
     ensures template { IfOk result (λ t. IsTemplate (Rows table.now) graph.now (label_of labels.now) roots.now t) }
     ensures timely { IfOk result (λ t. IsSupplied (Rows table.now) graph.now (label_of labels.now) → AreTimely (Rows table.now) graph.now (label_of labels.now) (roots_of roots.now) t.luts) }
-    ensures light { IfOk result (λ t. IsLight graph.now t.luts) }
+    ensures light { IfOk result (λ t. IsLight (Rows table.now) graph.now t.luts) }
     ensures work { IfErr result (OrMemory refusal_of (λ _. IsTooMuch (Rows table.now) graph.now (label_of labels.now) (roots_of roots.now))) }
 {
     let all = all_roots(alloc, roots)?;
@@ -149,7 +150,7 @@ fn compact_template(
     requires roots { AreRoots graph.now (roots_of roots.now) }
     ensures template { IfOk result (λ t. IsTemplate (Sets k (low_in lows.now)) graph.now (label_at labels.now) roots.now t) }
     ensures timely { IfOk result (λ t. IsSupplied (Sets k (low_in lows.now)) graph.now (label_at labels.now) → AreTimely (Sets k (low_in lows.now)) graph.now (label_at labels.now) (roots_of roots.now) t.luts) }
-    ensures light { IfOk result (λ t. IsLight graph.now t.luts) }
+    ensures light { IfOk result (λ t. IsLight (Sets k (low_in lows.now)) graph.now t.luts) }
     ensures work { IfErr result (OrMemory refusal_of (λ _. IsTooMuch (Sets k (low_in lows.now)) graph.now (label_at labels.now) (roots_of roots.now))) }
 {
     let all = all_roots(alloc, roots)?;
@@ -198,9 +199,9 @@ pub fn pick(
     ensures once { (t u : TemplateValue) → IsTemplate (Rows table.now) graph.now (label_of labels.now) roots.now t → IsTemplate (Rows table.now) graph.now (label_of labels.now) roots.now u → t ≡ u }
 
     // The limit on the work, in both directions.
-    ensures light { IfOk result (λ t. IsLight graph.now t.luts) }
+    ensures light { IfOk result (λ t. IsLight (Rows table.now) graph.now t.luts) }
     ensures work { IfErr result (OrMemory refusal_of (λ _. IsTooMuch (Rows table.now) graph.now (label_of labels.now) (roots_of roots.now))) }
-    ensures excluded { (t : TemplateValue) → IsTemplate (Rows table.now) graph.now (label_of labels.now) roots.now t → IsLight graph.now t.luts → IsTooMuch (Rows table.now) graph.now (label_of labels.now) (roots_of roots.now) → ⊥ }
+    ensures excluded { (t : TemplateValue) → IsTemplate (Rows table.now) graph.now (label_of labels.now) roots.now t → IsLight (Rows table.now) graph.now t.luts → IsTooMuch (Rows table.now) graph.now (label_of labels.now) (roots_of roots.now) → ⊥ }
     ensures too_much { IsTooMuch (Rows table.now) graph.now (label_of labels.now) (roots_of roots.now) → (result ≡ Err PickErr.Work) ⊎ (result ≡ Err PickErr.Memory) }
 {
     // The contract of this call says that the graph's pairs are normal, which the least depth needs.
@@ -225,12 +226,16 @@ pub fn pick(
 ///
 /// # Errors
 ///
-/// As those of [`pick`].
+/// `Work` if and only if the work exceeds `MOST_WORK`. A *free* node is above no leaf of a LUT and above no regular source: only
+/// parameters and constants are below it. The work is the sum over the LUTs of their bits times one more than the number of AND
+/// nodes that they compute and that aren't free, plus 1 for each free AND node that some LUT computes. `Memory` if memory runs
+/// out.
 ///
 /// # Complexity
 ///
 /// Linear in the graph for a given `k`, but for the work of the LUTs: a set has at most 2k + 4 cuts. A round with the same counts
-/// as the one before it is left out.
+/// as the one before it is left out. Each AND node in the cone of a LUT that isn't free is read once for that LUT, and each free
+/// one once in all. At most the limit and one more cone of the work is counted.
 pub fn pick_compact(
     alloc: Global,
     graph: &Graph,
@@ -254,9 +259,9 @@ pub fn pick_compact(
     ensures once { (t u : TemplateValue) → IsTemplate (Sets k (low_in lows.now)) graph.now (label_at labels.now) roots.now t → IsTemplate (Sets k (low_in lows.now)) graph.now (label_at labels.now) roots.now u → t ≡ u }
 
     // The limit on the work, in both directions.
-    ensures light { IfOk result (λ t. IsLight graph.now t.luts) }
+    ensures light { IfOk result (λ t. IsLight (Sets k (low_in lows.now)) graph.now t.luts) }
     ensures work { IfErr result (OrMemory refusal_of (λ _. IsTooMuch (Sets k (low_in lows.now)) graph.now (label_at labels.now) (roots_of roots.now))) }
-    ensures excluded { (t : TemplateValue) → IsTemplate (Sets k (low_in lows.now)) graph.now (label_at labels.now) roots.now t → IsLight graph.now t.luts → IsTooMuch (Sets k (low_in lows.now)) graph.now (label_at labels.now) (roots_of roots.now) → ⊥ }
+    ensures excluded { (t : TemplateValue) → IsTemplate (Sets k (low_in lows.now)) graph.now (label_at labels.now) roots.now t → IsLight (Sets k (low_in lows.now)) graph.now t.luts → IsTooMuch (Sets k (low_in lows.now)) graph.now (label_at labels.now) (roots_of roots.now) → ⊥ }
     ensures too_much { IsTooMuch (Sets k (low_in lows.now)) graph.now (label_at labels.now) (roots_of roots.now) → (result ≡ Err PickErr.Work) ⊎ (result ≡ Err PickErr.Memory) }
 {
     let _count = graph.len();

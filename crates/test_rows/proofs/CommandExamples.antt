@@ -8,7 +8,7 @@ use Rattle.cover_pick.specs.declared.rule.Rule.TheVariants.{FewestLeaves, LeastC
 use Rattle.cmd_stations.specs.Source.{SourceWords}
 use Rattle.cmd_base.specs.Walk.{Outside}
 use Rattle.cmd_base.specs.Writing.{FileText, AreWritten, IsCutInFile, IsCutInLine}
-use Rattle.tlut_cli.specs.Commands.{Spec, Map, Bits, Gen, Repack, Prove, Audit, command_of}
+use Rattle.tlut_cli.specs.Commands.{Spec, Map, Bits, Gen, Repack, Prove, Audit, Graph, command_of}
 use Rattle.cmd_run.specs.GenCommand.Verdict.{first_line, last_line}
 
 -- the words K NETLIST PARAMS, for tables of six inputs
@@ -42,6 +42,12 @@ a_proof = refl
 
 an_audit : command_of FewestLeaves 4 (codes "audit" ∷ six ++ codes "c" ∷ []) ≡ Some (Audit (record { source = source; cert = codes "c" }))
 an_audit = refl
+
+a_compact_audit : command_of LeastCost 4 (codes "audit" ∷ six ++ codes "c" ∷ []) ≡ Some (Audit (record { source = record { rule = LeastCost; k = 6; netlist = codes "n"; params = codes "p" }; cert = codes "c" }))
+a_compact_audit = refl
+
+a_compact_graph : command_of LeastCost 4 (codes "graph" ∷ codes "n" ∷ codes "p" ∷ codes "o" ∷ []) ≡ Some (Graph (record { source = record { rule = LeastCost; k = 0; netlist = codes "n"; params = codes "p" }; out = codes "o" }))
+a_compact_graph = refl
 
 -- and words of no form: one file for both, no digit or too many, too great a seed, a word too many
 one_file_of_map : command_of FewestLeaves 4 (codes "map" ∷ six ++ codes "t" ∷ codes "t" ∷ []) ≡ None

@@ -13,9 +13,9 @@ use std::alloc::Global;
 use std::io;
 use test_player::{Program, report_of};
 use tl_io::{ConfigPort, DiskShelf, MemShelf, MemSink};
-use tlut_cli::tlut;
+use tlut_cli::{Rule, tlut, tlut_by};
 
-// The program of which the rows are jobs.
+// The program of which the rows are jobs: the second one if `--compact` is before the arguments.
 struct Tlut;
 
 impl Program for Tlut {
@@ -28,7 +28,12 @@ impl Program for Tlut {
         err: &mut MemSink,
         ports: &mut Vec<Box<dyn ConfigPort>>,
     ) -> u8 {
-        tlut(alloc, words, shelf, out, err, ports).code()
+        match words {
+            [first, rest @ ..] if first.as_str() == "--compact" => {
+                tlut_by(alloc, Rule::LeastCost, rest, shelf, out, err, ports).code()
+            }
+            _ => tlut(alloc, words, shelf, out, err, ports).code(),
+        }
     }
 }
 

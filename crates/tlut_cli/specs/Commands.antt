@@ -2,7 +2,6 @@
 use Rattle.std.specs.Prelude.{ℕ, List, [], ◌∷◌, codes, Option, Some, None}
 use Rattle.std.specs.Option.{option_map}
 use Rattle.cover_pick.specs.declared.rule.Rule.{Rule}
-use Rattle.cover_pick.specs.declared.rule.Rule.TheVariants.{FewestLeaves}
 use Rattle.cmd_base.specs.Walk.{Walk}
 use Rattle.tlut_cli.specs.declared.command.Command.{Command as CommandRead}
 use Rattle.tlut_cli.specs.declared.command.Command.TheVariants as read
@@ -44,10 +43,10 @@ or_else (Some command) other = Some command
 or_else None other = other
 
 abbrev pub cert_commands : Rule → List (List ℕ) → Option Command
-cert_commands rule words = or_else (option_map Prove (cert_words_of rule (codes "prove") words)) (option_map Audit (cert_words_of FewestLeaves (codes "audit") words))
+cert_commands rule words = or_else (option_map Prove (cert_words_of rule (codes "prove") words)) (option_map Audit (cert_words_of rule (codes "audit") words))
 
 abbrev pub later_commands : Rule → List (List ℕ) → Option Command
-later_commands rule words = or_else (cert_commands rule words) (or_else (option_map Graph (graph_words_of words)) (option_map Pace (pace_of rule words)))
+later_commands rule words = or_else (cert_commands rule words) (or_else (option_map Graph (graph_words_of rule words)) (option_map Pace (pace_of rule words)))
 
 abbrev pub other_commands : Rule → List (List ℕ) → Option Command
 other_commands rule words =

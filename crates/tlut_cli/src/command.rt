@@ -38,7 +38,7 @@ fn read_cert_command(rule: Rule, words: &[String]) -> Option<Command<'_>>
     if let Some(words) = read_prove(rule, words) {
         return Some(Command::Prove(words));
     }
-    match read_audit(words) {
+    match read_audit(rule, words) {
         Some(words) => Some(Command::Audit(words)),
         None => None,
     }
@@ -52,7 +52,7 @@ fn read_later(rule: Rule, words: &[String]) -> Option<Command<'_>>
     if let Some(command) = read_cert_command(rule, words) {
         return Some(command);
     }
-    if let Some(words) = read_graph_words(words) {
+    if let Some(words) = read_graph_words(rule, words) {
         return Some(Command::Graph(words));
     }
     match read_pace_words(rule, words) {

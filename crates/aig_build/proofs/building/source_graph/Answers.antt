@@ -1,4 +1,4 @@
-use Rattle.aig_build.proofs.Common.{◌≡◌, ◌+◌, ◌-◌, ◌≤◌, ℕ, List, [], ◌++◌, IfOk, length, replicate, vec_len, ap, ◌∙◌, subst, arith, FlatValue, Param, ParamsValue, param_names, regular_names, Kind, Regular, Parameter, MOST_NODES, input_names, source_kinds, NetLitsValue, length-map, length-append, length-replicate}
+use Rattle.aig_build.proofs.Common.{◌≡◌, ◌+◌, ◌-◌, ◌≤◌, ℕ, List, [], ◌++◌, IfOk, length, replicate, vec_len, ap, ◌∙◌, subst, arith, FlatValue, Param, ParamsValue, param_names, regular_names, Kind, Regular, Parameter, input_names, source_kinds, NetLitsValue, length-map, length-append, length-replicate}
 use Rattle.aig_build.proofs.SourceLemmas.{start_latches, few_regular}
 use Rattle.aig_build.proofs.building.source_graph.Goals as goal
 
@@ -33,7 +33,7 @@ keyed-requires c =
     let n : vec_len c.in_ok-kinds.kinds ≡ length (rs ++ (ps ++ ls)) = c.in_ok-kinds.kinds.ok.0 ∙ ap length c.in_ok-kinds.ensures in
     let few : length params ≤ 65535 = c.requires.params.named.few in
     let most : length (regular_names flat params) ≤ length flat.inputs = few_regular flat params c.requires.once c.requires.params in
-    omega (arith, length-append (regular_names flat params) (param_names params), c.requires.few, c.requires.few_latches, length-append {A = Kind}, length-replicate {A = Kind})
+    omega (arith, length-append (regular_names flat params) (param_names params), c.requires.few, c.requires.few_latches, c.requires.most, length-append {A = Kind}, length-replicate {A = Kind})
 
 pub returns : goal.returns
 returns c =
@@ -49,4 +49,4 @@ returns c =
     ∙ ap (λ (n : ℕ). replicate n Regular ++ (replicate c.len-params.result Parameter ++ replicate c.len.result Regular)) r
     ∙ ap (λ (n : ℕ). replicate (length (regular_names flat params)) Regular ++ (replicate n Parameter ++ replicate c.len.result Regular)) p
     ∙ ap (λ (n : ℕ). replicate (length (regular_names flat params)) Regular ++ (replicate (length params) Parameter ++ replicate n Regular)) s in
-    subst (λ (ks : List Kind). IfOk c.keyed.result (λ g. g ≡ record { kinds = ks; pairs = []; max = MOST_NODES })) e c.keyed.ensures
+    subst (λ (ks : List Kind). IfOk c.keyed.result (λ g. g ≡ record { kinds = ks; pairs = []; max = c.args.most })) e c.keyed.ensures

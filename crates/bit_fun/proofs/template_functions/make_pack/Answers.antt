@@ -1,4 +1,4 @@
-use Rattle.bit_fun.proofs.Common.{◌≡◌, ◌∙◌, [], List, ap, subst, sym, In, Aig, first_and, AreNormal, Lut, PackParam, PackValue, IsPack, AreTablesMadeTo, IsPackOf}
+use Rattle.bit_fun.proofs.Common.{◌≡◌, ◌∙◌, List, ap, subst, sym, In, Aig, first_and, AreNormal, Lut, PackParam, PackValue, IsPack, HasAllTables, IsPackOf}
 use Rattle.cover_pick.specs.Template.{TemplateValue}
 use Rattle.bit_fun.proofs.PackLemmas.{table_in, pack_of, pack_kept}
 use Rattle.bit_fun.proofs.template_functions.make_pack.Goals as goal
@@ -14,7 +14,7 @@ make-requires-2 c =
     subst (λ (ps : List PackParam). IsPack ps c.push_tables.new.pack c.in_ok-bits.bits.items) (sym c.in_ok-pack_params.ensures)
     (pack_kept c.args.graph.now c.args.template.now.luts c.args.params.now.list c.in_ok-pack.pack c.push_tables.new.pack c.push_tables.new.lits c.in_ok-bits.bits.items c.requires.mapped c.requires.light c.requires.count c.requires.names
     (ap (λ (g : Aig). g.kinds) c.in_ok-pack.ensures) (ap (λ (g : Aig). g.pairs) c.in_ok-pack.ensures) (ap (λ (g : Aig). g.max) c.in_ok-pack.ensures)
-    (subst (λ (ls : List Lut). AreTablesMadeTo c.args.graph.now ls [] c.in_ok-pack.pack c.push_tables.new.pack c.push_tables.new.lits c.in_ok-bits.bits.items) tables c.in_ok-bits.ensures))
+    (subst (λ (ls : List Lut). HasAllTables c.args.graph.now ls c.in_ok-pack.pack c.push_tables.new.pack c.push_tables.new.lits c.in_ok-bits.bits.items) tables c.in_ok-bits.ensures))
 
 pub returns-clause-pack : goal.returns-clause-pack
 returns-clause-pack c =
@@ -23,7 +23,7 @@ returns-clause-pack c =
     (sym (c.make-2.ensures ∙ ap (λ ps. record { params = ps; graph = c.push_tables.new.pack; bits = c.in_ok-bits.bits.items }) c.in_ok-pack_params.ensures))
     (pack_of c.args.graph.now c.args.template.now.luts c.args.params.now.list c.in_ok-pack.pack c.push_tables.new.pack c.push_tables.new.lits c.in_ok-bits.bits.items (ap (λ (g : Aig). g.kinds) c.in_ok-pack.ensures)
     (ap (λ (g : Aig). g.pairs) c.in_ok-pack.ensures)
-    (subst (λ (ls : List Lut). AreTablesMadeTo c.args.graph.now ls [] c.in_ok-pack.pack c.push_tables.new.pack c.push_tables.new.lits c.in_ok-bits.bits.items) tables c.in_ok-bits.ensures))
+    (subst (λ (ls : List Lut). HasAllTables c.args.graph.now ls c.in_ok-pack.pack c.push_tables.new.pack c.push_tables.new.lits c.in_ok-bits.bits.items) tables c.in_ok-bits.ensures))
 
 pub returns-clause-kept : goal.returns-clause-kept
 returns-clause-kept c =
@@ -32,7 +32,7 @@ returns-clause-kept c =
     (subst (λ (ps : List PackParam). IsPack ps c.push_tables.new.pack c.in_ok-bits.bits.items) (sym c.in_ok-pack_params.ensures)
     (pack_kept c.args.graph.now c.args.template.now.luts c.args.params.now.list c.in_ok-pack.pack c.push_tables.new.pack c.push_tables.new.lits c.in_ok-bits.bits.items c.requires.mapped c.requires.light c.requires.count c.requires.names
     (ap (λ (g : Aig). g.kinds) c.in_ok-pack.ensures) (ap (λ (g : Aig). g.pairs) c.in_ok-pack.ensures) (ap (λ (g : Aig). g.max) c.in_ok-pack.ensures)
-    (subst (λ (ls : List Lut). AreTablesMadeTo c.args.graph.now ls [] c.in_ok-pack.pack c.push_tables.new.pack c.push_tables.new.lits c.in_ok-bits.bits.items) tables c.in_ok-bits.ensures)))
+    (subst (λ (ls : List Lut). HasAllTables c.args.graph.now ls c.in_ok-pack.pack c.push_tables.new.pack c.push_tables.new.lits c.in_ok-bits.bits.items) tables c.in_ok-bits.ensures)))
 
 pub returns-clause-normal : goal.returns-clause-normal
 returns-clause-normal c = subst (λ (p : PackValue). AreNormal (first_and p.graph) p.graph.pairs) (sym c.make-2.ensures) c.len-nodes.ensures.normal

@@ -1,4 +1,4 @@
-use Rattle.cmd_stations.proofs.Common.{HasTooManyNodes, IsLabellingSettled, HasOneLimit}
+use Rattle.cmd_stations.proofs.Common.{HasTooManyNodes, most_nodes, IsLabellingSettled, HasOneLimit}
 use Rattle.aig_build.specs.Refusals.{refusal_of as build_refusal}
 use Rattle.cmd_stations.proofs.StopLemmas.{passed_settled, passed_anyway}
 use Rattle.cmd_stations.proofs.GraphLemmas.{full_labelling, labelling_settled}
@@ -7,7 +7,7 @@ use Rattle.cmd_stations.proofs.labelling.label_source.Goals as goal
 pub returns-in_err-graph-clause-settled : goal.returns-in_err-graph-clause-settled
 returns-in_err-graph-clause-settled c =
     let source = c.args.source.now in
-    passed_settled build_refusal (λ _. HasTooManyNodes source.netlist.library source.netlist.flat source.params.list) (IsLabellingSettled c.args.rule source c.args.k) c.from_residual.result c.in_err-graph.field-0.0
+    passed_settled build_refusal (λ _. HasTooManyNodes source.netlist.library source.netlist.flat source.params.list (most_nodes c.args.rule)) (IsLabellingSettled c.args.rule source c.args.k) c.from_residual.result c.in_err-graph.field-0.0
     c.in_err-graph.ensures.err c.from_residual.ensures.1 (λ r told over. full_labelling source c.source_graph.ensures.one c.args.rule c.args.k over)
 
 pub returns-in_err-labels-clause-settled : goal.returns-in_err-labels-clause-settled

@@ -1,4 +1,4 @@
-use Rattle.cmd_stations.proofs.Common.{HasTooManyNodes, IsGraphSettled, IsMappingSettled}
+use Rattle.cmd_stations.proofs.Common.{HasTooManyNodes, most_nodes, IsGraphSettled, IsMappingSettled}
 use Rattle.aig_build.specs.Refusals.{refusal_of as build_refusal}
 use Rattle.cmd_stations.proofs.StopLemmas.{passed_settled, passed_anyway}
 use Rattle.cmd_stations.proofs.GraphLemmas.{full_settled, mapping_settled, tables_as}
@@ -7,7 +7,7 @@ use Rattle.cmd_stations.proofs.mapping.map_source.Goals as goal
 pub returns-in_err-graph-clause-settled : goal.returns-in_err-graph-clause-settled
 returns-in_err-graph-clause-settled c =
     let source = c.args.source.now in
-    passed_settled build_refusal (λ _. HasTooManyNodes source.netlist.library source.netlist.flat source.params.list) (IsMappingSettled c.args.rule source c.args.k) c.from_residual.result c.in_err-graph.field-0.0
+    passed_settled build_refusal (λ _. HasTooManyNodes source.netlist.library source.netlist.flat source.params.list (most_nodes c.args.rule)) (IsMappingSettled c.args.rule source c.args.k) c.from_residual.result c.in_err-graph.field-0.0
     c.in_err-graph.ensures.err c.from_residual.ensures.1 (λ r told over. full_settled source c.source_graph.ensures.one c.args.rule c.args.k over)
 
 pub returns-in_err-template-clause-settled : goal.returns-in_err-template-clause-settled

@@ -8,6 +8,9 @@ use Rattle.cmd_stations.proofs.mapping.tabulate.Goals as goal
 pub functions-requires-clause-count : goal.functions-requires-clause-count
 functions-requires-clause-count c = source_params c.args.source.now c.args.graph.now c.requires.tables.is_graph.kinds
 
+pub functions-requires-clause-light : goal.functions-requires-clause-light
+functions-requires-clause-light c = record { supply = c.requires.tables.chosen.supply; light = c.requires.tables.chosen.light }
+
 pub returns-clause-made : goal.returns-clause-made
 returns-clause-made c =
     let source = c.args.source.now in

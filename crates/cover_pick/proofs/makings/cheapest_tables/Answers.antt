@@ -1,8 +1,9 @@
-use Rattle.cover_pick.proofs.Common.{ℕ, List, [], Bool, subst, subst₂, lits_of, label_at, low_in, count_at, favoured_in, err_from_is_err_and, LeastCost, AreSets, IsPlanned, six_rounds, cut_at, Sets, HasPlan, IsMade}
+use Rattle.cover_pick.proofs.Common.{ℕ, List, [], Bool, subst, subst₂, lits_of, label_at, low_in, count_at, favoured_in, err_from_is_err_and, LeastCost, AreSets, IsPlanned, six_rounds, cut_at, Sets, HasPlan, Made, IsMade, sym}
 use Rattle.cover_pick.proofs.RuleLemmas.{roots_inside}
 use Rattle.cover_pick.proofs.RoundLemmas.{leaves_there}
 use Rattle.cover_pick.proofs.MakingLemmas.{makings_plan}
-use Rattle.cover_pick.proofs.ChosenLemmas.{light_is, too_much_told, made_of, plan_leaves}
+use Rattle.cover_pick.proofs.ChosenLemmas.{too_much_told, tables_made, plan_leaves}
+use Rattle.cover_pick.proofs.LightLemmas.{light_is}
 use Rattle.cover_pick.proofs.makings.cheapest_tables.Goals as goal
 
 pub uses-requires : goal.uses-requires
@@ -12,11 +13,11 @@ uses-requires c =
     let roots : List ℕ = lits_of c.args.roots.now in
     leaves_there LeastCost g c.in_ok-first.first label roots (six_rounds g c.in_ok-first.first label roots (count_at c.deref-2.result.now)) (cut_at c.in_ok-best.best) c.in_ok-first.ensures.serving c.in_ok-best.ensures.plan
 
-pub make_tables-requires-clause-cuts : goal.make_tables-requires-clause-cuts
-make_tables-requires-clause-cuts c = c.cheaper-cuts.ensures.len _ c.in_ok-best.ensures.len c.in_ok-other.ensures.len
+pub sharing_tables-requires-clause-cuts : goal.sharing_tables-requires-clause-cuts
+sharing_tables-requires-clause-cuts c = c.cheaper-cuts.ensures.len _ c.in_ok-best.ensures.len c.in_ok-other.ensures.len
 
-pub make_tables-requires-clause-leaves : goal.make_tables-requires-clause-leaves
-make_tables-requires-clause-leaves c =
+pub sharing_tables-requires-clause-leaves : goal.sharing_tables-requires-clause-leaves
+sharing_tables-requires-clause-leaves c =
     let g = c.args.graph.now in
     let label : ℕ → ℕ = label_at c.args.labels.now in
     let lows : ℕ → List ℕ = low_in c.args.lows.now in
@@ -47,8 +48,11 @@ returns c =
     (subst₂ (λ (s : List ℕ) (f : List Bool). AreSets g c.args.k label lows (count_at s) (favoured_in f) c.in_ok-second.second) c.deref-3.ensures.value c.deref-4.ensures.value c.in_ok-second.ensures.sets) c.in_ok-second.ensures.serving
     (subst (λ (s : List ℕ). IsPlanned LeastCost g c.in_ok-second.second label roots (six_rounds g c.in_ok-second.second label roots (count_at s)) (cut_at c.in_ok-other.other)) c.deref-5.ensures.value c.in_ok-other.ensures.plan)
     c.cheaper-cuts.ensures.value in
-    let made : IsMade (Sets c.args.k (low_in c.args.lows.now)) g label roots c.in_ok-made.made = made_of (Sets c.args.k lows) g label roots c.cheaper-cuts.result c.in_ok-made.made has c.in_ok-made.ensures.ok in
-    record { ok = made; light = light_is (Sets c.args.k lows) g label roots c.in_ok-made.made c.len-count.ensures.normal made c.in_ok-made.ensures.within; err = tt }
+    record {
+      ok = subst (λ (m : Made). IsMade (Sets c.args.k lows) g label roots m) (sym c.in_ok-made.ensures.ok) (tables_made (Sets c.args.k lows) g label roots c.cheaper-cuts.result has c.requires.roots);
+      light = light_is (Sets c.args.k lows) g c.in_ok-made.made.luts c.in_ok-made.ensures.light;
+      err = tt;
+    }
 
 pub returns-in_err-made-clause-err : goal.returns-in_err-made-clause-err
 returns-in_err-made-clause-err c =
@@ -66,4 +70,4 @@ returns-in_err-made-clause-err c =
     (subst (λ (s : List ℕ). IsPlanned LeastCost g c.in_ok-second.second label roots (six_rounds g c.in_ok-second.second label roots (count_at s)) (cut_at c.in_ok-other.other)) c.deref-5.ensures.value c.in_ok-other.ensures.plan)
     c.cheaper-cuts.ensures.value in
     let p = err_from_is_err_and c.from_residual-in_err-made.result c.from_residual-in_err-made.ensures.1 in
-    rw (p.1, p.2) (too_much_told (Sets c.args.k lows) g label roots c.cheaper-cuts.result c.len-count.ensures.normal has c.requires.roots c.in_err-made.field-0.0 c.in_err-made.ensures.err)
+    rw (p.1, p.2) (too_much_told (Sets c.args.k lows) g label roots c.cheaper-cuts.result has c.requires.roots c.in_err-made.field-0.0 c.in_err-made.ensures.err)

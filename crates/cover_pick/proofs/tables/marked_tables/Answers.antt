@@ -1,11 +1,11 @@
 use Rattle.cover_pick.proofs.Common.{arith, [], err_from_is_err_and, tables_from}
-use Rattle.cover_pick.proofs.TableLemmas.{tables_past, work_more}
+use Rattle.cover_pick.proofs.TableLemmas.{tables_past, bits_more}
 use Rattle.cover_pick.proofs.tables.marked_tables.Goals as goal
 
 pub returns-in_err-add_marked-clause-err : goal.returns-in_err-add_marked-clause-err
 returns-in_err-add_marked-clause-err c =
-    let p = err_from_is_err_and c.from_residual-in_err-add_marked.result c.from_residual-in_err-add_marked.ensures.1 in
-    rw (p.1, p.2) (work_more c.in_err-add_marked.field-0.0
+    let p = err_from_is_err_and c.from_residual.result c.from_residual.ensures.1 in
+    rw (p.1, p.2) (bits_more c.in_err-add_marked.field-0.0
     (tables_past c.args.graph.now c.args.cuts.now c.args.marks.now c.loop-needed.made
-    (tables_from c.args.graph.now c.args.cuts.now (record { luts = []; bits = 0; work = 0 }) 0 c.args.marks.now) c.loop-needed.lit c.loop-needed.needed-index (omega arith) c.loop-needed.invariant.rest)
+    (tables_from c.args.graph.now c.args.cuts.now (record { luts = []; bits = 0 }) 0 c.args.marks.now) c.loop-needed.lit c.loop-needed.needed-index (omega arith) c.loop-needed.invariant.rest)
     c.in_err-add_marked.ensures.err)

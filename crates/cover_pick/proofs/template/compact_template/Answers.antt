@@ -14,7 +14,7 @@ pub returns-clause-timely : goal.returns-clause-timely
 returns-clause-timely c = c.in_ok-template.ensures.timely (Sets c.args.k (low_in c.args.lows.now)) (subst (λ (rs : List ℕ). IsMade (Sets c.args.k (low_in c.args.lows.now)) c.args.graph.now (label_at c.args.labels.now) rs c.in_ok-made.made) (ap lits_of c.deref.ensures.value ∙ c.in_ok-all.ensures) c.in_ok-made.ensures.ok)
 
 pub returns-clause-light : goal.returns-clause-light
-returns-clause-light c = subst (λ (ts : List Lut). IsLight c.args.graph.now ts) (sym c.in_ok-template.ensures.luts) c.in_ok-made.ensures.light
+returns-clause-light c = subst (λ (ts : List Lut). IsLight (Sets c.args.k (low_in c.args.lows.now)) c.args.graph.now ts) (sym c.in_ok-template.ensures.luts) c.in_ok-made.ensures.light
 
 pub returns-in_err-made-clause-work : goal.returns-in_err-made-clause-work
 returns-in_err-made-clause-work c =

@@ -18,7 +18,7 @@ returns-clause-timely c =
     (c.in_ok-template.ensures.timely (Rows c.args.table.now) (subst₂ (λ (ls rs : List ℕ). IsMade (Rows c.args.table.now) c.args.graph.now (label_at ls) rs c.in_ok-made.made) (sym c.node_labels.ensures) (ap lits_of c.deref.ensures.value ∙ c.in_ok-all.ensures) c.in_ok-made.ensures.ok))
 
 pub returns-clause-light : goal.returns-clause-light
-returns-clause-light c = subst (λ (ts : List Lut). IsLight c.args.graph.now ts) (sym c.in_ok-template.ensures.luts) c.in_ok-made.ensures.light
+returns-clause-light c = subst (λ (ts : List Lut). IsLight (Rows c.args.table.now) c.args.graph.now ts) (sym c.in_ok-template.ensures.luts) c.in_ok-made.ensures.light
 
 pub returns-in_err-made-clause-work : goal.returns-in_err-made-clause-work
 returns-in_err-made-clause-work c =

@@ -1,6 +1,6 @@
 use Rattle.aig_build.proofs.SourceLemmas.{names_apart}
 use Rattle.aig_build.proofs.OnlyLemmas.{one_graph}
-use Rattle.aig_build.proofs.building.build.Goals as goal
+use Rattle.aig_build.proofs.building.build_within.Goals as goal
 
 pub returns-in-Ok-clause-one : goal.returns-in-Ok-clause-one
 returns-in-Ok-clause-one c = one_graph c.args.library.now c.args.flat.now c.args.params.now.list (names_apart c.args.flat.now c.args.params.now.list c.requires.bounds.inputs_once c.requires.params)
