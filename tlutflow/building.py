@@ -23,8 +23,9 @@ from tlutflow.changes import changes_of, rewritten
 from tlutflow.commands import prepare as prepare_words
 from tlutflow.commands import verilog
 from tlutflow.commands.hdl import way_of, way_words
-from tlutflow.devices.steps import DeviceSteps
 from tlutflow.commands.show import view_words
+from tlutflow.comparison import BY_PARTS, WHOLE
+from tlutflow.devices.steps import DeviceSteps
 from tlutflow.faults import Fault
 from tlutflow.mappings import Sizes, sizes_by_abc, sizes_by_tlut
 from tlutflow.netlist import read_library
@@ -126,7 +127,7 @@ class Build:
         """The netlist and its list of parameters."""
         given = self.given
         reads = [*given.files, *given.cells, self.binary]
-        sources = [given.set, given.define, given.include, given.reader]
+        sources = [given.set, given.define, given.include, given.reader, given.by_modules]
         chosen = [*sources, given.k, given.aim, given.device, given.ks, given.rule, given.quick, given.abc, given.seconds, given.rounds, given.only, given.further]
         words = [self.name, given.param, *chosen, {it: self.built.versions.get(it, "") for it in ("Yosys", "ABC", "tlut")}]
         work = self.from_verilog if self.is_verilog else self.from_netlist
@@ -140,6 +141,7 @@ class Build:
         words += ["--top", given.top, *(word for it in given.param for word in ("--param", it))] if self.is_verilog else []
         options = {"--set": given.set, "-D": given.define, "-I": given.include, "--cells": given.cells, "--reader": [given.reader] if given.reader != "verilog" else []}
         words += [word for option, values in options.items() for value in values for word in (option, value)]
+        words += ["--by-modules"] if given.by_modules and self.is_verilog else []
         words += ["--quick"] if given.quick else ["--abc", given.abc] if given.abc else self.choice_shown()
         where = ["--out", given.out] if self.is_verilog else ["--out", self.path(".blif")]
         if not self.is_verilog and (given.quick or given.abc):
@@ -161,7 +163,7 @@ class Build:
             copy(f"{room}/netlist.blif", self.path(".blif"))
             write_text(self.path(".par"), parameter_list(made.parameters))
             write_text(self.path(END), made.ports_text)
-            return {**told_of(made.found, made.summary), "told": made.told}
+            return {**told_of(made.found, made.summary), **({"compared": BY_PARTS} if made.is_by_parts else {}), "told": made.told}
 
     def from_netlist(self) -> dict[str, Any]:
         """A netlist that was given, prepared unless that was refused."""
@@ -366,8 +368,9 @@ class Build:
     def prepared_check(self) -> list[str]:
         """What showed that the prepared netlist is the source."""
         what = "the prepared netlist is the one that preparations started from"
-        if self.built.preparation.get("best"):
-            return [what, "ABC cec, flip-flop by flip-flop", "equal", "ok"]
+        compared = self.built.preparation.get("compared")
+        if compared:
+            return [what, f"{compared}, flip-flop by flip-flop" if compared == WHOLE else compared, "equal", "ok"]
         return [what, "nobody", "one preparation was used, without a comparison" if self.is_verilog else "it is the same file", "open" if self.is_verilog else "ok"]
 
     def compared(self, what: str, words: list[str]) -> list[str]:
@@ -391,6 +394,6 @@ def told_of(found: Optional[Found], summary: str) -> dict[str, Any]:
         return {"summary": summary}
     by_abc = found.best_by_abc()
     rows = [{**asdict(it), "front": it in found.front, "file": ""} for it in found.results]
-    failures = [[it.name, it.failure] for it in found.failures]
+    failures = [[it.name, it.failure] for it in found.failures] + [[it.name, it.parts_left_out] for it in found.trials if it.parts_left_out]
     abc = [by_abc[0], by_abc[1], *by_abc[2].cells()] if by_abc else []
-    return {"summary": summary, "best": {**asdict(found.best), "file": ""}, "rows": rows, "failures": failures, "abc": abc, "tried": len(found.trials)}
+    return {"summary": summary, "best": {**asdict(found.best), "file": ""}, "rows": rows, "failures": failures, "abc": abc, "tried": len(found.trials), "compared": found.best_trial.compared}

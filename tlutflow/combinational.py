@@ -69,11 +69,16 @@ def netlist_text(logic: Logic, prepared: str, file: str) -> str:
     mark = free_mark({*model.all_inputs(), *names.values()})
     for place, cover in enumerate(made.covers):
         names.setdefault(cover.output, f"{mark}{place}")
+    return model_text(model, [Cover([names[net] for net in cover.inputs], names[cover.output], cover.rows) for cover in made.covers])
+
+
+def model_text(model: Model, covers: list[Cover]) -> str:
+    """A netlist with the ports and flip-flops of a model, and with other logic."""
     lines = [f".model {model.name}", " ".join([".inputs", *model.inputs])]
     lines += [" ".join([".clock", *model.clocks])] if model.clocks else []
     lines += [" ".join([".outputs", *model.outputs]), *(latch_lines(model.latches))]
-    for cover in made.covers:
-        lines += cover_lines(Cover([names[net] for net in cover.inputs], names[cover.output], cover.rows))
+    for cover in covers:
+        lines += cover_lines(cover)
     return "\n".join([*lines, ".end", ""])
 
 

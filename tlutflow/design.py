@@ -6,11 +6,16 @@ from dataclasses import dataclass
 from typing import Optional
 
 from tlutflow.bus import Bus
-from tlutflow.design_json import Design
+from tlutflow.design_json import Cell, Design
 from tlutflow.faults import Fault
 from tlutflow.netlist import Library, gate_inputs
 from tlutflow.text import count
 
+# Cells whose gates grow with the product of their operands' widths, and what the names of those begin with that read a memory.
+PRODUCTS = ("$mul", "$div", "$mod", "$divfloor", "$modfloor", "$pow")
+MEMORY = "$memrd"
+# Values that a memory has at the start are no logic.
+INITIAL = "$meminit"
 # The attribute of a port that makes it a parameter; its value is the port's at the start.
 ATTRIBUTE = "tlut_param"
 
@@ -29,6 +34,20 @@ def ports_of(design: Design) -> list[Port]:
     return [
         Port(design.nets[name].bus, port["direction"] == "input", design.attributes.get(name, {}).get(ATTRIBUTE)) for name, port in design.ports.items()
     ]
+
+
+def gates_about(design: Design) -> int:
+    """About how many gates a design has, from the operators of its source: one for each two bits that an operator reads."""
+    return sum(gates_of(cell) for cell in design.cells if not cell.kind.startswith(INITIAL))
+
+
+def gates_of(cell: Cell) -> int:
+    """About how many gates an operator has. A memory has a multiplexer of all its words for each bit that is read."""
+    if cell.kind in PRODUCTS:
+        return len(cell.connections["A"]) * len(cell.connections["B"])
+    if cell.kind.startswith(MEMORY):
+        return len(cell.connections["DATA"]) << len(cell.connections["ADDR"]) >> 1
+    return sum(1 for _ in cell.bits(False)) // 2
 
 
 def attribute_value(port: Port) -> int:

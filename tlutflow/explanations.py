@@ -18,7 +18,8 @@ RECIPE = "create the netlist with `flow verilog`, or with its recipe (`flow veri
 TOOL = "another tool's dialect of BLIF, or a manual edit"
 MADE = "write parameter lists with `flow params` and scripts with `flow script`, which know the netlist's names and widths"
 SMALLER = "use a smaller K, which has fewer cuts; map a part of the design; or prepare the logic differently (`flow verilog --abc`)"
-OTHER_RULE = f"map it with `tlut --compact`, which lists no cuts and has no such limit; {SMALLER.replace('use a', 'or use a', 1)}"
+OTHERWISE = SMALLER.replace("use a", "or use a", 1)
+OTHER_RULE = f"map it with `tlut --compact`, which lists no cuts and has no such limit; {OTHERWISE}"
 DAMAGED = "the file was truncated or changed, or it isn't a pack"
 AGAIN = "write it again with `tlut map`"
 CERTIFICATE = "the certificate is for another netlist, list or K, or was changed"
@@ -246,9 +247,9 @@ LIMITS = {
         "map a part of the design",
     ),
     "L3": Explanation(
-        "at most 131,072 AND nodes",
+        "at most 131,072 AND nodes, or 1,048,576 with `tlut --compact`",
         "a large design, or a memory built from registers",
-        "map a part of the design, for example a module that has the parameters",
+        "map it with `tlut --compact`; or map a part of the design, for example a module that has the parameters",
     ),
     "L4": Explanation(
         "at most 4,096 minimal cuts of a node",
@@ -259,7 +260,7 @@ LIMITS = {
     "L6": Explanation(
         "LUTs whose bits and cones aren't too much work",
         "very large cones of parameters below the LUTs, such as a memory of parameters",
-        SMALLER,
+        f"map it with `tlut --compact`, which counts logic of parameters alone once for all LUTs; {OTHERWISE}",
     ),
     "L7": Explanation("at most 2^20 events", "a very long script", "play it in parts"),
     "L8": Explanation(

@@ -26,8 +26,8 @@ class Step:
 
 @dataclass(frozen=True)
 class Sources:
-    """A design's files, its top module, the options of its reader: macros, include folders, values of module parameters; and files of cells,
-    of which only those that the design has are read."""
+    """A design's files, its top module, the options of its reader: macros, include folders, values of module parameters; files of cells, of
+    which only those that the design has are read; and whether each module is synthesised alone."""
 
     files: list[str]
     top: str
@@ -36,6 +36,7 @@ class Sources:
     settings: list[tuple[str, str]] = field(default_factory=list)
     reader: str = "verilog"
     cells: list[str] = field(default_factory=list)
+    by_modules: bool = False
 
 
 def quoted(path: str) -> str:
@@ -65,18 +66,29 @@ def look(sources: Sources, design: str) -> list[Step]:
 
 def recipe(sources: Sources, preparation: str, netlist: str, registers: str, ports: str, gates: Optional[str] = None) -> list[Step]:
     """The steps from files in Verilog to the files of the netlist, of its registers and of its ports. With `gates` the netlist before its
-    preparation is written to that file too, for others to start from."""
+    preparation is written to that file too, for others to start from; without a preparation it is the netlist."""
     return [
         *reading(sources),
-        Step(f"synth -flatten -top {sources.top}", "one module of gates and flip-flops; memories become flip-flops"),
+        *synthesis(sources),
         Step(f"write_json {quoted(registers)}", "the registers with their names and resets, as the source has them"),
         Step("async2sync", "an asynchronous reset becomes logic before and after its flip-flop, since a latch has none"),
         Step("dfflegalize -cell $_DFF_P_ 01", "enables and resets become logic before a plain flip-flop at the positive edge, which starts at 0 or 1"),
         *(kept_gates(gates) if gates else []),
-        Step(f"abc -g AND,OR,XOR,MUX -script +{preparation}", "gates of two inputs, and of little depth: the mapper keeps the graph that it reads"),
+        *([Step(f"abc -g AND,OR,XOR,MUX -script +{preparation}", "gates of two inputs, and of little depth: the mapper keeps the graph that it reads")] if preparation else []),
         Step("opt_clean -purge", "aliases are removed, such as the second name of a clock, which would count as data"),
         Step(f"write_blif {quoted(netlist)}", "the netlist"),
         Step(f"write_json {quoted(ports)}", "the ports with their attributes"),
+    ]
+
+
+def synthesis(sources: Sources) -> list[Step]:
+    """The steps from a design to one module of gates and flip-flops."""
+    if not sources.by_modules:
+        return [Step(f"synth -flatten -top {sources.top}", "one module of gates and flip-flops; memories become flip-flops")]
+    return [
+        Step(f"synth -top {sources.top}", "gates and flip-flops, each module once however often it is placed; memories become flip-flops"),
+        Step("flatten", "one module"),
+        Step("opt -fast", "constants and copies across the modules are removed"),
     ]
 
 

@@ -175,7 +175,8 @@ def parameters_part(circuit: Circuit, found: Statistics) -> str:
     rows = []
     for bus in buses_of(names, circuit.ports).values():
         inside = {net for name in bus.nets for net in tables[name]}
-        bits = sum(1 for support in circuit.supports if any(support >> names.index(name) & 1 for name in bus.nets))
+        mask = sum(1 << names.index(name) for name in bus.nets)
+        bits = sum(1 for support in circuit.supports if support & mask)
         value = bus.text(bus.number(circuit.pack.parameters))
         lists = "".join(parameter_lists(name, tables[name]) for name in bus.nets)
         rows.append(([escape(bus.title), number(value), f"{len(inside):,}", f"{bits:,}", f"<details><summary>bit by bit</summary>{lists}</details>"], ""))

@@ -5,7 +5,6 @@ The readers take every text that `tlut` accepts. What `tlut` refuses they may ta
 
 from __future__ import annotations
 
-import re
 import sys
 from dataclasses import dataclass
 from typing import Iterator
@@ -14,7 +13,6 @@ from tlutflow.faults import Fault
 
 # Names may have any byte from 128 on, so bytes that are no UTF-8 are kept as they are.
 ENCODING = {"encoding": "utf-8", "errors": "surrogateescape"}
-BLANKS = re.compile(r"[ \t]+")
 
 
 @dataclass(frozen=True)
@@ -60,7 +58,7 @@ def physical_lines(text: str) -> list[str]:
 
 def tokens_of(text: str) -> list[str]:
     """The runs of characters between blanks and tabs."""
-    return [token for token in BLANKS.split(text) if token]
+    return [token for token in text.replace("\t", " ").split(" ") if token]
 
 
 def logical_lines(text: str) -> Iterator[Line]:
@@ -74,7 +72,7 @@ def logical_lines(text: str) -> Iterator[Line]:
         parts.append(bare[:-1] if goes_on else bare)
         if goes_on and number < len(lines):
             continue
-        tokens = tokens_of(" ".join(parts))
+        tokens = tokens_of(" ".join(parts) if len(parts) > 1 else parts[0])
         if tokens:
             yield Line(start, tokens)
         start, parts = 0, []

@@ -16,7 +16,7 @@ import time
 from dataclasses import dataclass
 from typing import IO, Optional
 
-from tlutflow.faults import Fault
+from tlutflow.faults import Fault, Undecided
 
 TOP = os.path.dirname(os.path.dirname(os.path.realpath(__file__)))
 YOSYS = ("yosys",)
@@ -120,7 +120,7 @@ def run_abc(abc: str, commands: str, folder: str, seconds: float) -> AbcRun:
         status, processor = measured(words, folder, 60 + 20 * seconds, out, err)
         told = "".join(text_of(file) for file in (out, err))
     if status in STOPPED:
-        raise Fault(stopped(seconds))
+        raise Undecided(stopped(seconds))
     return AbcRun(status, told, processor, time.monotonic() - begun)
 
 
@@ -164,7 +164,7 @@ def measured(words: list[str], folder: str, seconds: float, out: IO[bytes], err:
         timer.cancel()
     process.returncode = os.waitstatus_to_exitcode(status)
     if late.is_set():
-        raise Fault(f"{os.path.basename(words[0])} was stopped after {seconds:g} seconds")
+        raise Undecided(f"{os.path.basename(words[0])} was stopped after {seconds:g} seconds")
     return process.returncode, usage.ru_utime + usage.ru_stime
 
 

@@ -13,7 +13,8 @@ from tlutflow import tools
 from tlutflow.abc_form import model_lines
 from tlutflow.changes import median_rewritten
 from tlutflow.circuit import read_circuit
-from tlutflow.combinational import Logic, compared_texts, interface_difference, logic_of, logic_text, netlist_text
+from tlutflow.combinational import Logic, interface_difference, logic_of, logic_text, netlist_text
+from tlutflow.comparison import WHOLE, Comparer
 from tlutflow.devices.families import Family
 from tlutflow.faults import Fault
 from tlutflow.flat import read_flat
@@ -21,6 +22,8 @@ from tlutflow.graphs import Bench
 from tlutflow.mappings import MAPPED, Sizes, sizes_by_abc, sizes_by_tlut
 from tlutflow.netlist import Model
 from tlutflow.parameters import read_parameters
+from tlutflow.part_trials import PartsBench
+from tlutflow.parts import PART_SIZE, divided, size_of
 from tlutflow.pieces import Job, Jobs, Piece
 from tlutflow.preparations import PREPARATIONS, Preparation
 from tlutflow.text import read_text, write_text
@@ -66,6 +69,8 @@ class Task:
     ks: tuple[int, ...] = ()
     # What the netlist is called in a fault, if its file is a temporary one.
     title: str = ""
+    # Logic of more gates is prepared in parts of at most so many.
+    part_size: int = PART_SIZE
 
 
 @dataclass(frozen=True)
@@ -97,17 +102,20 @@ class Result:
 
 @dataclass(frozen=True)
 class Trial:
-    """What came of a preparation: its results by rules, what ABC's mapper makes of it, or why it was left out."""
+    """What came of a preparation: its results by rules, what ABC's mapper makes of it, or why it was left out. How it was compared with the
+    source, and which of its parts stay as they were read."""
 
     name: str
     results: list[Result]
     by_abc: dict[str, Sizes]
     failure: str = ""
+    compared: str = WHOLE
+    parts_left_out: str = ""
 
 
 @dataclass(frozen=True)
 class Found:
-    """All trials, the best result, and the method of the comparison with the source."""
+    """All trials, the best result, and what was looked for."""
 
     trials: list[Trial]
     best: Result
@@ -127,6 +135,11 @@ class Found:
     def failures(self) -> list[Trial]:
         """The preparations that were left out."""
         return [it for it in self.trials if it.failure]
+
+    @property
+    def best_trial(self) -> Trial:
+        """The trial of the best result."""
+        return next(it for it in self.trials if it.name == self.best.name)
 
     def best_by_abc(self) -> Optional[tuple[str, str, Sizes]]:
         """The best that ABC's mapper makes of all preparations, with the preparation and ABC's words."""
@@ -154,10 +167,13 @@ class Start:
 
 @dataclass(frozen=True)
 class Prepared:
-    """A netlist that is to be tried, and the seconds by the clock that ABC took for it."""
+    """A netlist that is to be tried, the seconds by the clock that ABC took for it, whether its parts were compared with the source, and
+    which of them stay as they were read."""
 
     text: str
     seconds: float
+    are_parts_equal: bool = False
+    parts_left_out: str = ""
 
 
 Report = Callable[[int, int, Trial, Optional[Result]], None]
@@ -179,6 +195,7 @@ class Workshop:
         self.program = tools.tlut(task.program)
         self.abc = tools.need(tools.ABC, "trying preparations")
         self.bench = Bench(self.abc, f"{folder}/graphs", task.seconds)
+        self.comparer = Comparer(self.abc, task.seconds)
 
     def room(self, name: str) -> str:
         """The folder of a trial."""
@@ -186,35 +203,39 @@ class Workshop:
         os.makedirs(path, exist_ok=True)
         return path
 
-    def call(self, commands: str, room: str) -> str:
-        """Runs ABC with the limit of a preparation, and returns what it says."""
-        ran = tools.run_abc(self.abc, commands, room, self.task.seconds)
-        if ran.status:
-            raise tools.abc_failure(ran)
-        return ran.told
-
     def prepared(self, name: str, start: Start, preparation: Preparation) -> Job[Prepared]:
-        """Makes the netlist of a preparation from some logic."""
+        """Makes the netlist of a preparation from some logic, of large logic part by part."""
+        if size_of(start.logic.model.covers) > self.task.part_size:
+            return (yield from self.prepared_by_parts(name, start, preparation))
         source = yield Piece(("source", start.name), lambda: self.bench.source(start.text()), preparation.cost)
         graph = yield from self.bench.prepared(source, preparation)
         text = yield Piece(("netlist", name), lambda: netlist_text(start.logic, self.bench.text(graph), preparation.name), MEASURING)
         return Prepared(text, graph.seconds)
+
+    def prepared_by_parts(self, name: str, start: Start, preparation: Preparation) -> Job[Prepared]:
+        """Makes the netlist of a preparation from the parts of some logic."""
+        shop: PartsBench = yield Piece(("divided", start.name), lambda: self.parts_of(start), preparation.cost)
+        made = []
+        for place in range(len(shop.whole.parts)):
+            made.append((yield from shop.prepared(place, preparation)))
+        text = yield Piece(("netlist", name), lambda: shop.netlist(made), MEASURING)
+        return Prepared(text, sum(it.seconds for it in made), True, shop.left_out(made))
+
+    def parts_of(self, start: Start) -> PartsBench:
+        """The parts of some logic."""
+        return PartsBench(divided(start.logic, self.nets, self.task.part_size), start.name, self.bench)
 
     def ready(self, name: str, path: str) -> Job[Prepared]:
         """Reads a netlist that is there."""
         text = yield Piece(("netlist", name), lambda: read_text(path), MEASURING)
         return Prepared(text, 0)
 
-    def check(self, made: Model, room: str) -> None:
-        """Refuses a netlist that isn't shown to be the source, output by output and next state by next state."""
+    def check(self, made: Model, room: str, are_parts_equal: bool) -> str:
+        """Refuses a netlist that isn't shown to be the source, output by output and next state by next state. Returns how it was shown."""
         difference = interface_difference(self.model, made)
         if difference:
             raise Fault(difference)
-        for name, text in zip(("left", "right"), compared_texts(self.model, made)):
-            write_text(f"{room}/{name}.blif", text)
-        told = self.call("cec left.blif right.blif", room)
-        if "are equivalent" not in told:
-            raise Fault("it differs from the source (ABC cec)" if "NOT EQUIVALENT" in told else "ABC cec didn't decide whether it is the source")
+        return self.comparer.compare_whole(self.model, made, room, are_parts_equal)
 
     def measure(self, name: str, file: str, took: float, room: str) -> list[Result]:
         """Maps a netlist by each rule at each K."""
@@ -240,22 +261,22 @@ class Workshop:
         write_text(f"{room}/inputs.blif", logic_text(made, logic.inputs, logic.roots))
         return {words: sizes_by_abc(self.abc, self.task.k, "inputs.blif", words[2:], room) for words in ("if", "if -a")}
 
-    def finish(self, name: str, text: str) -> Trial:
+    def finish(self, name: str, prepared: Prepared) -> Trial:
         """Checks and maps what a preparation made."""
         room = self.room(name)
         file = f"{room}/prepared.blif"
-        write_text(file, text)
+        write_text(file, prepared.text)
         made = read_flat(file)
-        self.check(made, room)
-        return Trial(name, self.measure(name, file, 0, room), self.beside(made, room))
+        compared = self.check(made, room, prepared.are_parts_equal)
+        return Trial(name, self.measure(name, file, 0, room), self.beside(made, room), compared=compared)
 
     def attempt(self, name: str, making: Job[Prepared]) -> Job[Trial]:
         """A trial; one that fails says why. Preparations that make the same netlist share what comes after."""
         try:
             prepared = yield from making
-            trial = yield Piece(("finish", prepared.text), lambda: self.finish(name, prepared.text), MEASURING)
+            trial: Trial = yield Piece(("finish", prepared.text), lambda: self.finish(name, prepared), MEASURING)
             results = [replace(it, name=name, seconds=prepared.seconds + it.seconds) for it in trial.results]
-            return Trial(name, results, trial.by_abc)
+            return replace(trial, name=name, results=results, parts_left_out=prepared.parts_left_out)
         except Fault as fault:
             return Trial(name, [], {}, str(fault))
 

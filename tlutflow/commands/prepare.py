@@ -13,6 +13,7 @@ from tlutflow.commands.hdl import add_family_word
 from tlutflow.devices.families import FAMILIES, Family, costs_text, told
 from tlutflow.faults import Fault
 from tlutflow.parameters import read_parameters
+from tlutflow.parts import PART_SIZE
 from tlutflow.port_file import keep_ports
 from tlutflow.trials import AIMS, RULE_NAMES, RULES, Found, Report, Result, Task, Trial, keep, prepare
 from tlutflow.preparations import PREPARATIONS, Preparation, chosen, further
@@ -20,13 +21,16 @@ from tlutflow.statistics import grid
 from tlutflow.text import count
 
 HELP = "the preparation of a netlist that measures best"
-DESCRIPTION = """Tries a list of preparations of a netlist (BLIF, or AIGER's ASCII form) in parallel, maps each one by both rules (tlut, and
+DESCRIPTION = f"""Tries a list of preparations of a netlist (BLIF, or AIGER's ASCII form) in parallel, maps each one by both rules (tlut, and
 tlut --compact), and writes the best netlist to FILE. A preparation is a sequence of ABC commands that restructures the logic. The mapper's
 depth is the least one for the graph that it reads, so another preparation can have a lower one.
 
 Each prepared netlist is compared with its source by ABC (cec), output by output and next state by next state; the flip-flops, their
 initial values and all names of ports and flip-flops stay. A preparation that fails, takes too long or isn't shown to be equal is
 skipped, and stderr says why. Each one begins with strash, which factors covers of many inputs, such as those of a netlist of LUTs.
+
+Logic of more than {PART_SIZE:,} gates is prepared and compared in parts of at most that size, and --seconds is for each part. A part that isn't
+done in time stays as it is, and stderr says which. Logic of parameters alone is in no part.
 
 The table has a row for each preparation and rule, the best one first. A star marks those that no other beats in LUTs, depth and bits."""
 EXAMPLE = """examples:
@@ -50,7 +54,7 @@ def add_shared_words(parser: argparse.ArgumentParser, k: int) -> None:
     aims = "what to minimise; changes: the median number of bits that a random parameter change rewrites; sites: what --device counts"
     parser.add_argument("--for", dest="aim", choices=list(AIMS), help=f"{aims} (default: depth, then the fewest LUTs; with --device sites)")
     parser.add_argument("--rule", choices=list(RULES), help="map by this rule alone (default: by both)")
-    parser.add_argument("--seconds", type=float, default=60, help="CPU time that ABC may take for a preparation or a comparison, and time for a simulation of build (default: 60)")
+    parser.add_argument("--seconds", type=float, default=60, help="CPU time that ABC may take for a preparation or a comparison, or for a part of one, and time for a simulation of build (default: 60)")
     parser.add_argument("--try", dest="further", metavar="NAME=COMMANDS", action="append", default=[], help="a further preparation, commands of ABC (repeat it)")
     parser.add_argument("--only", metavar="NAME", action="append", default=[], help="try this preparation alone (repeat it)")
     parser.add_argument("--rounds", type=int, choices=(1, 2, 3), default=1, help="a further round starts from the two best of the round before (default: 1)")
@@ -75,11 +79,13 @@ def family_of(given: argparse.Namespace) -> Optional[Family]:
 
 
 def progress(prog: str) -> Report:
-    """Says on standard error how many preparations are done, the best so far, and what fails."""
+    """Says on standard error how many preparations are done, the best so far, what fails, and which parts stay as they were read."""
 
     def report(done: int, many: int, trial: Trial, best: Optional[Result]) -> None:
         if trial.failure:
             print(f"{prog}: {trial.name} is left out: {trial.failure}", file=sys.stderr)
+        if trial.parts_left_out:
+            print(f"{prog}: {trial.name} leaves {trial.parts_left_out}", file=sys.stderr)
         so_far = f"best so far: {sizes(best)} by {best.name}" if best else "none could be mapped so far"
         print(f"{prog}: {done} of {many} preparations, {so_far}", file=sys.stderr, flush=True)
 
@@ -163,5 +169,5 @@ def run(given: argparse.Namespace) -> int:
     print("\n".join(table(found)))
     if given.device:
         print(choice_text(given, found))
-    print(f"{out}: {found.best.name}, {sizes(found.best)} with {RULE_NAMES[found.best.rule]}; equal to its source (ABC cec)")
+    print(f"{out}: {found.best.name}, {sizes(found.best)} with {RULE_NAMES[found.best.rule]}; equal to its source ({found.best_trial.compared})")
     return 0

@@ -15,16 +15,20 @@ from typing import Optional
 from tlutflow import tools
 from tlutflow.buses import buses_of
 from tlutflow.commands.hdl import add_family_word
-from tlutflow.commands.prepare import add_shared_words, progress, settle, sizes, task_of
-from tlutflow.design import ATTRIBUTE, obstacle, parameters_of, ports_of
+from tlutflow.commands.prepare import add_shared_words, check_limits, progress, settle, sizes, task_of
+from tlutflow.design import ATTRIBUTE, gates_about, obstacle, parameters_of, ports_of
 from tlutflow.design_checks import late_resets, refuse_high_impedance, refuse_ports, refuse_registers, register_buses, register_names, undriven
 from tlutflow.design_json import Design, read_design
 from tlutflow.faults import Fault
+from tlutflow.graphs import Bench
 from tlutflow.loops import refuse_loop
 from tlutflow.netlist import Library, read_library
 from tlutflow.parameters import data_inputs, parameter_list
+from tlutflow.part_trials import prepare_by_parts
+from tlutflow.parts import PART_SIZE
 from tlutflow.patience import patience
 from tlutflow.port_file import END, Ports, file_name, json_of_bus
+from tlutflow.preparations import Preparation
 from tlutflow.trials import RULE_NAMES, Found, keep, prepare
 from tlutflow.recipe import PREPARATION, READERS, Sources, Step, look, recipe, script_text
 from tlutflow.text import count, write_text
@@ -38,7 +42,10 @@ Parameters are input ports that change seldom. A port is a parameter if --param 
 attribute {ATTRIBUTE} with that value: (* {ATTRIBUTE} = 5 *) input [2:0] c0. A value on the command line overrides an attribute's.
 
 The netlist is the one that measures best of many preparations of the logic (see flow prepare --help), which needs ABC and tlut and
-takes seconds to minutes. With --quick, or with --abc SCRIPT, one preparation is used and nothing is measured."""
+takes seconds to minutes. With --quick, or with --abc SCRIPT, one preparation is used and nothing is measured.
+
+A design of more than about {PART_SIZE:,} gates is synthesised module by module, and prepared in parts, also with --quick. ABC may take --seconds
+for each part. A part that isn't done in time stays as Yosys left it, and stderr says which."""
 EXAMPLE = """examples:
   flow verilog fir.v --top fir --param c0=5 --param c1=3 --param c2=6
   flow verilog top.v part.v --top top --set WIDTH=8 -D FAST -I include
@@ -65,6 +72,7 @@ def add_source_words(parser: argparse.ArgumentParser) -> None:
     parser.add_argument("-I", "--include", metavar="FOLDER", action="append", default=[], help="where included files are looked for (repeat it)")
     parser.add_argument("--cells", metavar="FILE.v", action="append", default=[], help="models of cells, as a vendor's library has them, of which the design has some (repeat it)")
     parser.add_argument("--reader", choices=list(READERS), default="verilog", help="Yosys's own reader (verilog), or one of a plugin, which has to be installed")
+    parser.add_argument("--by-modules", action="store_true", help="synthesise each module once and flatten the design afterwards; large designs always are")
     parser.add_argument("--quick", action="store_true", help=f"one preparation, and no measuring: {PREPARATION}")
     parser.add_argument("--abc", metavar="SCRIPT", help="one preparation by these commands of ABC, and no measuring")
 
@@ -83,7 +91,7 @@ def sources_of(given: argparse.Namespace) -> Sources:
         if not (name and equals and value):
             raise Fault(f"--set {word}: it isn't NAME=VALUE")
         settings.append((name, value))
-    return Sources(given.files, top, given.define, given.include, settings, given.reader, given.cells)
+    return Sources(given.files, top, given.define, given.include, settings, given.reader, given.cells, given.by_modules)
 
 
 def preparation_of(given: argparse.Namespace) -> str:
@@ -103,9 +111,20 @@ def yosys(steps: list[Step], folder: str, prog: str) -> None:
         raise Fault(f"Yosys: {told[-1] if told else f'it ended with status {ran.returncode}'}")
 
 
-def synthesise(given: argparse.Namespace, folder: str) -> tuple[Library, Design, Ports, list[str]]:
-    """Runs Yosys, which leaves its files in a folder, and returns the netlist, the design, its ports, and lines on what the netlist has
-    otherwise than the design. These are also printed."""
+@dataclass(frozen=True)
+class Synthesised:
+    """What Yosys made: the netlist, the design, its ports, lines on what the netlist has otherwise than the design, and whether it is large.
+    Then the netlist isn't prepared yet."""
+
+    library: Library
+    design: Design
+    ports: Ports
+    told: list[str]
+    is_large: bool
+
+
+def synthesise(given: argparse.Namespace, folder: str) -> Synthesised:
+    """Runs Yosys, which leaves its files in a folder. What the netlist has otherwise than the design is also printed."""
     sources, paths = sources_of(given), [f"{folder}/{name}" for name in ("design.json", "netlist.blif", "registers.json", "ports.json")]
     yosys(look(sources, paths[0]), folder, given.prog)
     design = read_design(paths[0], sources.top)
@@ -113,8 +132,10 @@ def synthesise(given: argparse.Namespace, folder: str) -> tuple[Library, Design,
     refuse_high_impedance(design)
     told = undriven(design)
     tell(given, told)
-    gates = None if is_quick(given) else f"{folder}/gates.blif"
-    yosys(recipe(sources, preparation_of(given), paths[1], paths[2], paths[3], gates), folder, given.prog)
+    is_large = gates_about(design) > PART_SIZE
+    gates = f"{folder}/gates.blif" if is_large or not is_quick(given) else None
+    sources = replace(sources, by_modules=sources.by_modules or is_large)
+    yosys(recipe(sources, "" if is_large else preparation_of(given), paths[1], paths[2], paths[3], gates), folder, given.prog)
     before, after, library = read_design(paths[2], sources.top), read_design(paths[3], sources.top), read_library(paths[1])
     refuse_registers(before)
     reason = obstacle(library)
@@ -125,7 +146,7 @@ def synthesise(given: argparse.Namespace, folder: str) -> tuple[Library, Design,
     tell(given, late_resets(before))
     registers = register_names(before, after, [latch.state for latch in library.main.latches])
     buses = [*(net.bus for name, net in after.nets.items() if name in after.ports), *register_buses(before, registers)]
-    return library, after, Ports({bus.name: bus for bus in buses}, registers), told
+    return Synthesised(library, after, Ports({bus.name: bus for bus in buses}, registers), told, is_large)
 
 
 def is_quick(given: argparse.Namespace) -> bool:
@@ -133,19 +154,29 @@ def is_quick(given: argparse.Namespace) -> bool:
     return given.quick or given.abc is not None
 
 
-def choose(given: argparse.Namespace, folder: str, beside: bool = False) -> Found:
+def choose(given: argparse.Namespace, folder: str, is_large: bool, beside: bool = False) -> Found:
     """Replaces the recipe's netlist with the preparation that measures best. Preparations start from the gates of the recipe,
-    and the netlist of its own preparation is a further one."""
+    and the netlist of its own preparation is a further one; of a large design there is none."""
     task = task_of(given, f"{folder}/gates.blif", f"{folder}/list.par")
-    found = prepare(replace(task, ready={"yosys": f"{folder}/netlist.blif"}, beside=beside, title=f"the gates of {given.top}"), f"{folder}/trials", progress(given.prog))
+    ready = {} if is_large else {"yosys": f"{folder}/netlist.blif"}
+    found = prepare(replace(task, ready=ready, beside=beside, title=f"the gates of {given.top}"), f"{folder}/trials", progress(given.prog))
     keep(found.best, f"{folder}/netlist.blif")
     return found
 
 
+def prepare_quickly(given: argparse.Namespace, parameters: list[str], folder: str) -> list[str]:
+    """Replaces a large netlist with its one preparation, part by part. Returns a line about the parts that stay as they are, if some do."""
+    preparation = Preparation("quick", (f"{preparation_of(given).replace(',', ' ')}; strash",))
+    bench = Bench(tools.need(tools.ABC, "preparing a large design"), f"{folder}/graphs", given.seconds)
+    with patience(given.prog, "the preparation by parts"):
+        left_out = prepare_by_parts(f"{folder}/netlist.blif", parameters, preparation, bench, given.jobs, PART_SIZE)
+    return [f"the preparation leaves {left_out}"] if left_out else []
+
+
 @dataclass(frozen=True)
 class Made:
-    """A netlist that was made: as Yosys left it, its parameters, the text of its ports, its summary, what was found for its preparation,
-    and lines on what it has otherwise than the design."""
+    """A netlist that was made: its parameters, its ports, the text of these, its summary, what was found for its preparation, lines on what
+    it has otherwise than the design, and whether it was prepared and compared part by part."""
 
     parameters: dict[str, int]
     ports: Ports
@@ -153,18 +184,26 @@ class Made:
     summary: str
     found: Optional[Found]
     told: list[str]
+    is_by_parts: bool = False
 
 
 def make(given: argparse.Namespace, folder: str, beside: bool = False) -> Made:
     """Creates the netlist in a folder, as netlist.blif."""
-    library, design, ports, told = synthesise(given, folder)
-    parameters, found = parameters_of(ports_of(design), given.param, library.clock_nets()), None
+    made = synthesise(given, folder)
+    ports, told, found = made.ports, made.told, None
+    parameters = parameters_of(ports_of(made.design), given.param, made.library.clock_nets())
+    check_limits(given)
     if not is_quick(given):
         write_text(f"{folder}/list.par", parameter_list(parameters))
-        found = choose(given, folder, beside)
+        found = choose(given, folder, made.is_large, beside)
         if found.best.name != "yosys":
             ports = replace(ports, registers=names_of_gates(folder, sources_of(given).top))
-    return Made(parameters, ports, ports_text(design, ports, sources_of(given).top), summary(library, parameters, ports), found, told)
+    elif made.is_large:
+        lines = prepare_quickly(given, list(parameters), folder)
+        tell(given, lines)
+        told = [*told, *lines]
+    text = ports_text(made.design, ports, sources_of(given).top)
+    return Made(parameters, ports, text, summary(made.library, parameters, ports), found, told, made.is_large and not found)
 
 
 def names_of_gates(folder: str, top: str) -> list[str]:

@@ -64,9 +64,9 @@ class Refusals(InFolder):
             f"n.scr: S2 Width line 1 width 3; wanted: {known.wants}; usual cause: {known.cause}; remedy: {known.remedy}",
         )
         self.assertEqual(str(refusal("another line")), "another line")
-        for code in ("L4 NodeCuts node 9", "L5 TotalCuts node 9"):
+        for code in ("L3 TooManyNodes", "L4 NodeCuts node 9", "L5 TotalCuts node 9", "L6 Work"):
             self.assertIn("remedy: map it with `tlut --compact`", str(refusal(f"tlut: n.blif: {code}")))
-        self.assertIn("remedy: map a part of the design", str(refusal("tlut: n.blif: L3 TooManyNodes")))
+        self.assertIn("remedy: map a part of the design", str(refusal("tlut: n.blif: L2 TooLarge")))
 
     def test_loops(self):
         loop = ".names a x y\n11 1\n.names y z\n1 1\n.names z a x\n11 1\n"
