@@ -8,11 +8,12 @@
                                                   and ABC if it is installed
     python3 tools/designs.py cuts PROGRAM..       runs several of these programs in turn, for example before and after a change, and
                                                   prints how long each takes for the cuts of the four netlists at K 4 and 6
-    python3 tools/designs.py shapes [--json docs/figures/shapes.json] [--limit] [--netlist WORD ..] [--k K ..] [--runs N] [PROGRAM ..]
+    python3 tools/designs.py shapes [--json docs/figures/shapes.json] [--limit] [--million] [--netlist WORD ..] [--k K ..] [--runs N] [PROGRAM ..]
                                                   maps shapes with parameters in several sizes by `tlut`, `tlut-compact` and ABC in turn,
                                                   prints sizes, CPU seconds and memory as a table, and then which goals are missed: the
                                                   depth of `tlut-compact` is that of `tlut`, its time at most ABC's, its memory at most
-                                                  twice ABC's. With --limit also a size near the limit of AND nodes of each shape
+                                                  twice ABC's. With --limit also a size near the limit of AND nodes of each shape;
+                                                  with --million two netlists of a million AND nodes, for which 2 GB are the most memory
 
 Outside the gate. The netlists are those of tools/shaping/generators.py. The four are a multiplier of two factors of 16 bits, without parameters;
 a filter of 8 taps of 8 bits, whose coefficients are parameters; a coder of 8 bits a cycle into a remainder of 32 bits, whose polynomial is

@@ -15,8 +15,11 @@ from dataclasses import dataclass
 from statistics import geometric_mean
 from typing import Any, Callable, Iterator, Mapping, Optional
 
+import limits
 import time_plot
 from on_device import tables as on_device
+from shaping import pages as shape_pages
+from shaping import shapes
 from shared import TOP
 
 FOLDER = f"{TOP}/docs/figures"
@@ -155,27 +158,6 @@ def three_digits(value: float, stage: str) -> str:
     return f"{value:.2f}" if value < 10 and stage != "ABC" else f"{value:.1f}" if value < 100 else f"{value:.0f}"
 
 
-# The rows of the table of limits, and what tools/limits.py calls them; of several calls the most expensive one.
-LIMITS = {
-    "a netlist, a list or a script of 2^26 + 1 bytes, refused (L1)": ("L1 of a netlist", "L1 of a list", "L1 of a script"),
-    "a script of 2^26 bytes": ("a script of 2^26 bytes",),
-    "a weight of 2^22, of 64 instances": ("a weight of 2^22",),
-    "131,072 AND nodes, each a LUT": ("131,072 AND nodes",),
-    "131,073 of them, refused (L3)": ("L3: one more",),
-    "a node with 4,096 minimal [cuts](glossary.md#cut)": ("4,096 cuts of a node",),
-    "more than 2^23 cuts, refused (L5) with the cut table full": ("L5: 2^23 cuts and more",),
-    "a chain of 8,190 parameters, each node a LUT: the work is just within its limit": ("a chain of 8,190 parameters",),
-    "8,191 of them, refused (L6)": ("L6: one more",),
-    "2^20 events": ("2^20 events",),
-    "65,535 parameters": ("65,535 parameters",),
-    "200,000 buffers in a row": ("200,000 buffers in a row",),
-    "100,000 models inside one another": ("100,000 models in one another",),
-    "a [cover](glossary.md#cover) of a million rows": ("a cover of a million rows",),
-    "names of a million bytes": ("names of a million bytes",),
-}
-PACKS = {"a [pack](glossary.md#pack) of 2^25 nodes (64 MB), of which two changes touch all": ("a pack of 2^25 nodes",)}
-
-
 def limit_rows(titles: Mapping[str, tuple[str, ...]]) -> Callable[[Figures], Rows]:
     """The rows of a table of limits."""
 
@@ -257,6 +239,12 @@ def on_a_device(rows: Callable[[dict[str, Any]], Rows]) -> Callable[[Figures], R
     return lambda figures: rows(figures.at("device"))
 
 
+def shape_rows(figures: Figures) -> Rows:
+    """The rows of the table of shapes: the greatest size of each."""
+    titles = [shape.title.format(*(f"{it:,}" for it in shape.sizes[-1])) for shape in shapes.SHAPES]
+    return shape_pages.table_rows(figures.at("shapes/netlists"), titles)
+
+
 FIR = "rules/parameters/fir/4"
 MEANS = "beside_abc/means"
 STATED = [
@@ -267,7 +255,7 @@ STATED = [
         f"{FIR}/tlut/depth",
         f"{FIR}/compact/luts",
     ),
-    stated("README.md", "is an input like any other, needs <> at depth <>", f"{FIR}/abc/luts", f"{FIR}/abc/depth"),
+    stated("README.md", "with `--compact`. ABC needs <> at depth <>", f"{FIR}/abc/luts", f"{FIR}/abc/depth"),
     stated("README.md", "needs <> LUTs at depth <>, and ABC <> at depth <>", *(f"rules/parameters/coder/4/{it}" for it in ("tlut/luts", "tlut/depth", "abc/luts", "abc/depth"))),
     stated(
         "README.md",
@@ -317,6 +305,10 @@ STATED = [
         "rules/means/parameters/6/greatest_change",
     ),
     stated("docs/performance.md", "`tlut-compact` has <> times the LUTs of ABC's `if` at K 4 and <> times at K 6", "rules/means/inputs/4/compact_luts", "rules/means/inputs/6/compact_luts"),
+    stated("docs/performance.md", "With parameters `tlut-compact` takes <>, <> and <> times ABC's time", *(f"shapes/means/parameters/{size}/seconds:.2f" for size in SIZES)),
+    stated("docs/performance.md", "and with these as inputs <>, <> and <> times.", *(f"shapes/means/inputs/{size}/seconds:.2f" for size in SIZES)),
+    stated("docs/performance.md", "In any of the <> runs its time is at most <> times ABC's, and its memory at most <> times", "shapes/means/runs", "shapes/means/greatest/seconds:.2f", "shapes/means/greatest/megabytes:.2f"),
+    stated("docs/performance.md", "With the parameters as inputs it has <>, <> and <> times ABC's LUTs", *(f"shapes/means/inputs/{size}/luts:.3f" for size in SIZES)),
     stated("docs/performance.md", "`rt ci` from nothing | <> minutes (<> CPU-minutes)", "by_hand/gate/minutes", "by_hand/gate/cpu_minutes"),
     stated("docs/testing.md", "a whole gate from nothing | <> | <> minutes", "by_hand/gate/cpu_minutes", "by_hand/gate/minutes"),
     stated("docs/performance.md", "the library takes <> µs per change, and `tlut bits` <> µs", "changes/library_us", "changes/bits_us"),
@@ -331,13 +323,15 @@ STATED = [
 TABLES = [
     Table("docs/performance.md", "| AND nodes | K | netlists |", class_rows),
     Table("docs/performance.md", "| Relative to |", worst_rows),
-    Table("docs/performance.md", "| Netlist | AND nodes | K |", larger_rows),
+    Table("docs/performance.md", "| Netlist | AND nodes | K | `tlut`: s |", larger_rows),
+    Table("docs/performance.md", "| Netlist | AND nodes | K | `tlut`: LUTs |", shape_rows),
+    Table("docs/performance.md", "| Netlist | AND nodes | K | `tlut-compact`: LUTs |", lambda figures: shape_pages.million_rows(figures.at("million/netlists"))),
     Table("docs/performance.md", "| Design | K | `tlut`: LUTs | depth | bits | a change |", rule_rows("parameters", "luts", "depth", "bits", "change")),
     Table("docs/performance.md", "| Design | K | `tlut`: LUTs | depth | bits | `tlut-compact`: LUTs | depth | bits | ABC's", rule_rows("inputs", "luts", "depth", "bits")),
     Table("docs/performance.md", "| Netlist | read |", stage_rows),
     Table("docs/performance.md", "| Netlist | parameters | AND nodes |", result_rows),
-    Table("docs/performance.md", "| Input of `run` with", limit_rows(LIMITS)),
-    Table("docs/performance.md", "| Input of `bits`", limit_rows(PACKS)),
+    Table("docs/performance.md", "| Input of `run` with", limit_rows(limits.ROWS)),
+    Table("docs/performance.md", "| Input of `bits`", limit_rows(limits.PACK_ROWS)),
     *(Table(page, head, on_a_device(rows)) for _, page, head, rows in on_device.TABLES),
 ]
 

@@ -14,7 +14,7 @@ from statistics import geometric_mean
 from typing import Callable, Iterator, Sequence
 
 import shared
-from shaping import generators, mapping_calls
+from shaping import generators, mapping_calls, pages
 from shaping.mapping_calls import Design, Numbers
 from tlutflow import tools
 from tlutflow.text import write_text
@@ -23,6 +23,9 @@ SIZES = (4, 5, 6)
 # The most that tlut-compact may take, relative to ABC.
 MOST_SECONDS = 1.0
 MOST_MEMORY = 2.0
+# From so many AND nodes on tlut-compact may take so many megabytes.
+LARGE = 500_000
+MOST_MEGABYTES = 2048
 NAMES = {"tlut": "tlut", "compact": "tlut-compact", "abc": "ABC"}
 
 
@@ -50,6 +53,12 @@ SHAPES = (
     Shape("sorter of {} numbers of {} bits", generators.sorter, ((8, 8), (16, 8), (32, 8)), (64, 17)),
 )
 
+# Shapes of about a million AND nodes, which only tlut-compact maps.
+MILLIONS = (
+    Shape("{0} multipliers of {1} by {1}, one factor of each a parameter", generators.scalers, ((16, 64),), ()),
+    Shape("soft FPGA of {} cells with {} contents", generators.soft_cells, ((22000, 4000),), ()),
+)
+
 
 def list_of(netlist: generators.Netlist) -> str:
     """A list of the parameters, every second one 1."""
@@ -70,9 +79,9 @@ def write_all(room: str) -> None:
         write(room, shape.make())
 
 
-def chosen(words: list[str], with_largest: bool) -> Iterator[tuple[str, Callable[[], generators.Netlist]]]:
+def chosen(words: list[str], with_largest: bool, shapes: Sequence[Shape] = SHAPES) -> Iterator[tuple[str, Callable[[], generators.Netlist]]]:
     """The title of each netlist that has one of the words in it, or of all, and what makes it."""
-    for shape in SHAPES:
+    for shape in shapes:
         for size in (*shape.sizes, *([shape.largest] if with_largest else [])):
             title = shape.title.format(*(f"{it:,}" for it in size))
             if not words or any(word in title for word in words):
@@ -122,8 +131,8 @@ def rows(title: str, found: Numbers, names: list[str]) -> list[str]:
     return lines
 
 
-def goals(by: Numbers) -> Iterator[tuple[bool, str]]:
-    """Whether each goal is met at one K with one list, and what is said if it isn't."""
+def goals(by: Numbers, ands: int) -> Iterator[tuple[bool, str]]:
+    """Whether each goal is met by a netlist at one K with one list, and what is said if it isn't."""
     first, second, abc = by.get("tlut"), by.get("compact"), by.get("abc")
     if second is None:
         return
@@ -133,15 +142,16 @@ def goals(by: Numbers) -> Iterator[tuple[bool, str]]:
         yield is_least, f"depth {second.get('depth', second.get('refusal'))}, and tlut's is {first['depth']}"
     if abc is not None and is_mapped:
         yield second["seconds"] <= MOST_SECONDS * abc["seconds"], f"{second['seconds']} s, and ABC takes {abc['seconds']}"
-        yield second["megabytes"] <= MOST_MEMORY * abc["megabytes"], f"{second['megabytes']} MB, and ABC takes {abc['megabytes']}"
+        most = MOST_MEGABYTES if ands >= LARGE else MOST_MEMORY * abc["megabytes"]
+        yield second["megabytes"] <= most, f"{second['megabytes']} MB, and ABC takes {abc['megabytes']}"
     elif not is_mapped:
         yield False, f"refused ({second['refusal']})"
 
 
 def judged(netlists: dict[str, Numbers]) -> list[tuple[bool, str]]:
     """All goals of these netlists."""
-    places = [(f"{title}, {kind}, K {size}", by) for title, found in netlists.items() for kind, size, by in kinds_of(found)]
-    return [(is_met, f"{place}: {what}") for place, by in places for is_met, what in goals(by)]
+    places = [(f"{title}, {kind}, K {size}", by, found["ands"]) for title, found in netlists.items() for kind, size, by in kinds_of(found)]
+    return [(is_met, f"{place}: {what}") for place, by, ands in places for is_met, what in goals(by, ands)]
 
 
 def times(netlists: dict[str, Numbers]) -> Iterator[str]:
@@ -166,6 +176,7 @@ def add_words(parser: argparse.ArgumentParser) -> None:
     which = "a built program: tlut, or tlut-compact if its file has `compact` in its name (default: those that ./tlut builds)"
     parser.add_argument("programs", metavar="PROGRAM", nargs="*", type=shared.path_of, help=which)
     parser.add_argument("--limit", action="store_true", help="also a size near the limit of AND nodes of each shape")
+    parser.add_argument("--million", action="store_true", help="netlists of about a million AND nodes instead, with their parameters")
     parser.add_argument("--netlist", metavar="WORD", action="append", default=[], help="only netlists with this word in their title (repeatable)")
     parser.add_argument("--k", metavar="K", type=int, choices=range(2, 7), action="append", help="the inputs of a LUT (repeatable; default: 4, 5 and 6)")
     parser.add_argument("--runs", metavar="N", type=int, default=5, help="how often each call is run, if it is short (default: 5)")
@@ -178,10 +189,10 @@ def show(given: argparse.Namespace) -> int:
     kept: Numbers = mapping_calls.kept(given.json)
     measured: Numbers = {}
     print("\n".join(head(names)), flush=True)
-    for title, make in chosen(given.netlist, given.limit):
+    for title, make in chosen(given.netlist, given.limit, MILLIONS if given.million else SHAPES):
         kept[title] = measured[title] = measure(title, make(), programs, abc, given.k or SIZES, given.runs)
         print("\n".join(rows(title, measured[title], names)), flush=True)
-        shared.save(given.json, {"missed": [what for is_met, what in judged(kept) if not is_met], "netlists": kept})
+        shared.save(given.json, {"missed": [what for is_met, what in judged(kept) if not is_met], "means": pages.means(kept), "netlists": kept})
     found = judged(measured)
     print("\n".join(times(measured)))
     print("".join(f"missed: {what}\n" for is_met, what in found if not is_met), end="")
