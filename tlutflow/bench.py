@@ -251,7 +251,7 @@ def bench_text(circuit: Circuit, names: Names, device: Device) -> str:
         no_bits="" if bits else "-",
         shown_outputs='%b", outputs' if circuit.roots else '-"',
         shown_states='%b", states' if states else '-"',
-        header=f"luts {len(circuit.tables)} bits {bits} depth {circuit.depth}",
+        header=f"luts {len(circuit.luts)} bits {bits} depth {circuit.depth}",
     )
 
 

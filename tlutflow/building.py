@@ -226,9 +226,9 @@ class Build:
                 found = dict(zip(jobs, pool.map(one, jobs)))
         return {str(k): {name: found[k, name] for name in calls} for k in ks}
 
-    def tlut(self, step: str, words: list[str], reads: list[str], writes: list[str], by_rule: bool = True) -> str:
+    def tlut(self, step: str, words: list[str], reads: list[str], writes: list[str]) -> str:
         """A step that is a call of `tlut`; returns what it prints."""
-        rule = list(RULES[self.built.rule]) if by_rule else []
+        rule = list(RULES[self.built.rule])
 
         def work() -> str:
             ran = tools.run([self.program, *rule, *words])
@@ -238,9 +238,9 @@ class Build:
 
         return str(self.steps.make(step, [rule, words], [*reads, self.binary], writes, work))
 
-    def shown(self, words: list[str], by_rule: bool = True) -> str:
+    def shown(self, words: list[str]) -> str:
         """A call of `tlut` as it could be given."""
-        return shlex.join([*(RULE_NAMES[self.built.rule] if by_rule else "tlut").split(), *words])
+        return shlex.join([*RULE_NAMES[self.built.rule].split(), *words])
 
     def map(self) -> None:
         """The template and the pack."""
@@ -257,10 +257,10 @@ class Build:
     def certificate(self) -> tuple[list[list[str]], list[str]]:
         """The certificate of the depth, and its audit."""
         files = [str(self.given.k), self.path(".blif"), self.path(".par"), self.path(".cert")]
-        self.tlut("prove", ["prove", *files], [self.path(".blif"), self.path(".par")], [self.path(".cert")], False)
-        said = self.tlut("audit", ["audit", *files], files[1:], [], False).strip()
-        check = ["no cover of the netlist's graph has less depth", "tlut audit, from the certificate", said, "ok"]
-        return [check], [self.shown(["prove", *files], False), self.shown(["audit", *files], False)]
+        self.tlut("prove", ["prove", *files], [self.path(".blif"), self.path(".par")], [self.path(".cert")])
+        said = self.tlut("audit", ["audit", *files], files[1:], []).strip()
+        check = ["no cover of the netlist's graph has less depth", f"{RULE_NAMES[self.built.rule]} audit, from the certificate", said, "ok"]
+        return [check], [self.shown(["prove", *files]), self.shown(["audit", *files])]
 
     def flow(self, words: list[str], given: str = "", seconds: Optional[float] = None) -> tuple[int, str, str]:
         """Runs another subcommand, and returns its status, its output, and its last line on standard error."""

@@ -41,15 +41,18 @@ def indexed_buses(names: list[str]) -> dict[str, Bus]:
         found = INDEXED.fullmatch(name)
         if found:
             indexed.setdefault(found[1], {})[int(found[2])] = name
-    whole = {name: nets for name, nets in indexed.items() if name not in names and max(nets) - min(nets) + 1 == len(nets)}
+    there = set(names)
+    whole = {
+        name: Bus(name, tuple(nets[it] for it in sorted(nets)), min(nets))
+        for name, nets in indexed.items()
+        if name not in there and max(nets) - min(nets) + 1 == len(nets)
+    }
     buses: dict[str, Bus] = {}
     for name in names:
         found = INDEXED.fullmatch(name)
-        if found and found[1] in whole:
-            nets = whole[found[1]]
-            buses.setdefault(found[1], Bus(found[1], tuple(nets[it] for it in sorted(nets)), min(nets)))
-        else:
-            buses[name] = Bus(name, (name,))
+        bus = whole.get(found[1]) if found else None
+        bus = bus or Bus(name, (name,))
+        buses[bus.name] = bus
     return buses
 
 

@@ -15,7 +15,7 @@ from tlutflow.port_file import Ports, find_ports
 
 
 @dataclass(frozen=True)
-class Table:
+class Lut:
     """A LUT: its net, its leaves, leaf 0 first, and the addresses of its configuration bits, 2^leaves from `first` on."""
 
     net: str
@@ -43,7 +43,7 @@ class Circuit:
     clock: Optional[str]
     roots: dict[str, str]
     latches: list[Latch]
-    tables: list[Table]
+    luts: list[Lut]
     pack: Pack
     ports: Ports = Ports()
 
@@ -52,26 +52,26 @@ class Circuit:
         return buses_of(names, self.ports)
 
     @cached_property
-    def table_of(self) -> dict[str, Table]:
+    def lut_of(self) -> dict[str, Lut]:
         """The LUT of each net that a LUT drives."""
-        return {table.net: table for table in self.tables}
+        return {lut.net: lut for lut in self.luts}
 
     @property
     def nets(self) -> set[str]:
         """The nets of inputs and LUTs."""
-        return {*self.inputs, *self.table_of}
+        return {*self.inputs, *self.lut_of}
 
     @cached_property
-    def table_at(self) -> list[int]:
+    def lut_at(self) -> list[int]:
         """For each configuration bit the number of its LUT."""
-        return [number for number, table in enumerate(self.tables) for _ in table.addresses]
+        return [number for number, lut in enumerate(self.luts) for _ in lut.addresses]
 
     @cached_property
     def depths(self) -> dict[str, int]:
         """The depth of each LUT: 0 without leaves, otherwise one more than its deepest leaf."""
         depths: dict[str, int] = {}
-        for table in self.tables:
-            depths[table.net] = 1 + max(depths.get(leaf, 0) for leaf in table.leaves) if table.leaves else 0
+        for lut in self.luts:
+            depths[lut.net] = 1 + max(depths.get(leaf, 0) for leaf in lut.leaves) if lut.leaves else 0
         return depths
 
     @property
@@ -84,10 +84,10 @@ class Circuit:
         """For each bit the parameters that it reads, as a number with a digit for each."""
         return self.pack.supports()
 
-    def support(self, table: Table) -> int:
+    def support(self, lut: Lut) -> int:
         """The parameters that some bit of a LUT reads, as a number with a binary digit for each."""
         read = 0
-        for address in table.addresses:
+        for address in lut.addresses:
             read |= self.supports[address]
         return read
 
@@ -98,13 +98,13 @@ class Circuit:
     def longest_path(self, within: Optional[set[str]] = None) -> list[str]:
         """The nets of the critical path of the circuit, or of a cone: from an input or a latch through LUTs to an output or a latch.
         Empty without LUTs."""
-        tables = [table for table in self.tables if within is None or table.net in within]
-        if not tables:
+        luts = [lut for lut in self.luts if within is None or lut.net in within]
+        if not luts:
             return []
-        at = max(tables, key=lambda table: self.depths[table.net])
+        at = max(luts, key=lambda lut: self.depths[lut.net])
         path = [at.net]
-        while path[0] in self.table_of and self.table_of[path[0]].leaves:
-            path.insert(0, max(self.table_of[path[0]].leaves, key=lambda leaf: self.depths.get(leaf, 0)))
+        while path[0] in self.lut_of and self.lut_of[path[0]].leaves:
+            path.insert(0, max(self.lut_of[path[0]].leaves, key=lambda leaf: self.depths.get(leaf, 0)))
         path.append(self.reader_of(at.net))
         return path
 
@@ -123,8 +123,8 @@ class Circuit:
             net = waiting.pop()
             if net not in found:
                 found.add(net)
-                table = self.table_of.get(net)
-                waiting += table.leaves if table else []
+                lut = self.lut_of.get(net)
+                waiting += lut.leaves if lut else []
         return found
 
 
@@ -156,9 +156,9 @@ def renamed(circuit: Circuit, states: list[str]) -> Circuit:
     """A circuit whose latches have these names."""
     new = {latch.state: name for latch, name in zip(circuit.latches, states)}
     latches = [Latch(new.get(it.source, it.source), new[it.state], it.control, it.init) for it in circuit.latches] if new else circuit.latches
-    tables = [Table(it.net, [new.get(leaf, leaf) for leaf in it.leaves], it.first) for it in circuit.tables]
+    luts = [Lut(it.net, [new.get(leaf, leaf) for leaf in it.leaves], it.first) for it in circuit.luts]
     roots = {output: new.get(root, root) for output, root in circuit.roots.items()}
-    return Circuit(circuit.name, circuit.inputs, circuit.clock, roots, latches, tables, circuit.pack, circuit.ports)
+    return Circuit(circuit.name, circuit.inputs, circuit.clock, roots, latches, luts, circuit.pack, circuit.ports)
 
 
 def circuit_of(library: Library, pack: Pack, file: str, ports: Ports = Ports()) -> Circuit:
@@ -166,19 +166,19 @@ def circuit_of(library: Library, pack: Pack, file: str, ports: Ports = Ports()) 
     main = library.main
     inputs, *rooms = main.input_lines or [[]]
     clock = next((latch.control for latch in main.latches if latch.control), None)
-    tables = []
+    luts = []
     first = 0
     for room, cover in zip(rooms, main.covers):
         held = set(room)
         leaves = [name for name in cover.inputs if name not in held]
-        tables.append(Table(cover.output, leaves, first))
-        if cover.inputs[len(leaves) :] != room or tables[-1].size != len(room):
+        luts.append(Lut(cover.output, leaves, first))
+        if cover.inputs[len(leaves) :] != room or luts[-1].size != len(room):
             raise Fault(f"{library.file}: not a template written by map: the LUT {cover.output} doesn't have its bits as inputs")
         first += len(room)
     if not first and pack.bits:
         raise Fault(f"{library.file}: not a template written by map: it has no configuration bits")
     if first != len(pack.bits):
         raise Fault(f"{library.file} has {first} configuration bits and {file} has {len(pack.bits)}: they come from different calls of map")
-    wires = {cover.output: cover.inputs[0] for cover in main.covers[len(tables) :]}
+    wires = {cover.output: cover.inputs[0] for cover in main.covers[len(luts) :]}
     roots = {name: wires.get(name, name) for name in main.outputs}
-    return Circuit(main.name, [it for it in inputs if it != clock], clock, roots, main.latches, tables, pack, ports)
+    return Circuit(main.name, [it for it in inputs if it != clock], clock, roots, main.latches, luts, pack, ports)

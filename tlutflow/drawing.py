@@ -4,10 +4,10 @@ from __future__ import annotations
 
 from typing import Iterable, Optional
 
-from tlutflow.circuit import Circuit, Table
+from tlutflow.circuit import Circuit, Lut
 
 TUNABLE, FIXED, LATCH, PORT, PATH = "#ffd08a", "#e8e8e8", "#cfe2ff", "#ffffff", "#d01c1c"
-# At most so many parameters are named in a table.
+# At most so many parameters are named in a lut.
 NAMED = 3
 
 HEAD = """digraph {name} {{
@@ -28,16 +28,16 @@ def drawing(circuit: Circuit, cone: Optional[set[str]] = None) -> str:
     shown = everything(circuit) if cone is None else cone
     lines = [HEAD.format(name=quote(circuit.name))]
     lines += [node(net, net, "ellipse", PORT, net in path) for net in circuit.inputs if net in shown]
-    lines += [table_node(circuit, table, table.net in path) for table in circuit.tables if table.net in shown]
+    lines += [lut_node(circuit, lut, lut.net in path) for lut in circuit.luts if lut.net in shown]
     lines += latch_lines(circuit, shown, steps, path)
-    lines += [edge(leaf, table.net, (leaf, table.net) in steps) for table in circuit.tables if table.net in shown for leaf in table.leaves]
+    lines += [edge(leaf, lut.net, (leaf, lut.net) in steps) for lut in circuit.luts if lut.net in shown for leaf in lut.leaves]
     lines += output_lines(circuit, shown, steps, path)
     return "\n".join([*lines, "}", ""])
 
 
 def everything(circuit: Circuit) -> set[str]:
     """All nets of LUTs, latches and inputs."""
-    return {*circuit.inputs, *circuit.table_of, *(latch.state for latch in circuit.latches)}
+    return {*circuit.inputs, *circuit.lut_of, *(latch.state for latch in circuit.latches)}
 
 
 def node(name: str, label: str, shape: str, fill: str, on_path: bool, more: str = "") -> str:
@@ -52,12 +52,12 @@ def edge(source: str, target: str, on_path: bool, more: str = "") -> str:
     return f"  {quote(source)} -> {quote(target)}{f' [{looks.strip()}]' if looks else ''};"
 
 
-def table_node(circuit: Circuit, table: Table, on_path: bool) -> str:
+def lut_node(circuit: Circuit, lut: Lut, on_path: bool) -> str:
     """A LUT: its net, its bits, and the parameters that they read."""
-    read = circuit.parameters_in(circuit.support(table))
-    bits = f"bits {table.first}..{table.addresses[-1]}" if table.size > 1 else f"bit {table.first}"
-    label = "\n".join(filter(None, [table.net, bits, parameter_words(circuit, read)]))
-    return node(table.net, label, "box", TUNABLE if read else FIXED, on_path)
+    read = circuit.parameters_in(circuit.support(lut))
+    bits = f"bits {lut.first}..{lut.addresses[-1]}" if lut.size > 1 else f"bit {lut.first}"
+    label = "\n".join(filter(None, [lut.net, bits, parameter_words(circuit, read)]))
+    return node(lut.net, label, "box", TUNABLE if read else FIXED, on_path)
 
 
 def parameter_words(circuit: Circuit, read: list[str]) -> str:

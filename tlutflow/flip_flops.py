@@ -7,7 +7,7 @@ words of several bits, whose flip-flops have one enable.
 
 from __future__ import annotations
 
-from tlutflow.circuit import Circuit, Table
+from tlutflow.circuit import Circuit, Lut
 from tlutflow.store import Store, check_writes, regions_of
 from tlutflow.tables import Operation, binary, selected, vector
 from tlutflow.verilog_names import Names
@@ -33,10 +33,10 @@ class FlipFlops:
         """What a bit is, as a test bench sees it from above."""
         return self.inside(address).replace(self.names.config["bits"], f"circuit.{self.names.config['bits']}")
 
-    def table_lines(self, number: int, table: Table) -> list[str]:
+    def lut_lines(self, number: int, lut: Lut) -> list[str]:
         """The lines of a LUT: a choice among its bits."""
-        bits = [self.inside(address) for address in table.addresses]
-        return selected(self.names, number, table, bits)
+        bits = [self.inside(address) for address in lut.addresses]
+        return selected(self.names, number, lut, bits)
 
 
 class Chain(FlipFlops):

@@ -67,7 +67,7 @@ def latch_lines(circuit: Circuit, names: Names) -> list[str]:
 
 def module_text(circuit: Circuit, names: Names, device: Device) -> str:
     """The circuit."""
-    tables = [line for number, table in enumerate(circuit.tables) for line in device.table_lines(number, table)]
+    luts = [line for number, lut in enumerate(circuit.luts) for line in device.lut_lines(number, lut)]
     lines = [
         f"// The circuit {circuit.name} as tlut mapped it. It begins with the values that the parameters have at the start.",
         device.comment(),
@@ -78,9 +78,9 @@ def module_text(circuit: Circuit, names: Names, device: Device) -> str:
         ",\n".join(f"    {line}" for line in port_lines(names, device)),
         ");",
         *(f"    reg {names.nets[latch.state]} = 1'b{latch.start};" for latch in circuit.latches),
-        *(f"    wire {names.nets[table.net]};" for table in circuit.tables),
+        *(f"    wire {names.nets[lut.net]};" for lut in circuit.luts),
         *device.lines(),
-        *tables,
+        *luts,
         *latch_lines(circuit, names),
         *(f"    assign {names.output_bits[output]} = {names.nets[root]};" for output, root in circuit.roots.items()),
         "endmodule",

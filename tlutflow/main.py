@@ -27,14 +27,14 @@ def version() -> str:
         return file.read().strip()
 
 
-class Words(argparse.ArgumentParser):
+class Parser(argparse.ArgumentParser):
     """An argument parser that reports a usage error in one line."""
 
     def error(self, message: str) -> NoReturn:
         self.exit(2, f"{self.prog}: {message}; see {self.prog} --help\n")
 
 
-class Subcommand(Words):
+class Subcommand(Parser):
     """The parser of a subcommand, whose options may be among its files and values."""
 
     is_within = False
@@ -58,7 +58,7 @@ def parser() -> argparse.ArgumentParser:
     """The parser of all arguments."""
     name = os.path.basename(sys.argv[0])
     prog = name if name.startswith(("flow", "tlut")) else "flow"
-    words = Words(prog=prog, description=HEAD, epilog=TAIL)
+    words = Parser(prog=prog, description=HEAD, epilog=TAIL)
     subcommands = words.add_subparsers(title="subcommands", metavar="SUBCOMMAND", required=True, parser_class=Subcommand)
     for module in COMMANDS:
         own = subcommands.add_parser(

@@ -107,7 +107,7 @@ def path_part(circuit: Circuit, view: dict[str, Any]) -> str:
     nodes = {node["name"]: node for node in view["nodes"] if node["kind"] in ("lut", "tunable")}
     steps = []
     for place, net in enumerate(path):
-        node = nodes.get(net) if 0 < place < len(path) - 1 or place == 0 and net in nodes and circuit.table_of[net].leaves == [] else None
+        node = nodes.get(net) if 0 < place < len(path) - 1 or place == 0 and net in nodes and circuit.lut_of[net].leaves == [] else None
         if node is None:
             steps.append(f'<li><span class="step"><b>{escape(net)}</b></span></li>')
             continue
@@ -127,7 +127,7 @@ def path_table(circuit: Circuit, nodes: dict[str, dict[str, Any]], path: list[st
     for net in path:
         if net in nodes:
             node = nodes[net]
-            reads = ", ".join(circuit.table_of[net].leaves)
+            reads = ", ".join(circuit.lut_of[net].leaves)
             rows.append(([escape(net), str(node["depth"]), escape(reads), escape(node.get("params", "none")), escape(node["support"])], ""))
     head = ["LUT", "level", "reads", "parameters in its bits", "ports and flip-flops in its cone"]
     return f"<details><summary>LUT by LUT</summary>{table(head, rows, (2, 3, 4))}</details>"
@@ -155,7 +155,7 @@ def tables_part(circuit: Circuit, found: Statistics) -> str:
     by_kind = {it: {"LUTs": found.tables_by_kind[it], "bits": found.bits_by_kind[it]} for it in KINDS}
     rows = [([escape(name), f"{it['LUTs']:,}", f"{it['bits']:,}"], "") for name, it in by_kind.items()]
     shapes: dict[int, dict[str, int]] = {}
-    for it in circuit.tables:
+    for it in circuit.luts:
         row = shapes.setdefault(len(it.leaves), dict.fromkeys(KINDS, 0))
         row[kind(circuit.support(it))] += 1
     sized = [([str(leaves), *(f"{shapes[leaves][name]:,}" for name in KINDS), f"{sum(shapes[leaves].values()):,}"], "") for leaves in sorted(shapes)]
@@ -169,7 +169,7 @@ def parameters_part(circuit: Circuit, found: Statistics) -> str:
         return "<p>The netlist has no parameters.</p>"
     names = list(circuit.pack.parameters)
     tables: dict[str, list[str]] = {name: [] for name in names}
-    for it in circuit.tables:
+    for it in circuit.luts:
         for name in circuit.parameters_in(circuit.support(it)):
             tables[name].append(it.net)
     rows = []

@@ -8,7 +8,7 @@ from itertools import groupby
 from typing import Any, Iterable
 
 from tlutflow.bus import Bus
-from tlutflow.circuit import Circuit, Table
+from tlutflow.circuit import Circuit, Lut
 from tlutflow.formula import Formulas
 from tlutflow.text import count
 
@@ -51,31 +51,31 @@ def kind(support: int) -> str:
 
 def statistics(circuit: Circuit) -> Statistics:
     """The counts of a circuit."""
-    table_supports = [circuit.support(table) for table in circuit.tables]
-    by_table, by_bit = Counter(map(kind, table_supports)), Counter(map(kind, circuit.supports))
+    lut_supports = [circuit.support(lut) for lut in circuit.luts]
+    by_lut, by_bit = Counter(map(kind, lut_supports)), Counter(map(kind, circuit.supports))
     return Statistics(
         circuit.name,
         len(circuit.inputs),
         len(circuit.roots),
         len(circuit.latches),
         len(circuit.pack.parameters),
-        len(circuit.tables),
+        len(circuit.luts),
         circuit.depth,
         len(circuit.pack.bits),
         len(circuit.pack.nodes),
-        dict(sorted(Counter(len(table.leaves) for table in circuit.tables).items())),
+        dict(sorted(Counter(len(lut.leaves) for lut in circuit.luts).items())),
         dict(sorted(Counter(circuit.depths.values()).items())),
-        {it: by_table[it] for it in KINDS},
+        {it: by_lut[it] for it in KINDS},
         {it: by_bit[it] for it in KINDS},
-        reach_of(circuit, table_supports),
+        reach_of(circuit, lut_supports),
         circuit.longest_path(),
     )
 
 
-def reach_of(circuit: Circuit, table_supports: list[int]) -> dict[str, Reach]:
+def reach_of(circuit: Circuit, lut_supports: list[int]) -> dict[str, Reach]:
     """For each parameter the bits and the LUTs that read it."""
-    in_bits, in_tables = digit_counts(circuit.supports), digit_counts(table_supports)
-    return {name: Reach(in_bits[place], in_tables[place]) for place, name in enumerate(circuit.pack.parameters)}
+    in_bits, in_luts = digit_counts(circuit.supports), digit_counts(lut_supports)
+    return {name: Reach(in_bits[place], in_luts[place]) for place, name in enumerate(circuit.pack.parameters)}
 
 
 def digit_counts(numbers: list[int]) -> Counter[int]:
@@ -90,8 +90,8 @@ def digit_counts(numbers: list[int]) -> Counter[int]:
 
 def as_json(circuit: Circuit, formulas: Formulas) -> dict[str, Any]:
     """The whole report for other programs: the counts, and each LUT with the functions of its bits."""
-    tables = [table_json(circuit, table, formulas) for table in circuit.tables]
-    texts = [text for table in tables for text in table["functions"]]
+    luts = [lut_json(circuit, lut, formulas) for lut in circuit.luts]
+    texts = [text for lut in luts for text in lut["functions"]]
     definitions = dict(line.split(" = ", 1) for line in formulas.definitions(texts))
     return {
         **asdict(statistics(circuit)),
@@ -100,21 +100,21 @@ def as_json(circuit: Circuit, formulas: Formulas) -> dict[str, Any]:
         "clock": circuit.clock,
         "output_roots": circuit.roots,
         "latch_list": [{"net": it.state, "next": it.source, "start": it.start} for it in circuit.latches],
-        "table_list": tables,
+        "table_list": luts,
         "shared_functions": definitions,
     }
 
 
-def table_json(circuit: Circuit, table: Table, formulas: Formulas) -> dict[str, Any]:
+def lut_json(circuit: Circuit, lut: Lut, formulas: Formulas) -> dict[str, Any]:
     """A LUT for other programs."""
     return {
-        "net": table.net,
-        "leaves": table.leaves,
-        "first_bit": table.first,
-        "bits": table.size,
-        "depth": circuit.depths[table.net],
-        "parameters": circuit.parameters_in(circuit.support(table)),
-        "functions": [formulas.of_bit(address) for address in table.addresses],
+        "net": lut.net,
+        "leaves": lut.leaves,
+        "first_bit": lut.first,
+        "bits": lut.size,
+        "depth": circuit.depths[lut.net],
+        "parameters": circuit.parameters_in(circuit.support(lut)),
+        "functions": [formulas.of_bit(address) for address in lut.addresses],
     }
 
 

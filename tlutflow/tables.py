@@ -4,8 +4,11 @@ from __future__ import annotations
 
 from dataclasses import dataclass
 
-from tlutflow.circuit import Table
+from tlutflow.circuit import Lut
 from tlutflow.verilog_names import Names
+
+# How many digits a number has at most.
+LONGEST = 4096
 
 
 @dataclass(frozen=True)
@@ -27,7 +30,10 @@ def vector(size: int, always: bool = False) -> str:
 
 
 def binary(bits: list[int]) -> str:
-    """Bits, the lowest place first, as a number."""
+    """Bits, the lowest place first, as a number. A long one is several numbers in a row, since Icarus Verilog reads no number of 16,384 digits."""
+    if len(bits) > LONGEST:
+        ends = range(len(bits), 0, -LONGEST)
+        return f"{{{', '.join(binary(bits[max(end - LONGEST, 0) : end]) for end in ends)}}}"
     return f"{len(bits)}'b{''.join(map(str, reversed(bits)))}"
 
 
@@ -47,6 +53,6 @@ def chosen(names: Names, name: str, leaves: list[str], bits: list[str], net: str
     return [kept, f"    assign {net} = {name}[{leaf_index(names, leaves)}];"]
 
 
-def selected(names: Names, number: int, table: Table, bits: list[str]) -> list[str]:
+def selected(names: Names, number: int, lut: Lut, bits: list[str]) -> list[str]:
     """The lines of a LUT whose bits are these expressions."""
-    return chosen(names, names.instance(number), table.leaves, bits, names.nets[table.net])
+    return chosen(names, names.instance(number), lut.leaves, bits, names.nets[lut.net])

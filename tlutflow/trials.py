@@ -31,11 +31,13 @@ from tlutflow.text import read_text, write_text
 # What is looked for first, then next where that is the same, by the names of a result's fields.
 AIMS = {
     "depth": ("depth", "tables", "bits"),
-    "tables": ("tables", "depth", "bits"),
+    "luts": ("tables", "depth", "bits"),
     "bits": ("bits", "depth", "tables"),
     "changes": ("changed", "depth", "tables"),
     "sites": ("sites", "depth", "tables", "bits"),
 }
+# What an aim was called before.
+OLD_AIMS = {"tables": "luts"}
 RULES = {"tlut": (), "compact": ("--compact",)}
 RULE_NAMES = {"tlut": "tlut", "compact": "tlut --compact"}
 AS_READ = "as read"
@@ -148,7 +150,7 @@ class Found:
         def key(it: tuple[str, str, Sizes]) -> tuple[int, int]:
             """What is compared. ABC has no tunable bits, so `changes` is as `depth` here."""
             sizes = it[2]
-            return {"tables": (sizes.tables, sizes.depth), "bits": (sizes.bits, sizes.depth)}.get(self.aim, (sizes.depth, sizes.tables))
+            return {"luts": (sizes.tables, sizes.depth), "bits": (sizes.bits, sizes.depth)}.get(self.aim, (sizes.depth, sizes.tables))
 
         return min(found, key=key) if found else None
 

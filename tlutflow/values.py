@@ -46,6 +46,7 @@ def value_of(name: str, option: argparse.Action, value: Any) -> Any:
         kept(name, value, (int, float), "a number")
     else:
         kept(name, value, str, "a string")
+        value = option.type(value) if callable(option.type) else value
     if option.choices is not None and value not in option.choices:
         raise Fault(f"{name} is {value!r}: it is one of {', '.join(map(str, option.choices))}")
     return value

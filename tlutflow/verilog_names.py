@@ -118,8 +118,8 @@ def names_of(circuit: Circuit, module: str) -> Names:
         own = free_name(name if name not in taken else f"{name}_out", taken)
         taken.add(own)
         outputs.append(Port("output", own, bus))
-    taken.update(circuit.table_of)
-    nets = {net: identifier(net) for net in circuit.table_of}
+    taken.update(circuit.lut_of)
+    nets = {net: identifier(net) for net in circuit.lut_of}
     for latch in circuit.latches:
         own = free_name(latch.state if latch.state not in taken else f"{latch.state}_reg", taken)
         taken.add(own)

@@ -81,7 +81,7 @@ def measured(source: tuple[str, str, list[str]], ks: list[int], jobs: int, alone
 
 def check_kept(source: str, found: Found) -> None:
     """Stops if a netlist that would be kept for depth or for few LUTs isn't its source."""
-    for file in dict.fromkeys(min(found.results, key=lambda it: it.key(aim)).file for aim in ("depth", "tables")):
+    for file in dict.fromkeys(min(found.results, key=lambda it: it.key(aim)).file for aim in ("depth", "luts")):
         ran = tools.run([f"{TOP}/flow", "check", source, file])
         if ran.returncode:
             sys.exit(f"{file}: {ran.stderr}")
@@ -125,7 +125,7 @@ def main() -> int:
             for k, found in measured(source, given.k or [4, 6], given.jobs, given.alone).items():
                 compact = [it for it in found.results if it.rule == "compact"]
                 quick = next(it for it in compact if it.name == QUICK)
-                deep, small = (min(compact, key=lambda it: it.key(aim)) for aim in ("depth", "tables"))
+                deep, small = (min(compact, key=lambda it: it.key(aim)) for aim in ("depth", "luts"))
                 abc = found.best_by_abc()
                 assert abc
                 row = [title, str(k), cell(quick), cell(deep), deep.name, cell(small), small.name, f"{abc[2].tables:,}/{abc[2].depth}", f"{abc[0]}, `{abc[1]}`"]

@@ -34,7 +34,7 @@ Steps of programs that aren't installed are skipped, and the report says so: ABC
 EXAMPLE = """examples:
   flow build fir.v --top fir --param c0=5 --param c1=3 --param c2=6 --k 4 --out made
   flow build fir.v --top fir --param c0=5 --param c1=3 --param c2=6 --device xilinx7 --out made
-  flow build fir.blif fir.par --k 6 --for tables --script fir.scr --out made"""
+  flow build fir.blif fir.par --k 6 --for luts --script fir.scr --out made"""
 
 
 def add_words(parser: argparse.ArgumentParser) -> None:
@@ -90,7 +90,7 @@ def run(given: argparse.Namespace) -> int:
     built, circuit = made.built, made.circuit
     best = built.preparation.get("best")
     prepared = f", preparation {best['name']}" if best else ""
-    print(f"{built.name}: {count(len(circuit.tables), 'LUT')}, depth {circuit.depth}, {count(len(circuit.pack.bits), 'bit')} at K {given.k}{prepared}")
+    print(f"{built.name}: {count(len(circuit.luts), 'LUT')}, depth {circuit.depth}, {count(len(circuit.pack.bits), 'bit')} at K {given.k}{prepared}")
     for part in ("told", "text"):
         if part in built.device:
             print(built.device[part])

@@ -21,7 +21,7 @@ EXAMPLE = """examples:
   flow draw fir_t.blif fir.ppc --cone y[3] --out y3.svg"""
 
 PICTURES = (".svg", ".png", ".pdf")
-# A drawing of more tables than this is hard to read, and slow to lay out.
+# A drawing of more LUTs than this is hard to read, and slow to lay out.
 MANY = 300
 
 
@@ -41,7 +41,7 @@ def ends_of(circuit: Circuit, names: list[str]) -> list[str]:
     for name in names:
         found = [circuit.roots[net] for net in (outputs[name].nets if name in outputs else [name]) if net in circuit.roots]
         found = found or [nexts[net] for net in (registers[name].nets if name in registers else [name]) if net in nexts]
-        found = found or [name] * (name in circuit.table_of)
+        found = found or [name] * (name in circuit.lut_of)
         if not found:
             there = [", ".join(bus.title for bus in buses.values()) or "none" for buses in (outputs, registers)]
             raise Fault(f"--cone {name}: it isn't an output, register or LUT; the outputs are {there[0]}, and the registers {there[1]}")
@@ -62,9 +62,9 @@ def paint(text: str, path: str) -> None:
 def run(given: argparse.Namespace) -> int:
     circuit = read_circuit(given.template, given.pack)
     cone = circuit.cone(ends_of(circuit, given.cone)) if given.cone else None
-    tables = len(circuit.tables) if cone is None else len(cone & set(circuit.table_of))
-    if tables > MANY and not given.all:
-        raise Fault(f"{tables} LUTs are too many to read, so nothing was drawn: --cone NET draws the cone of one output, and --all draws all LUTs")
+    luts = len(circuit.luts) if cone is None else len(cone & set(circuit.lut_of))
+    if luts > MANY and not given.all:
+        raise Fault(f"{luts} LUTs are too many to read, so nothing was drawn: --cone NET draws the cone of one output, and --all draws all LUTs")
     text = drawing(circuit, cone)
     if given.out is None:
         print(text, end="")

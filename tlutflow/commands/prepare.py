@@ -15,7 +15,7 @@ from tlutflow.faults import Fault
 from tlutflow.parameters import read_parameters
 from tlutflow.parts import PART_SIZE
 from tlutflow.port_file import keep_ports
-from tlutflow.trials import AIMS, RULE_NAMES, RULES, Found, Report, Result, Task, Trial, keep, prepare
+from tlutflow.trials import AIMS, OLD_AIMS, RULE_NAMES, RULES, Found, Report, Result, Task, Trial, keep, prepare
 from tlutflow.preparations import PREPARATIONS, Preparation, chosen, further
 from tlutflow.statistics import grid
 from tlutflow.text import count
@@ -35,7 +35,12 @@ done in time stays as it is, and stderr says which. Logic of parameters alone is
 The table has a row for each preparation and rule, the best one first. A star marks those that no other beats in LUTs, depth and bits."""
 EXAMPLE = """examples:
   flow prepare fir.blif fir.par --k 4 --out fir_prepared.blif
-  flow prepare fir.blif fir.par --k 6 --for tables --only raw --only dc2 --try short='dc2; balance'"""
+  flow prepare fir.blif fir.par --k 6 --for luts --only raw --only dc2 --try short='dc2; balance'"""
+
+
+def aim_of(word: str) -> str:
+    """The aim that a word after --for names."""
+    return OLD_AIMS.get(word, word)
 
 
 def add_words(parser: argparse.ArgumentParser) -> None:
@@ -52,7 +57,7 @@ def add_shared_words(parser: argparse.ArgumentParser, k: int) -> None:
     """The words that `prepare`, `verilog` and `build` share."""
     parser.add_argument("--k", metavar="K", type=int, choices=range(2, 7), help=f"inputs of a LUT, 2 to 6 (default: {k})")
     aims = "what to minimise; changes: the median number of bits that a random parameter change rewrites; sites: what --device counts"
-    parser.add_argument("--for", dest="aim", choices=list(AIMS), help=f"{aims} (default: depth, then the fewest LUTs; with --device sites)")
+    parser.add_argument("--for", dest="aim", type=aim_of, choices=list(AIMS), help=f"{aims} (default: depth, then the fewest LUTs; with --device sites)")
     parser.add_argument("--rule", choices=list(RULES), help="map by this rule alone (default: by both)")
     parser.add_argument("--seconds", type=float, default=60, help="CPU time that ABC may take for a preparation or a comparison, or for a part of one, and time for a simulation of build (default: 60)")
     parser.add_argument("--try", dest="further", metavar="NAME=COMMANDS", action="append", default=[], help="a further preparation, commands of ABC (repeat it)")

@@ -5,7 +5,7 @@ from __future__ import annotations
 import argparse
 import json
 
-from tlutflow.circuit import Circuit, Table, read_circuit
+from tlutflow.circuit import Circuit, Lut, read_circuit
 from tlutflow.faults import Fault
 from tlutflow.formula import Formulas
 from tlutflow.statistics import as_json, statistics, text_of
@@ -21,33 +21,34 @@ bits share has a name, for example g17, and a line of its own after the LUT."""
 EXAMPLE = """examples:
   tlut map 4 fir.blif fir.par fir_t.blif fir.ppc
   flow report fir_t.blif fir.ppc
-  flow report fir_t.blif fir.ppc --bits --table _n51"""
+  flow report fir_t.blif fir.ppc --bits --lut _n51"""
 
 
 def add_words(parser: argparse.ArgumentParser) -> None:
     parser.add_argument("template", metavar="TEMPLATE", help="the template that `tlut map` wrote")
     parser.add_argument("pack", metavar="PACK", help="its pack")
     parser.add_argument("--bits", action="store_true", help="the functions of the bits")
-    parser.add_argument("--table", metavar="NET", action="append", default=[], help="with --bits: only this LUT (repeat it)")
+    # The second word is the earlier one.
+    parser.add_argument("--lut", "--table", metavar="NET", action="append", default=[], help="with --bits: only this LUT (repeat it)")
     parser.add_argument("--json", action="store_true", help="all of it in JSON, for other programs")
 
 
-def chosen_tables(circuit: Circuit, nets: list[str]) -> list[Table]:
+def chosen_luts(circuit: Circuit, nets: list[str]) -> list[Lut]:
     """The LUTs of these nets, or all if none is named."""
     for net in nets:
-        if net not in circuit.table_of:
-            raise Fault(f"--table {net}: {circuit.name} has no LUT of this net; report --json lists them")
-    return [circuit.table_of[net] for net in nets] or circuit.tables
+        if net not in circuit.lut_of:
+            raise Fault(f"--lut {net}: {circuit.name} has no LUT of this net; report --json lists them")
+    return [circuit.lut_of[net] for net in nets] or circuit.luts
 
 
-def table_lines(table: Table, formulas: Formulas) -> list[str]:
+def lut_lines(lut: Lut, formulas: Formulas) -> list[str]:
     """The functions of a LUT's bits."""
-    texts = [formulas.of_bit(address) for address in table.addresses]
-    width = len(str(table.addresses[-1]))
-    lines = [f"LUT {table.net}: {', '.join(table.leaves) or 'no leaves'}"]
+    texts = [formulas.of_bit(address) for address in lut.addresses]
+    width = len(str(lut.addresses[-1]))
+    lines = [f"LUT {lut.net}: {', '.join(lut.leaves) or 'no leaves'}"]
     for place, text in enumerate(texts):
-        values = "".join(str(place >> leaf & 1) for leaf in range(len(table.leaves)))
-        lines.append("  ".join(filter(None, [f"  {table.first + place:{width}}", values, text])))
+        values = "".join(str(place >> leaf & 1) for leaf in range(len(lut.leaves)))
+        lines.append("  ".join(filter(None, [f"  {lut.first + place:{width}}", values, text])))
     return lines + [f"  where {line}" for line in formulas.definitions(texts)]
 
 
@@ -59,6 +60,6 @@ def run(given: argparse.Namespace) -> int:
         return 0
     print("\n".join(text_of(statistics(circuit), circuit.buses(circuit.pack.parameters).values())))
     if given.bits:
-        for table in chosen_tables(circuit, given.table):
-            print("\n" + "\n".join(table_lines(table, formulas)))
+        for lut in chosen_luts(circuit, given.lut):
+            print("\n" + "\n".join(lut_lines(lut, formulas)))
     return 0

@@ -12,7 +12,7 @@ from functools import cached_property
 from itertools import accumulate, chain
 from typing import Iterable
 
-from tlutflow.circuit import Circuit, Table
+from tlutflow.circuit import Circuit, Lut
 from tlutflow.devices.primitives import CHOICE, MODELS, lut6, lut6_2, pins
 from tlutflow.devices.rings import HALF, Layout, Unit, half_addresses, places_over, together
 from tlutflow.store import Store, check_writes
@@ -44,7 +44,7 @@ class Cfglut:
 
     def instance(self, unit: Unit) -> str:
         """The name of a CFGLUT5."""
-        return f"{self.names.instance(unit.tables[0])}_{unit.half}"
+        return f"{self.names.instance(unit.luts[0])}_{unit.half}"
 
     def bits(self, unit: Unit, configuration: list[int]) -> list[int]:
         """The bits of a CFGLUT5, the lowest place first."""
@@ -64,33 +64,33 @@ class Cfglut:
         ports = f".CLK({self.names.config['clk']}), .CE({enable}), .CDI({entry}), .CDO({end}), {pins(inputs, 5)}, {outputs}"
         return f"    CFGLUT5 #(.INIT(32'h{init:08x})) {self.instance(unit)} ({ports});"
 
-    def table_lines(self, number: int, table: Table) -> list[str]:
+    def lut_lines(self, number: int, lut: Lut) -> list[str]:
         """The lines of the site of a LUT; those of a pair are the lines of its first one."""
-        net, other = self.names.nets[table.net], self.layout.partner.get(number)
+        net, other = self.names.nets[lut.net], self.layout.partner.get(number)
         if other is not None and other < number:
             return []
         ring = self.layout.ring_of.get(number)
         if ring is None:
-            return self.fixed_lines(number, table) if other is None else [self.fixed_pair(number, other)]
+            return self.fixed_lines(number, lut) if other is None else [self.fixed_pair(number, other)]
         if other is not None:
-            return [self.unit_line(ring, 0, f".O6({self.names.nets[self.circuit.tables[other].net]}), .O5({net})")]
-        return [self.unit_line(ring, 0, f".O6({net}), .O5()")] if len(table.leaves) < 6 else self.wide_lines(number, table, ring)
+            return [self.unit_line(ring, 0, f".O6({self.names.nets[self.circuit.luts[other].net]}), .O5({net})")]
+        return [self.unit_line(ring, 0, f".O6({net}), .O5()")] if len(lut.leaves) < 6 else self.wide_lines(number, lut, ring)
 
-    def fixed_lines(self, number: int, table: Table) -> list[str]:
+    def fixed_lines(self, number: int, lut: Lut) -> list[str]:
         """The lines of a LUT of constants."""
-        bits = [f"1'b{self.store.start[address]}" for address in table.addresses]
-        return chosen(self.names, self.names.instance(number), table.leaves, bits, self.names.nets[table.net])
+        bits = [f"1'b{self.store.start[address]}" for address in lut.addresses]
+        return chosen(self.names, self.names.instance(number), lut.leaves, bits, self.names.nets[lut.net])
 
     def fixed_pair(self, one: int, other: int) -> str:
         """The line of two LUTs of constants in a site."""
-        tables = [self.circuit.tables[it] for it in (one, other)]
-        leaves = together(*tables)
-        places = chain.from_iterable(places_over(table, leaves, 5) for table in tables)
+        luts = [self.circuit.luts[it] for it in (one, other)]
+        leaves = together(*luts)
+        places = chain.from_iterable(places_over(lut, leaves, 5) for lut in luts)
         init = sum(self.store.start[address] << at for at, address in enumerate(places) if address is not None)
-        lower, upper = self.expressions(table.net for table in tables)
+        lower, upper = self.expressions(lut.net for lut in luts)
         return lut6_2(f"{self.names.instance(one)}_pair", init, self.expressions(leaves), lower, upper)
 
-    def wide_lines(self, number: int, table: Table, ring: int) -> list[str]:
+    def wide_lines(self, number: int, lut: Lut, ring: int) -> list[str]:
         """The lines of a LUT of six leaves: two halves, each a CFGLUT5 or of constants, and the choice between them."""
         top = self.names.instance(number)
         nets = [f"{top}_low", f"{top}_high"]
@@ -100,9 +100,9 @@ class Cfglut:
             if half in place_of:
                 lines.append(self.unit_line(ring, place_of[half], f".O6({net}), .O5()"))
                 continue
-            bits = [f"1'b{self.store.start[address]}" for address in half_addresses(table, half)]
-            lines += chosen(self.names, f"{top}_{half}", table.leaves[:5], bits, net)
-        leaf, out = self.expressions([table.leaves[5], table.net])
+            bits = [f"1'b{self.store.start[address]}" for address in half_addresses(lut, half)]
+            lines += chosen(self.names, f"{top}_{half}", lut.leaves[:5], bits, net)
+        leaf, out = self.expressions([lut.leaves[5], lut.net])
         return [*lines, f"    MUXF7 {top}_choice (.I0({nets[0]}), .I1({nets[1]}), .S({leaf}), .O({out}));"]
 
     def slices(self) -> int:
@@ -270,11 +270,11 @@ class CfglutRandom(Cfglut):
         entry = between if place else f"{config['entry']}{self.at(lane)}"
         return f"{config['row']}[{ring // self.word}]", entry, f"{config['ends']}[{ring}]" if place == last else between
 
-    def table_lines(self, number: int, table: Table) -> list[str]:
+    def lut_lines(self, number: int, lut: Lut) -> list[str]:
         ring = self.layout.ring_of.get(number)
         is_long = ring is not None and len(self.rings[ring]) == 2
         between = [f"    wire {self.names.config['between']}_{ring};"] if is_long else []
-        return between + super().table_lines(number, table)
+        return between + super().lut_lines(number, lut)
 
     def write(self, group: int, place: int, configuration: list[int]) -> Operation:
         """The write of a place of a group, whose digits begin with the highest ring. It ends where the place was that a step of a turn

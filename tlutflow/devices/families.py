@@ -56,12 +56,12 @@ def flip_flop_cells(circuit: Circuit) -> int:
     """How many cells of a LUT of four inputs and a flip-flop a circuit takes about, whose bits that change are flip-flops in a chain and in
     its copy: a LUT chooses among its bits by a tree, which has at least (n - 1) / 3 LUTs for n inputs."""
     store = store_of(circuit.pack, "distinct")
-    changing = {circuit.table_at[address] for address in store.places}
+    changing = {circuit.lut_at[address] for address in store.places}
     found = 2 * store.size
-    for number, table in enumerate(circuit.tables):
-        bits = {store.places[address] for address in table.addresses if address in store.places}
-        inputs = len(table.leaves) + len({cell for cell, _ in bits})
-        found += max(1, -(-(inputs - 1) // 3)) if number in changing or table.leaves else 0
+    for number, lut in enumerate(circuit.luts):
+        bits = {store.places[address] for address in lut.addresses if address in store.places}
+        inputs = len(lut.leaves) + len({cell for cell, _ in bits})
+        found += max(1, -(-(inputs - 1) // 3)) if number in changing or lut.leaves else 0
     return found
 
 

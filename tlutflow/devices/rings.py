@@ -11,7 +11,7 @@ from dataclasses import dataclass
 from functools import cached_property
 from typing import Iterable, Optional
 
-from tlutflow.circuit import Circuit, Table
+from tlutflow.circuit import Circuit, Lut
 from tlutflow.devices.sites import FIXED_PAIR, REWRITABLE_PAIR, Node, pairs_of
 from tlutflow.store import Store
 
@@ -25,7 +25,7 @@ class Unit:
     """A CFGLUT5: the LUTs that it holds, one, or two on O5 and O6; which half of a LUT of six leaves it is; its leaves; and the address
     of the bit at each of its places, None where the place is never looked up."""
 
-    tables: tuple[int, ...]
+    luts: tuple[int, ...]
     half: int
     leaves: tuple[str, ...]
     places: tuple[Optional[int], ...]
@@ -33,28 +33,28 @@ class Unit:
     @property
     def is_pair(self) -> bool:
         """Whether it holds two functions."""
-        return len(self.tables) == 2
+        return len(self.luts) == 2
 
 
-def places_over(table: Table, leaves: tuple[str, ...], digits: int) -> list[Optional[int]]:
+def places_over(lut: Lut, leaves: tuple[str, ...], digits: int) -> list[Optional[int]]:
     """The address that a LUT has for each number of this many digits over some leaves, of which its own are some. None for a number that
     has a digit without a leaf."""
-    own = [leaves.index(leaf) for leaf in table.leaves]
+    own = [leaves.index(leaf) for leaf in lut.leaves]
     found: list[Optional[int]] = []
     for number in range(1 << digits):
         index = sum((number >> place & 1) << digit for digit, place in enumerate(own))
-        found.append(None if number >> len(leaves) else table.first + index)
+        found.append(None if number >> len(leaves) else lut.first + index)
     return found
 
 
-def together(*tables: Table) -> tuple[str, ...]:
+def together(*luts: Lut) -> tuple[str, ...]:
     """The leaves of some LUTs, each once."""
-    return tuple(dict.fromkeys(leaf for table in tables for leaf in table.leaves))
+    return tuple(dict.fromkeys(leaf for lut in luts for leaf in lut.leaves))
 
 
-def half_addresses(table: Table, half: int) -> range:
+def half_addresses(lut: Lut, half: int) -> range:
     """The addresses of the bits of a half of a LUT; one of up to five leaves is half 0."""
-    return table.addresses[half * HALF : (half + 1) * HALF]
+    return lut.addresses[half * HALF : (half + 1) * HALF]
 
 
 class Layout:
@@ -63,21 +63,21 @@ class Layout:
 
     def __init__(self, circuit: Circuit, store: Store, paired: bool):
         self.circuit, self.store = circuit, store
-        self.changing = {circuit.table_at[address] for address in store.places}
+        self.changing = {circuit.lut_at[address] for address in store.places}
         pairs = self.pairs() if paired else []
         self.partner = {one: other for pair in pairs for one, other in (pair, pair[::-1])}
         self.fixed_pairs = [pair for pair in pairs if not self.changing & set(pair)]
-        self.rings = [self.ring(number) for number in range(len(circuit.tables)) if self.begins_ring(number)]
-        self.ring_of = {table: place for place, ring in enumerate(self.rings) for table in ring[0].tables}
+        self.rings = [self.ring(number) for number in range(len(circuit.luts)) if self.begins_ring(number)]
+        self.ring_of = {lut: place for place, ring in enumerate(self.rings) for lut in ring[0].luts}
 
     def pairs(self) -> list[tuple[int, int]]:
         """The LUTs that share a site, two by two."""
         nodes = []
-        for number, table in enumerate(self.circuit.tables):
+        for number, lut in enumerate(self.circuit.luts):
             most = REWRITABLE_PAIR if number in self.changing else FIXED_PAIR
             # A constant is no LUT.
-            fits = len(table.leaves) <= most and (bool(table.leaves) or number in self.changing)
-            nodes.append(Node(frozenset(table.leaves), (table.net,), most if fits else 0))
+            fits = len(lut.leaves) <= most and (bool(lut.leaves) or number in self.changing)
+            nodes.append(Node(frozenset(lut.leaves), (lut.net,), most if fits else 0))
         return pairs_of(nodes)
 
     def begins_ring(self, number: int) -> bool:
@@ -87,17 +87,17 @@ class Layout:
 
     def ring(self, number: int) -> list[Unit]:
         """The CFGLUT5 of a site."""
-        tables = self.circuit.tables
+        luts = self.circuit.luts
         if number in self.partner:
             both = number, self.partner[number]
-            leaves = together(*(tables[it] for it in both))
-            return [Unit(both, 0, leaves, tuple(address for it in both for address in places_over(tables[it], leaves, 4)))]
-        if len(tables[number].leaves) < 6:
-            leaves = tuple(tables[number].leaves)
-            return [Unit((number,), 0, leaves, tuple(places_over(tables[number], leaves, 5)))]
-        leaves = tuple(tables[number].leaves[:5])
-        halves = [half for half in range(2) if any(it in self.store.places for it in half_addresses(tables[number], half))]
-        return [Unit((number,), half, leaves, tuple(half_addresses(tables[number], half))) for half in halves]
+            leaves = together(*(luts[it] for it in both))
+            return [Unit(both, 0, leaves, tuple(address for it in both for address in places_over(luts[it], leaves, 4)))]
+        if len(luts[number].leaves) < 6:
+            leaves = tuple(luts[number].leaves)
+            return [Unit((number,), 0, leaves, tuple(places_over(luts[number], leaves, 5)))]
+        leaves = tuple(luts[number].leaves[:5])
+        halves = [half for half in range(2) if any(it in self.store.places for it in half_addresses(luts[number], half))]
+        return [Unit((number,), half, leaves, tuple(half_addresses(luts[number], half))) for half in halves]
 
     @cached_property
     def places(self) -> dict[int, list[tuple[int, int]]]:
@@ -117,14 +117,14 @@ class Layout:
     @property
     def sites(self) -> int:
         """How many LUT sites the circuit takes, without its port."""
-        return len(self.units) + sum(self.fixed_sites(number) for number in range(len(self.circuit.tables)))
+        return len(self.units) + sum(self.fixed_sites(number) for number in range(len(self.circuit.luts)))
 
     def fixed_sites(self, number: int) -> int:
         """How many sites a LUT takes that hold only constants; the second one of a pair takes none."""
-        table = self.circuit.tables[number]
+        lut = self.circuit.luts[number]
         if number in self.ring_of:
-            return (2 - len(self.rings[self.ring_of[number]])) if len(table.leaves) == 6 else 0
-        return int(bool(table.leaves) and self.partner.get(number, number) >= number)
+            return (2 - len(self.rings[self.ring_of[number]])) if len(lut.leaves) == 6 else 0
+        return int(bool(lut.leaves) and self.partner.get(number, number) >= number)
 
     def slices(self, groups: Iterable[int]) -> int:
         """How many slices hold the CFGLUT5, if so many rings after one another share an enable."""

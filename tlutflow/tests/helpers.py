@@ -118,7 +118,7 @@ def cycle_of(circuit: Circuit, configuration: list[int], inputs: str, states: st
     """The outputs and the next states of one cycle of the tables, as digits."""
     values = {net: int(bit) for net, bit in zip(circuit.inputs, inputs)}
     values.update({latch.state: int(bit) for latch, bit in zip(circuit.latches, states)})
-    for table in circuit.tables:
+    for table in circuit.luts:
         place = sum(values[leaf] << digit for digit, leaf in enumerate(table.leaves))
         values[table.net] = configuration[table.first + place]
     outputs = "".join(str(values[root]) for root in circuit.roots.values())

@@ -13,6 +13,8 @@ import unittest
 
 import tlutflow
 from tlutflow.api import arguments
+from tlutflow.commands.complete import subcommands_of
+from tlutflow.main import parser
 from tlutflow.tests.helpers import DATA, EXAMPLES, MUX, TOP, InFolder, flow, needs
 from tlutflow.tests.test_build import NEEDS_TLUT
 from tlutflow.text import read_bytes
@@ -61,7 +63,7 @@ class Interface(InFolder):
             ({"k": 9}, "k is 9: it is one of 2, 3, 4, 5, 6"),
             ({"k": "4"}, "k is '4': it is an integer"),
             ({"k": True}, "k is True: it is an integer"),
-            ({"aim": "speed"}, "aim is 'speed': it is one of depth, tables, bits, changes"),
+            ({"aim": "speed"}, "aim is 'speed': it is one of depth, luts, bits, changes"),
             ({"seconds": "long"}, "seconds is 'long': it is a number"),
             ({"seconds": 0, "top": "x"}, "seconds"),
             ({"quick": 1}, "quick is 1: it is True or False"),
@@ -80,6 +82,12 @@ class Interface(InFolder):
         given = arguments("build", {"files": ["x.v"], "out": "o", "param": {"c0": 5, "c1": "8'h3"}, "define": {"FAST": None, "N": 2}, "further": {"short": "dc2"}})
         self.assertEqual((given.param, given.define, given.further), (["c0=5", "c1=8'h3"], ["FAST", "N=2"], ["short=dc2"]))
         self.assertEqual((given.quick, given.reader, given.only), (False, "verilog", []))
+
+    def test_earlier_words(self):
+        """Words that an option took before, as values of it and on the command line."""
+        self.assertEqual(arguments("prepare", {"netlist": "n", "params": "p", "aim": "tables"}).aim, "luts")
+        given = subcommands_of(parser())["prepare"].parse_args(["n", "p", "--for", "tables"])
+        self.assertEqual(given.aim, "luts")
 
     def test_as_a_module(self):
         words = [sys.executable, "-m", tlutflow.__name__, "prepare", "x", "y", "--list"]
@@ -120,4 +128,4 @@ class Completion(unittest.TestCase):
     def test_words(self):
         self.assertEqual(self.completed("pre"), {"prepare"})
         self.assertLessEqual({"--k", "--for", "--list"}, self.completed("prepare", "--"))
-        self.assertEqual(self.completed("build", "--for", ""), {"depth", "tables", "bits", "changes", "sites"})
+        self.assertEqual(self.completed("build", "--for", ""), {"depth", "luts", "bits", "changes", "sites"})

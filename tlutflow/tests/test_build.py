@@ -10,7 +10,7 @@ import unittest
 from html.parser import HTMLParser
 
 from tlutflow.building import DRAWN
-from tlutflow.circuit_view import grouped, view_of, with_names
+from tlutflow.circuit_view import Groups, view_of, with_names
 from tlutflow.faults import Fault
 from tlutflow.netlist import parse_library
 from tlutflow.steps import Steps
@@ -100,8 +100,8 @@ class Stopped(InFolder):
 
 class Views(unittest.TestCase):
     def test_groups(self):
-        self.assertEqual(grouped(["a[0]", "a[1]", "b[1]"], ["a[0]", "a[1]", "b[0]", "b[1]"]), "a[1:0], b[1]")
-        self.assertEqual(grouped(["a", "b", "c"], ["a", "b", "c"], 2), "a, b and 1 more")
+        self.assertEqual(Groups(["a[0]", "a[1]", "b[0]", "b[1]"]).listed(["a[0]", "a[1]", "b[1]"]), "a[1:0], b[1]")
+        self.assertEqual(Groups(["a", "b", "c"]).listed(["a", "b", "c"], 2), "a, b and 1 more")
 
     def test_mux(self):
         view = view_of(mux())

@@ -24,7 +24,7 @@ class Circuits(unittest.TestCase):
     def test_mux(self):
         circuit = mux()
         self.assertEqual((circuit.inputs, circuit.clock, circuit.roots), (["a", "b"], None, {"y": "_n13"}))
-        self.assertEqual([(it.net, it.leaves, list(it.addresses)) for it in circuit.tables], [("_n13", ["a", "b"], [0, 1, 2, 3])])
+        self.assertEqual([(it.net, it.leaves, list(it.addresses)) for it in circuit.luts], [("_n13", ["a", "b"], [0, 1, 2, 3])])
         self.assertEqual((circuit.depth, circuit.longest_path(), circuit.cone(["_n13"])), (1, ["a", "_n13", "y"], {"a", "b", "_n13"}))
 
     def test_tables_play_the_runs_of_the_examples(self):
@@ -34,7 +34,7 @@ class Circuits(unittest.TestCase):
             interface = read_interface(f"{EXAMPLES}/{name}/{name}.blif", f"{EXAMPLES}/{name}/{name}.par")
             self.assertEqual((circuit.inputs, circuit.clock), (interface.regular, "clk"))
             output = parse_output(example(f"{name}/{printed}.txt"), name)
-            self.assertEqual((len(circuit.tables), len(circuit.pack.bits), circuit.depth), (output.header.tables, output.header.bits, output.header.depth))
+            self.assertEqual((len(circuit.luts), len(circuit.pack.bits), circuit.depth), (output.header.tables, output.header.bits, output.header.depth))
             bits = circuit.pack.configuration()
             states = bits_text([latch.start for latch in circuit.latches])
             for event, line in zip(read_script(f"{EXAMPLES}/{name}/{script}.scr", interface.regular), output.events):

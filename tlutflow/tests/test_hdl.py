@@ -7,6 +7,7 @@ from tlutflow.hdl import PORTS, TARGETS, Way, device_of, module_text
 from tlutflow.netlist import parse_library
 from tlutflow.pack import parse_pack
 from tlutflow.tests.helpers import DATA, EXAMPLES, MUX_PACK, MUX_TEMPLATE, InFolder, cycle_of, example, flow, mapped, mux, needs, yosys_share
+from tlutflow.tables import binary
 from tlutflow.tools import ICARUS, ICARUS_PLAYER, VERILATOR, YOSYS, find, run
 from tlutflow.verilog_names import names_of
 
@@ -65,6 +66,12 @@ class Texts(unittest.TestCase):
             self.assertEqual(text.count("    localparam"), 37)
         text = module_text(circuit, names, device_of(circuit, names, Way("xilinx", "random", pairs=False)))
         self.assertEqual((text.count("CFGLUT5 #("), text.count("    localparam")), (27, 37))
+
+    def test_long_numbers(self):
+        """They are in parts, the highest first, since Icarus Verilog reads no number of 16,384 digits."""
+        bits = [1, *[0] * 8191, 1, 0]
+        self.assertEqual(binary(bits), f"{{4096'b01{'0' * 4094}, 4096'b{'0' * 4096}, 2'b01}}")
+        self.assertEqual(binary(bits[:3]), "3'b001")
 
     def test_vectors_and_registers(self):
         text = flow("hdl", f"{DATA}/fir_t.blif", f"{DATA}/fir.ppc", "--module", "f", "--port", "random").stdout

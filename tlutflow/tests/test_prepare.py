@@ -134,7 +134,7 @@ class Choices(InFolder):
     @NEEDS_TLUT
     def test_best_of_each_alone(self):
         """For each aim the best of the list is as good as the best of the preparations that are run alone, and equal to its source."""
-        for name, aim in (("coder", "depth"), ("fir", "tables"), ("coder", "changes")):
+        for name, aim in (("coder", "depth"), ("fir", "luts"), ("coder", "changes")):
             files = f"{EXAMPLES}/{name}/{name}.blif", f"{EXAMPLES}/{name}/{name}.par"
             best = self.found(*files, aim=aim).best
             alone = [self.found(*files, aim=aim, preparations=[it]).best.key(aim) for it in SHORT[:4]]

@@ -69,7 +69,7 @@ def of_size(name: str, k: int, at: Room) -> dict[str, Any]:
         write_text(path, must([FLOW, "hdl", *files, *words, "--module", top]))
         by = [family.commands[0], version("Yosys")]
         rows[way] = at.steps.make(f"K {k} {way}", by, [path], [], lambda: cells_of(mapped(path, top, family, at.path(top))))
-    return {"luts": len(circuit.tables), "rewritable": len({circuit.table_at[it] for it in store.places}), "bits": store.size, "rows": rows}
+    return {"luts": len(circuit.luts), "rewritable": len({circuit.lut_at[it] for it in store.places}), "bits": store.size, "rows": rows}
 
 
 def measured(name: str, folder: str) -> dict[str, Any]:
