@@ -24,6 +24,6 @@ pub use Rattle.netlist.specs.WellFormed.{IsWellFormedBody, IsWellFormed}
 pub use Rattle.aig_build.specs.CoverGraph.{row_literals, Literals, flipped, cell_literals}
 pub use Rattle.aig_build.specs.CoverMade.{balanced, balanced_and, row_made, rows_made, rows_onto, cover_made, cover_of}
 pub use Rattle.aig_build.specs.CoverNodes.{front_half, back_half, IsCoverMade}
-pub use Rattle.aig_build.specs.NetlistCycle.{source_values, literal_values, HasSourceCycles}
+pub use Rattle.aig_build.specs.NetlistCycle.{source_values, literal_values, IsGraphCycle, graph_machine, HasSourceCycles}
 pub use Rattle.aig_build.specs.NetlistGraph.{input_names, source_kinds, IsSourceLiteral, an_input, a_latch, MakesAll, IsGraphOf, root_nets, HasTooManyNodes}
 pub use Rattle.aig_build.specs.Walked.{NetLitsValue, net_lit, net_lits, with_cover, Built, behind_made, gate_made, with_gate, walked, gate_of, order_of, IsHeld, HoldsNets, no_lit, marks_of, regular_lits, regular_next, start_nets, source_aig, root_lits, marked, index_behind, with_param_lits}

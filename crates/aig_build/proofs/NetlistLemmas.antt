@@ -1,9 +1,13 @@
 -- The graph that the code makes of a flat circuit is its graph, and its roots have the outputs and the next states of a clock cycle.
-use Rattle.aig_build.proofs.Common.{◌≡◌, ℕ, ◌+◌, ◌<◌, ◌≤◌, Bool, false, List, [], ◌∷◌, ◌++◌, length, map, reverse, replicate, refl, sym, ap, ap₂, ◌∙◌, subst, subst₂, inl, inr, arith, All-from_get_or, All-replicate, unwrap_or-slice_get, In, In-append, place_in, from_map, LibraryValue, IsWellFormed, Net, Input, Cover, OutPort, FlatLatch, FlatValue, cover_numbers, reads_at, PostsAll, IsThere, IsWithinBounds, net_value, flat_values, flat_outputs, flat_next, input_values, HasCycles, Param, AreParameters, Lit, Aig, IsLit, with_pairs, RootsValue, lits_of, roots_of, AreRoots, value_of, FitsGraph, Literals, input_names, source_kinds, root_nets, MakesAll, IsGraphOf, HasTooManyNodes, source_values, literal_values, HasSourceCycles, NetLitsValue, no_lit, net_lit, net_lits, Built, marks_of, regular_lits, regular_next, start_nets, source_aig, order_of, root_lits, HoldsNets, length-map, length-replicate, length-append, map-append}
+use Rattle.aig_build.proofs.Common.{◌≡◌, ℕ, ◌+◌, ◌<◌, ◌≤◌, Bool, false, List, [], ◌∷◌, ◌++◌, length, map, reverse, replicate, refl, sym, ap, ap₂, ◌∙◌, subst, subst₂, inl, inr, arith, All-from_get_or, All-replicate, unwrap_or-slice_get, In, In-append, place_in, from_map, LibraryValue, IsWellFormed, Net, Input, Cover, OutPort, FlatLatch, FlatValue, cover_numbers, reads_at, PostsAll, IsThere, IsWithinBounds, net_value, flat_values, flat_outputs, flat_next, input_values, HasCycles, Param, AreParameters, Lit, Aig, IsLit, with_pairs, RootsValue, lits_of, roots_of, AreRoots, value_of, FitsGraph, Literals, input_names, source_kinds, root_nets, MakesAll, IsGraphOf, HasTooManyNodes, source_values, literal_values, IsGraphCycle, graph_machine, HasSourceCycles, NetLitsValue, no_lit, net_lit, net_lits, Built, marks_of, regular_lits, regular_next, start_nets, source_aig, order_of, root_lits, HoldsNets, length-map, length-replicate, length-append, map-append}
 use Rattle.std.proofs.lemmas.Simd.{map-map}
 use Rattle.netlist.specs.Flattened.{HasValues}
-use Rattle.netlist.specs.Runs.{IsCycle}
-use Rattle.aig_core.proofs.FitLemmas.{is_values_of}
+use Rattle.netlist.specs.FlatCycle.{IsFlatCycle, flat_machine}
+use Rattle.netlist.specs.Runs.{library_machine}
+use Rattle.machine.specs.Machine.{Machine, reading}
+use Rattle.machine.proofs.RefineLemmas.{refines_by, refines_on}
+use Rattle.aig_core.proofs.ValueLemmas.{values_of}
+use Rattle.aig_core.proofs.FitLemmas.{is_values_of, fits_values_of}
 use Rattle.aig_build.proofs.SignalLemmas.{AreKnown, order_made}
 use Rattle.aig_build.proofs.SourceLemmas.{length-marked, length-regular, length-param_lits, regular_next-le, start_latches, start_sourced}
 use Rattle.aig_build.proofs.NetValueLemmas.{source_count, source_below, IsRight, net_right, flat_right, held_lit}
@@ -111,30 +115,66 @@ module _ (library : LibraryValue) (flat : FlatValue) (params : List Param) (most
           max = ap (λ (h : Aig). h.max) same;
         }
 
-  -- under the values of the sources
-  module _ (x : List ℕ → Bool) (s values : List Bool) (g : Aig) (same : g ≡ with_pairs g0 final.pairs) (fits : FitsGraph g (source_values flat params x s) values) where
-    states : length s ≡ length flat.latches
-    states =
-        omega (arith, fits.given, ap (λ (h : Aig). length h.kinds) same, source_count library flat params formed bounds, length-append (map x (input_names flat params)) s, length-map (input_names flat params) x)
+  abbrev graph : Aig
+  graph = with_pairs g0 final.pairs
 
-    right : IsRight library flat params formed bounds x s states final (flat_values library flat (input_values flat x) s)
+  abbrev graph_roots : RootsValue
+  graph_roots = root_lits flat final.nets
+
+  -- under values of the inputs, and states
+  module _ (x : List ℕ → Bool) (s : List Bool) (states : length s ≡ length flat.latches) where
+    abbrev sources : List Bool
+    sources = source_values flat params x s
+
+    abbrev evaluated : List Bool
+    evaluated = flat_values library flat (input_values flat x) s
+
+    right : IsRight library flat params formed bounds x s states final evaluated
     right = flat_right library flat params formed bounds x s states nets0 (start_sourced flat params bounds.inputs_once are) refl
 
-    net_values : (net : Net) → IsThere flat net → value_of values (net_lit final.nets net).0 ≡ net_value (input_values flat x) s (flat_values library flat (input_values flat x) s) net
-    net_values net there =
-        let fits' : FitsGraph (with_pairs g0 final.pairs) (source_values flat params x s) values = subst (λ (h : Aig). FitsGraph h (source_values flat params x s) values) same fits in
-        ap (λ vs. value_of vs (net_lit final.nets net).0) (is_values_of (with_pairs g0 final.pairs) (source_values flat params x s) values right.normal fits')
-        ∙ net_right library flat params formed bounds x s states final (flat_values library flat (input_values flat x) s) right net there
+    -- some values fit the graph
+    fits_made : FitsGraph graph sources (values_of graph sources)
+    fits_made = fits_values_of graph sources right.normal
+        (omega (arith, states, source_count library flat params formed bounds, length-append (map x (input_names flat params)) s, length-map (input_names flat params) x))
 
-    outputs_are : literal_values values (root_lits flat final.nets).outputs ≡ flat_outputs library flat (input_values flat x) s
-    outputs_are = values_of_lits values final.nets (input_values flat x) s (flat_values library flat (input_values flat x) s) (λ (o : OutPort). o.net) flat.outputs (λ o i. net_values o.net (output_there library flat bounds o i))
+    -- whatever values fit, the roots are the flat circuit's
+    module _ (values : List Bool) (fits : FitsGraph graph sources values) where
+      net_values : (net : Net) → IsThere flat net → value_of values (net_lit final.nets net).0 ≡ net_value (input_values flat x) s evaluated net
+      net_values net there =
+          ap (λ vs. value_of vs (net_lit final.nets net).0) (is_values_of graph sources values right.normal fits)
+          ∙ net_right library flat params formed bounds x s states final evaluated right net there
 
-    next_are : literal_values values (root_lits flat final.nets).next ≡ flat_next library flat (input_values flat x) s
-    next_are = values_of_lits values final.nets (input_values flat x) s (flat_values library flat (input_values flat x) s) (λ (l : FlatLatch). l.input) flat.latches (λ l i. net_values l.input (latch_there library flat bounds l i))
+      outputs_are : literal_values values graph_roots.outputs ≡ flat_outputs library flat (input_values flat x) s
+      outputs_are = values_of_lits values final.nets (input_values flat x) s evaluated (λ (o : OutPort). o.net) flat.outputs (λ o i. net_values o.net (output_there library flat bounds o i))
 
-  pub has_cycles : HasCycles library flat → (g : Aig) (roots : RootsValue) → g ≡ with_pairs g0 final.pairs → roots ≡ root_lits flat final.nets → HasSourceCycles library flat params g roots
-  has_cycles cycles g roots same same_roots = subst (λ (r : RootsValue). HasSourceCycles library flat params g r) (sym same_roots) (record {
-    is_cycle = λ x s values n fits. subst₂ (IsCycle library x s) (sym (outputs_are x s values g same fits)) (sym (next_are x s values g same fits)) (cycles.is_cycle x s n);
-    outputs = λ x s values outputs next c fits. cycles.outputs x s outputs next c ∙ sym (outputs_are x s values g same fits);
-    next = λ x s values outputs next c fits. cycles.states x s outputs next c ∙ sym (next_are x s values g same fits);
-  })
+      next_are : literal_values values graph_roots.next ≡ flat_next library flat (input_values flat x) s
+      next_are = values_of_lits values final.nets (input_values flat x) s evaluated (λ (l : FlatLatch). l.input) flat.latches (λ l i. net_values l.input (latch_there library flat bounds l i))
+
+  -- the graph's cycles are the flat circuit's
+  flat_cycle : (x : List ℕ → Bool) (s outputs next : List Bool) → IsGraphCycle flat params graph graph_roots x s outputs next → IsFlatCycle library flat (input_values flat x) s outputs next
+  flat_cycle x s outputs next c = record {
+    states = c.states;
+    outputs_are = c.outputs_are ∙ outputs_are x s c.states c.values c.fits;
+    next_are = c.next_are ∙ next_are x s c.states c.values c.fits;
+  }
+
+  graph_cycle : (x : List ℕ → Bool) (s outputs next : List Bool) → IsFlatCycle library flat (input_values flat x) s outputs next → IsGraphCycle flat params graph graph_roots x s outputs next
+  graph_cycle x s outputs next c =
+      let values = values_of graph (source_values flat params x s) in
+      let fits = fits_made x s c.states in
+      record { states = c.states; values = values; fits = fits; outputs_are = c.outputs_are ∙ sym (outputs_are x s c.states values fits); next_are = c.next_are ∙ sym (next_are x s c.states values fits) }
+
+  pub has_cycles : HasCycles library flat → (g : Aig) (roots : RootsValue) → g ≡ graph → roots ≡ graph_roots → HasSourceCycles library flat params g roots
+  has_cycles cycles g roots same same_roots =
+      let own : Machine (List ℕ → Bool) (List Bool) (List Bool) = graph_machine flat params graph graph_roots in
+      let flattened : Machine (List ℕ → Bool) (List Bool) (List Bool) = reading (input_values flat) (flat_machine library flat) in
+      subst₂ (HasSourceCycles library flat params) (sym same) (sym same_roots) (record {
+        agrees = record {
+          forth = refines_on own flattened (library_machine library) (refines_by own flattened flat_cycle (λ s e. e)) (cycles.agrees).back;
+          back = refines_on (library_machine library) flattened own (cycles.agrees).forth (refines_by flattened own graph_cycle (λ s e. e));
+        };
+        one = record {
+          outputs = λ x s outputs others next last c d. (flat_cycle x s outputs next c).outputs_are ∙ sym (flat_cycle x s others last d).outputs_are;
+          states = λ x s outputs others next last c d. (flat_cycle x s outputs next c).next_are ∙ sym (flat_cycle x s others last d).next_are;
+        };
+      })

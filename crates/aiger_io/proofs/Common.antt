@@ -40,7 +40,7 @@ pub use Rattle.netlist.specs.LibraryValue.{ModelValue, LibraryValue, Ports, port
 pub use Rattle.netlist.specs.Models.{Path, subckts_of}
 pub use Rattle.netlist.specs.Nets.{IsClock, listed, controls, Net, Drives, cover_output, latch_output, latch_net, cover_net}
 pub use Rattle.netlist.specs.Places.{Place, is_latch, own_places, flat, none, more, FlatOrder, own_of, FlatUnder, latch_at, latch_in}
-pub use Rattle.netlist.specs.Runs.{state_of, AreLatches, IsCycle, IsRun, Runs, stops, steps, init_state, inits_of, next_state, next_states}
+pub use Rattle.netlist.specs.Runs.{state_of, AreLatches, IsCycle, init_state, inits_of, next_state, next_states}
 pub use Rattle.netlist.specs.declared.cell.Cell.{Cell}
 pub use Rattle.netlist.specs.declared.cell.Cell.TheVariants.{One, Zero}
 pub use Rattle.netlist.specs.declared.command.Command.{Command}
@@ -70,7 +70,7 @@ pub use Rattle.aiger_io.specs.CircuitLibrary.{mark_of, own_name, variable_name, 
 pub use Rattle.aiger_io.specs.GraphCircuit.{graph_circuit, input_count, lit_at, IsWrittenFrom, input_at, input_item, latch_item, output_item, gate_item, graph_items, IsGraphsCircuit, graph_header, lines_text, symbols_text}
 pub use Rattle.aiger_io.specs.Refusals.{refusal_of}
 pub use Rattle.aiger_io.specs.Refused.{IsPort, IsAlike, Begins, BeginsWithSymbols, IsItemHere, IsRefused, later, bad_header, missing, malformed, out_of_range, malformed_symbol, bad_symbol, alike, StandsTwice, IsNameRefused}
-pub use Rattle.aiger_io.specs.Run.{literal_value, FitsLines, output_literal, next_literal, init_bit, output_literals, next_literals, IsDefined, zero_variable, input, latch, gate, init_bits, IsCircuitCycle, CircuitRuns, HasSameRuns}
+pub use Rattle.aiger_io.specs.Run.{literal_value, FitsLines, output_literal, next_literal, init_bit, output_literals, next_literals, IsDefined, zero_variable, input, latch, gate, init_bits, IsCircuitCycle, circuit_machine, HasSameRuns}
 pub use Rattle.aiger_io.specs.WrittenText.{circuit_text, numbered, numbered_text, header_words, item_words, symbol_text, init_words, item_text}
 pub use Rattle.aiger_io.specs.declared.aag_err.AagErr.{AagErr}
 pub use Rattle.aiger_io.specs.declared.aag_err.AagErr.TheVariants.{BadSymbol, Malformed}

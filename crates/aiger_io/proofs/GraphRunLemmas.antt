@@ -1,11 +1,12 @@
 -- What the library of a circuit weighs: each section's lines weigh the same. The circuit of a graph keeps what is said of it: its text is of the format and is read back, its lines have one fit, and its cycles and runs are those of
 -- the library whose graph it is.
-use Rattle.aiger_io.proofs.Common.{◌≡◌, ℕ, ◌+◌, ◌*◌, ◌/◌, ◌^◌, ◌<◌, ◌≤◌, Bool, false, List, [], ◌∷◌, ◌++◌, length, map, get_or, replicate, Some, refl, sym, ap, ◌∙◌, subst, arith, length-append, slice_get, length-map, length-replicate, same_Some, get_or_from_slice_get, In, In-left, In-right, map_agree, Aig, first_and, node_count, IsLit, AreNormal, RootsValue, lits_of, node_value, value_of, FitsGraph, HasOneFit, FlatValue, LibraryValue, IsCycle, IsRun, FlatLatch, Param, regular_names, param_names, Circuit, input_count, input_at, graph_circuit, IsWrittenFrom, IsGraphsCircuit, literal_value, output_literals, next_literals, init_bits, IsCircuitCycle, CircuitRuns, HasSameRuns, inl, inr, mark_of, commands_from, model_of, library_of, library_weight, kind_of_item, AreInSections, Header, Item, Latch, Kind}
-use Rattle.aig_build.specs.NetlistCycle.{source_values, literal_values, HasSourceCycles}
+use Rattle.aiger_io.proofs.Common.{◌≡◌, ℕ, ◌+◌, ◌*◌, ◌/◌, ◌^◌, ◌<◌, ◌≤◌, Bool, List, [], ◌∷◌, ◌++◌, length, map, get_or, Some, refl, sym, ap, ◌∙◌, subst, arith, length-append, slice_get, length-map, get_or_from_slice_get, In, In-left, In-right, map_agree, Aig, first_and, node_count, IsLit, AreNormal, RootsValue, lits_of, node_value, value_of, FitsGraph, HasOneFit, FlatValue, LibraryValue, Param, regular_names, param_names, Circuit, input_count, input_at, graph_circuit, IsWrittenFrom, IsGraphsCircuit, literal_value, output_literals, next_literals, init_bits, IsCircuitCycle, circuit_machine, HasSameRuns, inl, inr, mark_of, commands_from, model_of, library_of, library_weight, kind_of_item, AreInSections, Header, Item, Latch, Kind}
+use Rattle.aig_build.specs.NetlistCycle.{source_values, literal_values, IsGraphCycle, graph_machine, HasSourceCycles}
 use Rattle.aig_build.specs.NetlistGraph.{input_names}
-use Rattle.netlist.specs.Evaluation.{net_value, flat_values}
-use Rattle.netlist.specs.FlatCycle.{flat_outputs, flat_next, flat_inits, run_outputs, run_states, input_values, HasCycles}
-use Rattle.netlist.proofs.OrderLemmas.{order_once}
+use Rattle.machine.specs.Machine.{Machine, reading}
+use Rattle.machine.proofs.RefineLemmas.{refines_by, refines_on}
+use Rattle.netlist.specs.FlatCycle.{flat_inits}
+use Rattle.netlist.specs.Runs.{library_machine}
 use Rattle.aiger_io.proofs.GraphFitLemmas.{literal_same, node_list, node_at, lines_fit, nodes_fit, given_list, written_fit}
 use Rattle.aiger_io.proofs.GraphItemLemmas.{written_formed, output_literals_are, next_literals_are, init_bits_are}
 use Rattle.aiger_io.proofs.Format.AigerTextLemmas.{in_sections}
@@ -71,14 +72,6 @@ names_at names (i ∷ places) (name ∷ all) e =
     ap (λ n. n ∷ map (λ j. get_or names j []) places) (get_or_from_slice_get names i name [] cc) ∙ ap (λ ns. name ∷ ns) (names_at names places all rest)
 names_at names places all e = absurd (cc)
 
--- all cycles of a library have as many states
-states_once : (library : LibraryValue) (x y : List ℕ → Bool) (s t outputs next others more : List Bool) → IsCycle library x s outputs next → IsCycle library y t others more → length s ≡ length t
-states_once library x y s t outputs next others more a b = grind (arith, same_Some, order_once)
-
--- the inputs' values
-abbrev all_inputs : Circuit → List (List ℕ → Bool) → List (List Bool)
-all_inputs c xs = map (λ (x : List ℕ → Bool). map x c.inputs) xs
-
 module _ (flat : FlatValue) (params : List Param) (regular : List ℕ) (g : Aig) (roots : RootsValue) (from : IsWrittenFrom flat params regular g roots) (normal : AreNormal (first_and g) g.pairs)
     (one : (given : List Bool) → length given ≡ length g.kinds → HasOneFit g given) where
   abbrev written : Circuit
@@ -109,75 +102,44 @@ module _ (flat : FlatValue) (params : List Param) (regular : List ℕ) (g : Aig)
       roots_same value values (lits_of roots.next) same (λ l i. from.literals l (In-right (lits_of roots.outputs) (lits_of roots.next) l i))
       ∙ ap (map (literal_value value)) (sym (next_literals_are (input_count regular params) flat.latches g roots from.next))
 
-  module _ (library : LibraryValue) (cycles : HasCycles library flat) (sources : HasSourceCycles library flat params g roots) where
-    -- a cycle has a state for each latch
-    states_count : (x : List ℕ → Bool) (s outputs next : List Bool) → IsCycle library x s outputs next → length s ≡ length flat.latches
-    states_count x s outputs next cycle =
-        let n : length (replicate (length flat.latches) false) ≡ length flat.latches = length-replicate (length flat.latches) false in
-        states_once library x x s (replicate (length flat.latches) false) outputs next _ _ cycle (cycles.is_cycle x (replicate (length flat.latches) false) n) ∙ n
+  -- a cycle of the circuit is one of the graph
+  graph_cycle : (x : List ℕ → Bool) (s outputs next : List Bool) → IsCircuitCycle written (map x written.inputs) s outputs next → IsGraphCycle flat params g roots x s outputs next
+  graph_cycle x s outputs next cycle = record {
+    states = cycle.states;
+    values = node_list g cycle.value;
+    fits = subst (λ given. FitsGraph g given (node_list g cycle.value)) (given_list flat params regular g roots from (map x written.inputs) s cycle.value cycle.fits cycle.inputs cycle.states ∙ sources_are x s)
+        (nodes_fit flat params regular g roots from (map x written.inputs) s cycle.value cycle.fits normal);
+    outputs_are = cycle.outputs_are ∙ sym (outputs_same cycle.value (node_list g cycle.value) (node_at g cycle.value));
+    next_are = cycle.next_are ∙ sym (nexts_same cycle.value (node_list g cycle.value) (node_at g cycle.value));
+  }
 
-    -- from the circuit's cycle to the library's
-    library_cycle : (x : List ℕ → Bool) (s outputs next : List Bool) → IsCircuitCycle written (map x written.inputs) s outputs next → IsCycle library x s outputs next
-    library_cycle x s outputs next cycle =
-        let fits : FitsGraph g (source_values flat params x s) (node_list g cycle.value) =
-        subst (λ given. FitsGraph g given (node_list g cycle.value)) (given_list flat params regular g roots from (map x written.inputs) s cycle.value cycle.fits cycle.inputs cycle.states ∙ sources_are x s)
-        (nodes_fit flat params regular g roots from (map x written.inputs) s cycle.value cycle.fits normal) in
-        let o : literal_values (node_list g cycle.value) roots.outputs ≡ outputs = outputs_same cycle.value (node_list g cycle.value) (node_at g cycle.value) ∙ sym cycle.outputs_are in
-        let n : literal_values (node_list g cycle.value) roots.next ≡ next = nexts_same cycle.value (node_list g cycle.value) (node_at g cycle.value) ∙ sym cycle.next_are in
-        subst (λ more. IsCycle library x s outputs more) n (subst (λ these. IsCycle library x s these (literal_values (node_list g cycle.value) roots.next)) o (sources.is_cycle x s (node_list g cycle.value) cycle.states fits))
+  -- and back
+  circuit_cycle : (x : List ℕ → Bool) (s outputs next : List Bool) → IsGraphCycle flat params g roots x s outputs next → IsCircuitCycle written (map x written.inputs) s outputs next
+  circuit_cycle x s outputs next cycle =
+      let inputs : length (map x written.inputs) ≡ input_count regular params = length-map written.inputs x ∙ inputs_count in
+      record {
+        inputs = inputs;
+        states = cycle.states;
+        value = node_value cycle.values;
+        fits = lines_fit flat params regular g roots from (map x written.inputs) s cycle.values inputs cycle.states (subst (λ given. FitsGraph g given cycle.values) (sym (sources_are x s)) cycle.fits);
+        outputs_are = cycle.outputs_are ∙ outputs_same (node_value cycle.values) cycle.values (λ n l. refl);
+        next_are = cycle.next_are ∙ nexts_same (node_value cycle.values) cycle.values (λ n l. refl);
+      }
 
-    -- and back
-    circuit_cycle : (x : List ℕ → Bool) (s outputs next : List Bool) → IsCycle library x s outputs next → IsCircuitCycle written (map x written.inputs) s outputs next
-    circuit_cycle x s outputs next cycle =
-        let count : length s ≡ length flat.latches = states_count x s outputs next cycle in
-        let inputs : length (map x written.inputs) ≡ input_count regular params = length-map written.inputs x ∙ inputs_count in
-        let fit = one (map x written.inputs ++ s) (omega (arith, length-append (map x written.inputs) s)) in
-        let fits : FitsGraph g (source_values flat params x s) fit.values = subst (λ given. FitsGraph g given fit.values) (sources_are x s) fit.fits in
-        record {
-          inputs = inputs;
-          states = count;
-          value = node_value fit.values;
-          fits = lines_fit flat params regular g roots from (map x written.inputs) s fit.values inputs count fit.fits;
-          outputs_are = sources.outputs x s fit.values outputs next cycle fits ∙ outputs_same (node_value fit.values) fit.values (λ n l. refl);
-          next_are = sources.next x s fit.values outputs next cycle fits ∙ nexts_same (node_value fit.values) fit.values (λ n l. refl);
-        }
+  abbrev circuit : Machine (List ℕ → Bool) (List Bool) (List Bool)
+  circuit = reading (λ (x : List ℕ → Bool). map x written.inputs) (circuit_machine written)
 
-    -- the circuit's run is the flat circuit's
-    runs_are : (s : List Bool) (xs : List (List ℕ → Bool)) (outputs states : List (List Bool)) → CircuitRuns written s (all_inputs written xs) outputs states
-        → (outputs ≡ run_outputs library flat s (map (input_values flat) xs)) × (states ≡ run_states library flat s (map (input_values flat) xs))
-    runs_are s [] [] [] r = (refl, refl)
-    runs_are s (x ∷ xs) (o ∷ os) (n ∷ ns) r =
-        let cycle = library_cycle x s o n r.0 in
-        let first : o ≡ flat_outputs library flat (input_values flat x) s = cycles.outputs x s o n cycle in
-        let next : n ≡ flat_next library flat (input_values flat x) s = cycles.states x s o n cycle in
-        grind (arith, runs_are n xs os ns r.1)
-    runs_are s xs outputs states r = absurd r
+  abbrev graph : Machine (List ℕ → Bool) (List Bool) (List Bool)
+  graph = graph_machine flat params g roots
 
-    -- and the flat circuit's is the circuit's
-    flat_runs : (s : List Bool) (xs : List (List ℕ → Bool)) → length s ≡ length flat.latches → CircuitRuns written s (all_inputs written xs) (run_outputs library flat s (map (input_values flat) xs)) (run_states library flat s (map (input_values flat) xs))
-    flat_runs s [] count = tt
-    flat_runs s (x ∷ xs) count = (
-      circuit_cycle x s (flat_outputs library flat (input_values flat x) s) (flat_next library flat (input_values flat x) s) (cycles.is_cycle x s count),
-      flat_runs (flat_next library flat (input_values flat x) s) xs (length-map flat.latches (λ (l : FlatLatch). net_value (input_values flat x) s (flat_values library flat (input_values flat x) s) l.input)),
-    )
+  inits_are : init_bits written.items ≡ flat_inits flat
+  inits_are = init_bits_are (input_count regular params) flat.latches g roots
 
-    -- runs start at the same states
-    inits_are : init_bits written.items ≡ flat_inits flat
-    inits_are = init_bits_are (input_count regular params) flat.latches g roots
-
-    -- so runs are the same
-    run_of_circuit : (xs : List (List ℕ → Bool)) (outputs states : List (List Bool)) → CircuitRuns written (init_bits written.items) (all_inputs written xs) outputs states → IsRun library xs outputs states
-    run_of_circuit xs outputs states r = grind (arith, runs_are, written, all_inputs, inits_are)
-
-    run_of_library : (xs : List (List ℕ → Bool)) (outputs states : List (List Bool)) → IsRun library xs outputs states → CircuitRuns written (init_bits written.items) (all_inputs written xs) outputs states
-    run_of_library xs outputs states r =
-        let there = flat_runs (flat_inits flat) xs (length-map flat.latches (λ (l : FlatLatch). l.init)) in
-        subst (λ s. CircuitRuns written s (all_inputs written xs) outputs states) (sym inits_are)
-        (subst (λ o. CircuitRuns written (flat_inits flat) (all_inputs written xs) o states) (sym (cycles.all_outputs xs outputs states r))
-        (subst (λ t. CircuitRuns written (flat_inits flat) (all_inputs written xs) (run_outputs library flat (flat_inits flat) (map (input_values flat) xs)) t) (sym (cycles.all_states xs outputs states r)) there))
-
-    same_runs : HasSameRuns written library
-    same_runs = record { is_cycle = library_cycle; cycle_is = circuit_cycle; is_run = run_of_circuit; run_is = run_of_library }
+  same_runs : (library : LibraryValue) → HasSourceCycles library flat params g roots → HasSameRuns written library
+  same_runs library sources = record {
+    forth = refines_on circuit graph (library_machine library) (refines_by circuit graph graph_cycle (λ s e. e ∙ inits_are)) (sources.agrees).forth;
+    back = refines_on (library_machine library) graph circuit (sources.agrees).back (refines_by graph circuit circuit_cycle (λ s e. e ∙ sym inits_are));
+  }
 
   -- all of it
   pub graphs_circuit : node_count g ≤ 2 ^ 30 → IsGraphsCircuit flat params g roots written

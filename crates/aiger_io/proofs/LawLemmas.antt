@@ -1,11 +1,14 @@
 -- The law of a circuit and its library: fitting values exist and agree, and cycles and runs are the same.
-use Rattle.aiger_io.proofs.Common.{◌≡◌, ℕ, zero, suc, ◌+◌, ◌-◌, ◌/◌, ◌^◌, ◌<◌, ◌≤◌, min, max, Bool, false, get_or, List, [], ◌∷◌, ◌++◌, length, map, Option, Some, None, inl, inr, refl, sym, ap, ◌∙◌, subst, arith, append-nil, slice_get, option_map, option_and_then, length-map, same_Some, slice_get-map, slice_get-get_or, slice_get_within, In, place_in, at_within, same_list, CoverValue, Fits, ModelValue, LibraryValue, Path, Net, Drives, cover_output, latch_output, latch_net, cover_net, Place, is_latch, FlatOrder, FlatUnder, flat, latch_at, latch_in, AreLatches, IsCycle, Runs, stops, steps, init_state, inits_of, state_of, next_state, next_states, One, Command, AreOnce, Circuit, mark_of, variable_name, next_name, cell_of, cover_command, zero_command, latch_command, port_name, commands_from, model_of, library_of, Item, Input, Latch, Output, And, circuit_of, IsLibraryIn, left_apart, rules}
+use Rattle.aiger_io.proofs.Common.{◌≡◌, ℕ, zero, suc, ◌+◌, ◌-◌, ◌/◌, ◌^◌, ◌<◌, ◌≤◌, min, max, Bool, false, get_or, List, [], ◌∷◌, ◌++◌, length, map, Option, Some, None, inl, inr, refl, sym, ap, ◌∙◌, subst, arith, append-nil, slice_get, option_map, option_and_then, length-map, same_Some, slice_get-map, slice_get-get_or, slice_get_within, In, place_in, at_within, same_list, CoverValue, Fits, ModelValue, LibraryValue, Path, Net, Drives, cover_output, latch_output, latch_net, cover_net, Place, is_latch, FlatOrder, FlatUnder, flat, latch_at, latch_in, AreLatches, IsCycle, init_state, inits_of, state_of, next_state, next_states, One, Command, AreOnce, Circuit, mark_of, variable_name, next_name, cell_of, cover_command, zero_command, latch_command, port_name, commands_from, model_of, library_of, Item, Input, Latch, Output, And, circuit_of, IsLibraryIn, left_apart, rules}
 use Rattle.netlist.specs.Law.{HasOneCycle}
 use Rattle.netlist.specs.Sound.{IsSound}
 use Rattle.netlist.specs.SubcktValue.{SubcktValue}
 use Rattle.netlist.specs.declared.command.Body.TheVariants as body
 use Rattle.netlist.proofs.LawLemmas.{sound_law}
-use Rattle.aiger_io.specs.Run.{literal_value, FitsLines, IsDefined, zero_variable, input, latch, gate, HasOneFit, output_literal, next_literal, output_literals, next_literals, init_bits, IsCircuitCycle, CircuitRuns, HasSameRuns}
+use Rattle.netlist.specs.Runs.{library_machine}
+use Rattle.machine.specs.Machine.{Machine, reading}
+use Rattle.machine.proofs.RefineLemmas.{refines_by}
+use Rattle.aiger_io.specs.Run.{literal_value, FitsLines, IsDefined, zero_variable, input, latch, gate, HasOneFit, output_literal, next_literal, output_literals, next_literals, init_bits, IsCircuitCycle, circuit_machine, HasSameRuns}
 use Rattle.aiger_io.proofs.FitLemmas.{built, place_among, place_once, variable_built, next_built, output_built, nexts_picked, outputs_picked, fits_library, latches_of, no_subckts, are_latches, cover_in_place, command_in, item_in, circuit_kinds, literal_is, fits_lines}
 use Rattle.aiger_io.proofs.CleanLemmas.{IsKept, text_kept, text_ports_once}
 use Rattle.aiger_io.proofs.PlaceLemmas.{latch_indices, top_place, own_latches, picked_length, picked_at, picked_from, of_input, defined_low}
@@ -233,28 +236,13 @@ module _ (c : Circuit) (kept : IsKept c) (once : AreOnce (c.inputs ++ c.outputs)
       lines_cycle x s count cycle.value (subst (λ l. Fits (library_of c) x (state_of l s) cycle.value) its.latches_is cycle.fits) outputs next
       (cycle.outputs_are ∙ ap (λ (m : ModelValue). map (cycle.value []) m.outputs) its.main_is) (cycle.next_are ∙ ap (next_states (library_of c) cycle.value) its.latches_is)
 
-  -- runs, cycle by cycle
-  runs_of_lines : (s : List Bool) (xs : List (List ℕ → Bool)) (outputs states : List (List Bool)) → CircuitRuns c s (map (λ (x : List ℕ → Bool). map x c.inputs) xs) outputs states → Runs (library_of c) s xs outputs states
-  runs_of_lines s [] [] [] r = stops
-  runs_of_lines s (x ∷ xs) (o ∷ os) (n ∷ ns) r = steps x xs o n os ns (cycle_of_lines x s o n r.0) (runs_of_lines n xs os ns r.1)
-  runs_of_lines s xs outputs states r = absurd r
-
-  lines_of_runs : (s : List Bool) (xs : List (List ℕ → Bool)) (outputs states : List (List Bool)) → Runs (library_of c) s xs outputs states → CircuitRuns c s (map (λ (x : List ℕ → Bool). map x c.inputs) xs) outputs states
-  lines_of_runs s xs outputs states stops = tt
-  lines_of_runs s xs outputs states (steps x rest o n os ns cycle later) = (lines_of_cycle x s o n cycle, lines_of_runs n rest os ns later)
-
   pub same_runs : HasSameRuns c (library_of c)
-  same_runs = record {
-    is_cycle = cycle_of_lines;
-    cycle_is = lines_of_cycle;
-    is_run = λ xs outputs states r. record {
-      main = model_of c;
-      latches = latches_of c;
-      are_latches = are_latches c;
-      runs = subst (λ s. Runs (library_of c) s xs outputs states) (sym (inits_are c)) (runs_of_lines (init_bits c.items) xs outputs states r);
-    };
-    run_is = λ xs outputs states r. grind (arith, its_latches, lines_of_runs, inits_are);
-  }
+  same_runs =
+      let own : Machine (List ℕ → Bool) (List Bool) (List Bool) = reading (λ (x : List ℕ → Bool). map x c.inputs) (circuit_machine c) in
+      record {
+        forth = refines_by own (library_machine (library_of c)) cycle_of_lines (λ s e. record { main = model_of c; latches = latches_of c; are_latches = are_latches c; are = e ∙ sym (inits_are c) });
+        back = refines_by (library_machine (library_of c)) own lines_of_cycle (λ s a. a.are ∙ ap (inits_of (library_of c)) (its_latches c a.main a.latches a.are_latches).latches_is ∙ inits_are c);
+      }
 
 -- of a text's library
 pub text_fit : (text : List ℕ) (library : LibraryValue) → length text ≤ 67108864 → (made : IsLibraryIn (circuit_of text) library) → IsSound library → HasOneFit made.circuit

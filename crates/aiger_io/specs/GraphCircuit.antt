@@ -8,7 +8,6 @@ use Rattle.aig_core.specs.Roots.{RootsValue, roots_of, AreRoots}
 use Rattle.aig_core.specs.declared.lit.Lit.{Lit}
 use Rattle.aig_core.specs.declared.lit.Pair.{Pair}
 use Rattle.aig_build.specs.NetlistCycle.{HasSourceCycles}
-use Rattle.netlist.specs.FlatCycle.{HasCycles}
 use Rattle.netlist.specs.FlatValue.{FlatValue}
 use Rattle.netlist.specs.HasCleanNames.{AreClean}
 use Rattle.netlist.specs.LibraryValue.{LibraryValue}
@@ -86,7 +85,7 @@ pub record IsGraphsCircuit (flat : FlatValue) (params : List Param) (g : Aig) (r
   pub alike : AreClean (c.inputs ++ c.outputs) → (name : List ℕ) → In c.inputs name → In c.outputs name → IsNameRefused (circuit_text c)
   pub weight : Weighs (library_of c) (model_of c) (library_weight c.header)
   pub fit : HasOneFit c
-  pub runs : (library : LibraryValue) → HasCycles library flat → HasSourceCycles library flat params g roots → HasSameRuns c library
+  pub runs : (library : LibraryValue) → HasSourceCycles library flat params g roots → HasSameRuns c library
 
 -- the header and the lines of a graph with so many inputs
 abbrev pub lines_text : ℕ → FlatValue → Aig → RootsValue → List ℕ

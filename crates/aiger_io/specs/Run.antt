@@ -1,9 +1,10 @@
--- The run of a circuit, by its lines alone: the values of its variables that fit those of its inputs and latches, and its clock cycles.
+-- The run of a circuit, by its lines alone: the values of its variables that fit those of its inputs and latches, its clock cycles, and its machine.
 use Rattle.std.specs.Prelude.{◌≡◌, ℕ, ◌+◌, ◌/◌, ◌%◌, Bool, false, not, ◌&&◌, if◌then◌else◌, ◌==◌, List, [], ◌∷◌, length, map, Some, slice_get}
 use Rattle.std.specs.List.{flat_map}
 use Rattle.list_laws.specs.Members.{In}
+use Rattle.machine.specs.Machine.{Machine, Agrees, reading}
 use Rattle.netlist.specs.LibraryValue.{LibraryValue}
-use Rattle.netlist.specs.Runs.{IsCycle, IsRun}
+use Rattle.netlist.specs.Runs.{library_machine}
 use Rattle.aiger_io.specs.Circuit.{Circuit}
 use Rattle.aiger_io.specs.declared.item.Item.{Item}
 use Rattle.aiger_io.specs.declared.item.Item.TheVariants.{Input, Latch, Output, And}
@@ -69,21 +70,10 @@ pub record IsCircuitCycle (c : Circuit) (x s outputs next : List Bool) : Type 0 
   pub outputs_are : outputs ≡ map (literal_value value) (output_literals c.items)
   pub next_are : next ≡ map (literal_value value) (next_literals c.items)
 
--- Clock cycles from the states s, each of which hands its next states on, with the outputs of each and the states after it; a run starts at the latches' inits.
-abbrev pub CircuitRuns : Circuit → List Bool → List (List Bool) → List (List Bool) → List (List Bool) → Type 0
-CircuitRuns c s [] [] [] = Unit {0}
-CircuitRuns c s [] [] (next ∷ states) = ⊥
-CircuitRuns c s [] (outputs ∷ all_outputs) states = ⊥
-CircuitRuns c s (x ∷ xs) [] states = ⊥
-CircuitRuns c s (x ∷ xs) (outputs ∷ all_outputs) [] = ⊥
-CircuitRuns c s (x ∷ xs) (outputs ∷ all_outputs) (next ∷ states) = IsCircuitCycle c x s outputs next × CircuitRuns c next xs all_outputs states
+-- The machine of a circuit: it takes values of the inputs in their order, and starts at the latches' inits.
+abbrev pub circuit_machine : Circuit → Machine (List Bool) (List Bool) (List Bool)
+circuit_machine c = record { IsStart = λ s. s ≡ init_bits c.items; HasCycle = IsCircuitCycle c }
 
-abbrev pub IsCircuitRun : Circuit → List (List Bool) → List (List Bool) → List (List Bool) → Type 0
-IsCircuitRun c xs outputs states = CircuitRuns c (init_bits c.items) xs outputs states
-
--- the library's cycles and runs are the circuit's
-pub record HasSameRuns (c : Circuit) (library : LibraryValue) : Type 0 where
-  pub is_cycle : (x : List ℕ → Bool) (s outputs next : List Bool) → IsCircuitCycle c (map x c.inputs) s outputs next → IsCycle library x s outputs next
-  pub cycle_is : (x : List ℕ → Bool) (s outputs next : List Bool) → IsCycle library x s outputs next → IsCircuitCycle c (map x c.inputs) s outputs next
-  pub is_run : (xs : List (List ℕ → Bool)) (outputs states : List (List Bool)) → IsCircuitRun c (map (λ (x : List ℕ → Bool). map x c.inputs) xs) outputs states → IsRun library xs outputs states
-  pub run_is : (xs : List (List ℕ → Bool)) (outputs states : List (List Bool)) → IsRun library xs outputs states → IsCircuitRun c (map (λ (x : List ℕ → Bool). map x c.inputs) xs) outputs states
+-- the library's machine is the circuit's, whose inputs have their values by their names
+abbrev pub HasSameRuns : Circuit → LibraryValue → Type 0
+HasSameRuns c library = Agrees (reading (λ (x : List ℕ → Bool). map x c.inputs) (circuit_machine c)) (library_machine library)

@@ -61,7 +61,7 @@ pub use Rattle.tl_text.proofs.NameSetLemmas.{has_in, in_has}
 pub use Rattle.tl_text.proofs.WordLemmas.{decimal_ordinary, is_special, marked_ordinary, one_clean, ordinary_clean, word_clean}
 pub use Rattle.tl_text.specs.Clean.{IsClean}
 pub use Rattle.tl_text.specs.Once.{AreOnce}
-pub use Rattle.blif_write.specs.Meaning.{HasPorts, free_control, AreTablesOf, Means, all_bit_names, input_bits, IsPortName}
+pub use Rattle.blif_write.specs.Meaning.{HasPorts, free_control, AreTablesOf, Means, driven_by, all_bit_names, input_bits, IsPortName}
 pub use Rattle.blif_write.specs.Netlists.{wire_of, wire, wires, written_latches, bit_names, clock_of, written_latch, control_names, with_tables, digit_cell, digit_cells, leaf_names, chosen_cells, fixed_table, tunable_table, specialised_netlist, template_netlist, fixed_rows, tunable_rows}
 pub use Rattle.blif_write.specs.OwnNames.{Naming, own_name, table_name, latch_name, literal_name, naming_of, bit_name, source_name}
 pub use Rattle.blif_write.specs.PlainNetlist.{PlainNetlist, IsPlain, all_inputs, control_words, latch_line, row_line, cover_lines, netlist_text, read_control, read_latch, latch_commands, cover_commands, model_of, library_of, words_text, line_text}

@@ -1,7 +1,8 @@
 -- A netlist without hierarchy as a library: its one instance, with its latches and covers, and a clock cycle over the names of this instance.
 use Rattle.blif_write.proofs.Common.{◌≡◌, ℕ, zero, suc, ◌+◌, ◌<◌, Bool, true, false, cond, ◌||◌, IsTrue, List, [], ◌∷◌, ◌++◌, length, map, slice_get, slice_index_or, Option, Some, refl, sym, ap, subst, ◌∙◌, arith, append-nil, option_and_then, ne_eqb, slice_get_within, In, In-get, in_has, Command, LatchValue, CoverValue, cover_value, SubcktValue, ModelValue, LibraryValue, Path, body_at, subckts_of, has_name, is_input, CoverAt, LatchAt, IsMainInput, input_net, Drives, main_input, latch_output, cover_output, from_inside, from_outside, IsClock, listed, controls, Place, latch_at, is_latch, own_places, FlatOrder, FlatUnder, flat, HasOneCycle, none, PlainNetlist, all_inputs, read_control, read_latch, latch_commands, cover_commands, model_of, library_of, None, inl, inr, option_map, none-some, same_Some, slice_get-map, In-map, place_in, get_left, get_right, Body, model_named, placed, model_at, ConnectionAt, Cover, Latch, cases_Bool, TellsClocks, Subckt, rules}
 use Rattle.netlist.specs.Cycle.{Fits}
-use Rattle.netlist.specs.Runs.{AreLatches, inits_of, state_of, next_states, IsCycle, HasACycle, HasARun}
+use Rattle.machine.specs.Machine.{GivesCycle, GivesRun}
+use Rattle.netlist.specs.Runs.{AreLatches, AreInits, inits_of, state_of, next_states, IsCycle, library_machine}
 use Rattle.netlist.proofs.RunLemmas.{cycle_there, run_there}
 use Rattle.netlist.specs.declared.subckt.Pair.{Pair}
 
@@ -207,9 +208,9 @@ inits_there n (l ∷ ls) i h =
     grind (arith, places_from, latch_found, inits_there n ls (suc i) (λ j k f. let g : i + suc j ≡ suc i + j = omega arith in subst (λ (m : ℕ). slice_get n.latches m ≡ Some k) g (h (suc j) k f)))
 
 -- the latches' inits
-pub plain_inits : (n : PlainNetlist) (main : ModelValue) (latches : List Place) → AreLatches (library_of n) main latches → inits_of (library_of n) latches ≡ map (λ (l : LatchValue). l.init) n.latches
-plain_inits n main latches h =
-    ap (inits_of (library_of n)) (latches_are_places n main latches h).1
+pub plain_inits : (n : PlainNetlist) (s : List Bool) → AreInits (library_of n) s → s ≡ map (λ (l : LatchValue). l.init) n.latches
+plain_inits n s a =
+    a.are ∙ ap (inits_of (library_of n)) (latches_are_places n a.main a.latches a.are_latches).1
     ∙ inits_there n n.latches 0 (λ j l e. let z : j ≡ 0 + j = omega arith in subst (λ (k : ℕ). slice_get n.latches k ≡ Some l) z e)
 
 -- a cycle of the library is one over the names of its instance
@@ -230,8 +231,8 @@ plain_cycle n x s outputs next c =
     }
 
 -- where values of all names fit, there are cycles and runs
-pub plain_has_cycle : (n : PlainNetlist) → HasOneCycle (library_of n) → (x : List ℕ → Bool) (s : List Bool) → length s ≡ length n.latches → HasACycle (library_of n) x s
+pub plain_has_cycle : (n : PlainNetlist) → HasOneCycle (library_of n) → (x : List ℕ → Bool) (s : List Bool) → length s ≡ length n.latches → GivesCycle (library_machine (library_of n)) x s
 plain_has_cycle n law x s len = cycle_there (library_of n) law (model_of n) (places_from 0 (length n.latches)) (places_are_latches n) x s (len ∙ sym (length_places 0 (length n.latches)))
 
-pub plain_has_run : (n : PlainNetlist) → HasOneCycle (library_of n) → (xs : List (List ℕ → Bool)) → HasARun (library_of n) xs
+pub plain_has_run : (n : PlainNetlist) → HasOneCycle (library_of n) → (xs : List (List ℕ → Bool)) → GivesRun (library_machine (library_of n)) xs
 plain_has_run n law = run_there (library_of n) law (model_of n) (places_from 0 (length n.latches)) (places_are_latches n)

@@ -2,15 +2,15 @@
 use Rattle.std.specs.Prelude.{◌≡◌, ℕ, ◌<◌, ◌≤◌, ◌^◌, Bool, true, if◌then◌else◌, List, [], ◌∷◌, ◌++◌, length, map, slice_get, codes, bytes_eq, Option, Some, None}
 use Rattle.std.specs.List.{range_with_len}
 use Rattle.list_laws.specs.Members.{In}
+use Rattle.machine.specs.Machine.{GivesCycle, GivesRun, Refines, reading}
 use Rattle.tl_text.specs.Clean.{IsClean}
 use Rattle.tl_text.specs.Once.{AreOnce}
-use Rattle.netlist.specs.LibraryValue.{ModelValue}
 use Rattle.netlist.specs.declared.flat.OutPort.{OutPort}
 use Rattle.netlist.specs.declared.flat.FlatLatch.{FlatLatch}
 use Rattle.netlist.specs.FlatValue.{FlatValue}
 use Rattle.netlist.specs.Flat.{underscores, IsFlat}
-use Rattle.netlist.specs.Places.{Place}
-use Rattle.netlist.specs.Runs.{AreLatches, inits_of, IsCycle, HasACycle, HasARun}
+use Rattle.netlist.specs.FlatCycle.{flat_inits}
+use Rattle.netlist.specs.Runs.{library_machine}
 use Rattle.netlist.specs.Sound.{IsSound}
 use Rattle.param_list.specs.declared.params.Param.{Param}
 use Rattle.param_list.specs.Parameters.{regular_names}
@@ -18,8 +18,10 @@ use Rattle.aig_core.specs.declared.lit.Lit.{Lit}
 use Rattle.cover_pick.specs.declared.lut.Lut.{Lut}
 use Rattle.cover_pick.specs.Template.{TemplateValue}
 use Rattle.lut_sim.specs.Playable.{IsPlayable}
-use Rattle.lut_sim.specs.Cycle.{IsTableCycle}
-use Rattle.blif_write.specs.PlainNetlist.{PlainNetlist, library_of}
+use Rattle.lut_sim.specs.Cycle.{Driven, table_machine}
+use Rattle.blif_read.specs.Denotes.{Denotes}
+use Rattle.blif_write.specs.PlainNetlist.{PlainNetlist, library_of, netlist_text}
+use Rattle.blif_write.specs.Netlists.{specialised_netlist, template_netlist}
 use Rattle.blif_write.specs.OwnNames.{Naming, naming_of, bit_name, literal_name}
 use Rattle.blif_write.specs.Writable.{AreRootsOf}
 
@@ -54,17 +56,19 @@ abbrev pub free_control : Option (List ℕ) → List (List ℕ)
 free_control None = []
 free_control (Some name) = if bytes_eq name (codes "NIL") then name ∷ [] else []
 
--- The library of a written netlist is sound. It has a flat circuit, whose inputs are the regular ones, this control, and configuration bits of these names. It has a cycle from any states under any values, and a run under any. In each of its cycles the outputs
--- and next states are those of the tables, under a configuration that may depend on the values x of the inputs, by their names; and its latches start as the source's.
+-- what the tables take under the values x of the inputs, by their names: the regular inputs' values, and a configuration that may depend on x
+abbrev pub driven_by : FlatValue → List Param → ((List ℕ → Bool) → List Bool) → (List ℕ → Bool) → Driven
+driven_by flat params config x = record { config = config x; values = map x (regular_names flat params) }
+
+-- The library of a written netlist is sound. It has a flat circuit, whose inputs are the regular ones, this control, and configuration bits of these names. It has a cycle from any states under any values, and a run under any. Its machine refines that of the
+-- tables under this configuration, whose latches start as the source's.
 pub record Means (flat : FlatValue) (params : List Param) (t : TemplateValue) (n : PlainNetlist) (bits : List (List ℕ)) (config : (List ℕ → Bool) → List Bool) : Type 0 where
   pub sound : IsSound (library_of n)
   pub is_flat : (again : FlatValue) × IsFlat (library_of n) again
   pub inputs : (again : FlatValue) → IsFlat (library_of n) again → again.inputs ≡ regular_names flat params ++ (free_control flat.control ++ bits)
-  pub cycles : (x : List ℕ → Bool) (s outputs next : List Bool) → IsCycle (library_of n) x s outputs next
-      → IsTableCycle t (naming_of flat params).shape (config x) (map x (regular_names flat params)) s outputs next
-  pub has_cycle : (x : List ℕ → Bool) (s : List Bool) → length s ≡ length flat.latches → HasACycle (library_of n) x s
-  pub has_run : (xs : List (List ℕ → Bool)) → HasARun (library_of n) xs
-  pub starts : (main : ModelValue) (latches : List Place) → AreLatches (library_of n) main latches → inits_of (library_of n) latches ≡ map (λ (l : FlatLatch). l.init) flat.latches
+  pub refines : Refines (library_machine (library_of n)) (reading (driven_by flat params config) (table_machine t (naming_of flat params).shape (flat_inits flat)))
+  pub has_cycle : (x : List ℕ → Bool) (s : List Bool) → length s ≡ length flat.latches → GivesCycle (library_machine (library_of n)) x s
+  pub has_run : (xs : List (List ℕ → Bool)) → GivesRun (library_machine (library_of n)) xs
 
 -- the names of the configuration bits, in the order of the addresses, and the configuration that the inputs of these names have
 abbrev pub all_bit_names : Naming → ℕ → List (List ℕ)
@@ -72,3 +76,15 @@ all_bit_names g bits = map (bit_name g) (range_with_len 0 bits)
 
 abbrev pub input_bits : Naming → ℕ → (List ℕ → Bool) → List Bool
 input_bits g bits x = map (λ address. x (bit_name g address)) (range_with_len 0 bits)
+
+-- a written netlist's text denotes its library
+abbrev pub DenotesItself : FlatValue → List Param → TemplateValue → PlainNetlist → Type 0
+DenotesItself flat params t n = HasPorts flat → AreTablesOf flat params t → Denotes (netlist_text n) (library_of n)
+
+-- what the netlist of the tables means with their bits as inputs, and with those of a configuration
+abbrev pub MeansTemplate : FlatValue → List Param → TemplateValue → Type 0
+MeansTemplate flat params t =
+    HasPorts flat → AreTablesOf flat params t → Means flat params t (template_netlist flat params t) (all_bit_names (naming_of flat params) t.bits) (input_bits (naming_of flat params) t.bits)
+
+abbrev pub MeansSpecialised : FlatValue → List Param → TemplateValue → List Bool → Type 0
+MeansSpecialised flat params t config = HasPorts flat → AreTablesOf flat params t → Means flat params t (specialised_netlist flat params t config) [] (λ x. config)

@@ -9,12 +9,10 @@ ghost use Rattle.netlist.specs.LibraryValue.{LibraryValue};
 ghost use Rattle.netlist.specs.HasCleanNames.{HasCleanNames};
 ghost use Rattle.netlist.specs.Flat.{IsFlat};
 ghost use Rattle.netlist.specs.Sound.{IsSound};
-ghost use Rattle.blif_read.specs.Denotes.{Denotes};
 ghost use Rattle.param_list.specs.declared.params.Param.{Param};
 ghost use Rattle.blif_write.specs.OwnNames.{naming_of};
 ghost use Rattle.blif_write.specs.PlainNetlist.{line_text, words_text, latch_line, cover_lines, netlist_text};
-ghost use Rattle.blif_write.specs.PlainNetlist.{library_of};
-ghost use Rattle.blif_write.specs.Meaning.{HasPorts, AreTablesOf, Means, all_bit_names, input_bits};
+ghost use Rattle.blif_write.specs.Meaning.{HasPorts, DenotesItself, MeansTemplate, MeansSpecialised};
 ghost use Rattle.blif_write.specs.Writable.{CanBeNamed, AreRootsOf};
 ghost use Rattle.blif_write.specs.Netlists.{control_names, bit_names, fixed_table, tunable_table, wires, written_latches, specialised_netlist, template_netlist};
 
@@ -231,8 +229,8 @@ pub fn template<O: Sink>(
     requires named { CanBeNamed flat.now params.now.list regular.now }
     requires made { AreRootsOf flat.now template.now }
     ensures put { IsPut (O.seen out.old) (netlist_text (template_netlist flat.now params.now.list template.now)) (O.seen out.new) result }
-    ensures denotes { HasPorts flat.now → AreTablesOf flat.now params.now.list template.now → Denotes (netlist_text (template_netlist flat.now params.now.list template.now)) (library_of (template_netlist flat.now params.now.list template.now)) }
-    ensures means { HasPorts flat.now → AreTablesOf flat.now params.now.list template.now → Means flat.now params.now.list template.now (template_netlist flat.now params.now.list template.now) (all_bit_names (naming_of flat.now params.now.list) template.now.bits) (input_bits (naming_of flat.now params.now.list) template.now.bits) }
+    ensures denotes { DenotesItself flat.now params.now.list template.now (template_netlist flat.now params.now.list template.now) }
+    ensures means { MeansTemplate flat.now params.now.list template.now }
     ensures ports { (library : LibraryValue) → IsSound library → HasCleanNames library → IsFlat library flat.now → HasPorts flat.now }
 {
     let names = names_of(flat, params, regular);
@@ -265,8 +263,8 @@ pub fn specialised<O: Sink>(
     requires named { CanBeNamed flat.now params.now.list regular.now }
     requires made { AreRootsOf flat.now template.now }
     ensures put { IsPut (O.seen out.old) (netlist_text (specialised_netlist flat.now params.now.list template.now config.now)) (O.seen out.new) result }
-    ensures denotes { HasPorts flat.now → AreTablesOf flat.now params.now.list template.now → Denotes (netlist_text (specialised_netlist flat.now params.now.list template.now config.now)) (library_of (specialised_netlist flat.now params.now.list template.now config.now)) }
-    ensures means { HasPorts flat.now → AreTablesOf flat.now params.now.list template.now → Means flat.now params.now.list template.now (specialised_netlist flat.now params.now.list template.now config.now) [] (λ x. config.now) }
+    ensures denotes { DenotesItself flat.now params.now.list template.now (specialised_netlist flat.now params.now.list template.now config.now) }
+    ensures means { MeansSpecialised flat.now params.now.list template.now config.now }
     ensures ports { (library : LibraryValue) → IsSound library → HasCleanNames library → IsFlat library flat.now → HasPorts flat.now }
 {
     let names = names_of(flat, params, regular);

@@ -51,11 +51,11 @@ pub use Rattle.lut_sim.specs.GraphShape.{HasShape, AreSourceValues}
 pub use Rattle.lut_sim.specs.Playable.{IsPlayable}
 pub use Rattle.lut_sim.specs.Sources.{is_regular, last_source}
 pub use Rattle.lut_sim.specs.declared.shape.Shape.{Shape}
-pub use Rattle.netlist.specs.Flat.{Places, IsFlatLatch, IsFlat, IsNumbered, IsNetOf, AreNetsOf}
+pub use Rattle.netlist.specs.Flat.{Places, IsFlat, IsNumbered, IsNetOf, AreNetsOf}
 pub use Rattle.netlist.specs.FlatCycle.{flat_inits}
 pub use Rattle.netlist.specs.FlatValue.{FlatValue}
-pub use Rattle.netlist.specs.LibraryValue.{LibraryValue, ModelValue}
-pub use Rattle.netlist.specs.Places.{Place, is_latch, latch_at, FlatOrder}
+pub use Rattle.netlist.specs.LibraryValue.{LibraryValue}
+pub use Rattle.netlist.specs.Places.{Place, latch_at}
 pub use Rattle.netlist.specs.Runs.{IsCycle}
 pub use Rattle.netlist.specs.declared.flat.FlatLatch.{FlatLatch}
 pub use Rattle.netlist.specs.declared.flat.Net.{Net}
@@ -86,11 +86,11 @@ pub use Rattle.cmd_stations.specs.Texts.{LibraryRefusal, is_aag, DenotesLibrary,
 pub use Rattle.cmd_stations.specs.Packs.{IsPackItself, IsPackRefusal, HasPack, IsPackRefused, IsPackSettled, pack_reading, names_on, pack_names, present_bytes}
 pub use Rattle.cmd_stations.specs.Script.{HasScript, IsScriptRefused, IsScriptSettled, IsScriptFile, IsSplit, names_in, names_of, script_reading, ScriptedWords, HasScripted, IsScriptedRefused, IsScriptedSettled, IsOfScripted, scripted_word, scripted_reading, scripted_seen}
 pub use Rattle.cmd_stations.specs.Source.{IsSourceSettled, IsOfSource, IsGraphSettled, IsMappingSettled, IsBuildingSettled, IsLabellingSettled, IsNetlistSettled, AreParamsSettled, IsMakingSettled, source_word, source_reading, IsTextSettled, HasNetlist, HasParams, HasSource, HasMapped, IsSourceRefused, long_netlist, netlist, long_params, params, unmade, IsLeastMapped, ReachesSource, SourceWords, source_seen}
-pub use Rattle.cmd_stations.specs.SourceCircuit.{width_of, shape_of, AreInits, IsSourceCycle}
+pub use Rattle.cmd_stations.specs.SourceCircuit.{width_of, shape_of, IsSourceCycle, source_machine}
 pub use Rattle.cmd_stations.specs.Stops.{Stops, outcome_at, refusal_of, IsUnread}
 pub use Rattle.cmd_stations.specs.Tables.{AreMade, AreTables, ComesPast, HasTables, IsReadSource, ComesFrom, ComesWith, IsReadNetlist, ComesScripted}
 pub use Rattle.cmd_stations.specs.Tunable.{IsTunable, HasSourceTables}
-pub use Rattle.cmd_stations.specs.Written.{SourceRuns, regular_values, RunsAs, IsTuned, specialised_of, template_of}
+pub use Rattle.cmd_stations.specs.Written.{regular_values, RunsAs, HasConfiguration, IsTuned, specialised_of, template_of}
 pub use Rattle.cmd_stations.specs.declared.netlist_text.Netlist.{Netlist}
 pub use Rattle.cmd_stations.specs.declared.source.Source.{Source}
 pub use Rattle.cmd_stations.specs.declared.stop.Stop.{Stop}

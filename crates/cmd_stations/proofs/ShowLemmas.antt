@@ -1,6 +1,8 @@
 -- The LUTs of a source circuit's graph, under the configuration of any values of the parameters, play the source circuit's cycles.
-use Rattle.cmd_stations.proofs.Common.{◌≡◌, ℕ, Bool, List, length, map, sym, ap, ◌∙◌, subst, subst₂, length-map, In, In-left, In-right, AreOnce, IsCycle, Param, PackParam, param_names, param_inits, is_split, Lit, Aig, first_and, AreNormal, roots_of, lits_of, value_of, HasOneFit, input_names, source_values, literal_values, Lut, TemplateValue, FitsTables, PackValue, inits_of, pack_param, IsPackOf, Source, width_of, shape_of, HasTables, IsReadSource, HasSourceTables}
+use Rattle.cmd_stations.proofs.Common.{◌≡◌, ℕ, Bool, List, length, map, sym, ap, ◌∙◌, subst, length-map, In, In-left, In-right, AreOnce, flat_inits, Param, PackParam, param_names, param_inits, is_split, Lit, Aig, first_and, AreNormal, roots_of, lits_of, value_of, HasOneFit, input_names, source_values, literal_values, Lut, TemplateValue, FitsTables, PackValue, inits_of, pack_param, IsPackOf, Source, width_of, shape_of, source_machine, HasTables, IsReadSource, HasSourceTables}
 use Rattle.std.proofs.lemmas.Simd.{map-map}
+use Rattle.machine.proofs.RefineLemmas.{refines_by}
+use Rattle.lut_sim.specs.Cycle.{lut_machine}
 use Rattle.aig_core.proofs.FitLemmas.{one_fit}
 use Rattle.bit_fun.specs.Configuration.{IsMapped}
 use Rattle.bit_fun.specs.Lawful.{IsLawful}
@@ -40,7 +42,7 @@ pack_bits source g t pack h is =
     let list = source.params.list in
     ap length is.bits ∙ (pack_made g t.luts list (param_inits list) is.made (tables_mapped source g t h) (source_params source g h.is_graph.kinds) (length-map list (λ (p : Param). p.init)) is.makes).count ∙ sym h.least.mapping.sum
 
--- a cycle of the tables is the source circuit's, under any values of the parameters
+-- the tables' machine refines the source circuit's, under any values of the parameters
 module _ (source : Source) (read : IsReadSource source) (g : Aig) (normal : AreNormal (first_and g) g.pairs) (t : TemplateValue) (h : HasTables source g t) where
   -- the values of the sources, and of the graph
   abbrev sources : (List ℕ → Bool) → List Bool → List Bool
@@ -48,10 +50,6 @@ module _ (source : Source) (read : IsReadSource source) (g : Aig) (normal : AreN
 
   values_in : (x : List ℕ → Bool) (s : List Bool) → length s ≡ length source.netlist.flat.latches → HasOneFit g (sources x s)
   values_in x s states = one_fit g (sources x s) normal (source_values_count source g x s h.is_graph.kinds states)
-
-  cycle_in : (x : List ℕ → Bool) (s : List Bool) → (states : length s ≡ length source.netlist.flat.latches)
-      → IsCycle source.netlist.library x s (literal_values (values_in x s states).values h.roots.outputs) (literal_values (values_in x s states).values h.roots.next)
-  cycle_in x s states = h.cycles.is_cycle x s (values_in x s states).values states (values_in x s states).fits
 
   table_values : (params config values s : List Bool) → IsLawful g t.luts params config → length params ≡ length source.params.list → length values ≡ width_of source → (states : length s ≡ length source.netlist.flat.latches)
       → FitsTables t.luts (shape_of source) config values s (value_of (values_in (input_at source params values) s states).values)
@@ -62,18 +60,23 @@ module _ (source : Source) (read : IsReadSource source) (g : Aig) (normal : AreN
 
   pub tables_play : (pack : PackValue) → IsPackOf g t.luts source.params.list pack → HasConfigurations g t.luts pack → HasSourceTables source t pack
   tables_play pack is conf = record {
-    cycles = λ params config values s outputs next params_len is_conf len states only.
+    refines = λ params config params_len is_conf. refines_by (lut_machine t (shape_of source) config (flat_inits source.netlist.flat)) (source_machine source params) (λ values s outputs next c.
         let x = input_at source params values in
-        let parts = parts_are source (names_once source read) params values params_len len in
-        let graph : List Bool = (values_in x s states).values in
+        let parts = parts_are source (names_once source read) params values params_len c.inputs in
+        let graph = values_in x s c.states in
         let law : IsLawful g t.luts params config = conf.law params config (params_len ∙ sym (pack_params g t.luts source.params.list pack is)) is_conf in
-        let fits = table_values params config values s law params_len len states in
-        let outputs_are : outputs ≡ literal_values graph h.roots.outputs = only.outputs_are (value_of graph) fits ∙ ap (λ ls. literal_values graph ls) h.chosen.chosen.outputs in
-        let next_are : next ≡ literal_values graph h.roots.next = only.next_are (value_of graph) fits ∙ ap (λ ls. literal_values graph ls) h.chosen.chosen.next in
+        let fits = table_values params config values s law params_len c.inputs c.states in
         record {
           x = x;
           regular = parts.0;
           parameters = parts.1;
-          cycle = subst₂ (IsCycle source.netlist.library x s) (sym outputs_are) (sym next_are) (cycle_in x s states);
-        };
+          cycle = (h.cycles.agrees).forth.cycles x s outputs next (record {
+            states = c.states;
+            values = graph.values;
+            fits = graph.fits;
+            outputs_are = (c.only).outputs_are (value_of graph.values) fits ∙ ap (literal_values graph.values) h.chosen.chosen.outputs;
+            next_are = (c.only).next_are (value_of graph.values) fits ∙ ap (literal_values graph.values) h.chosen.chosen.next;
+          });
+        })
+        (read.netlist.cycles.agrees).back.starts;
   }

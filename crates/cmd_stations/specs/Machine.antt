@@ -12,7 +12,8 @@ use Rattle.port_bank.specs.Send.{Plays}
 use Rattle.run_core.specs.Events.{MachineValue, IsPlayed, IsSteady, event_line}
 use Rattle.run_core.specs.Ends.{HasSent}
 use Rattle.cmd_stations.specs.Mapped.{template_header}
-use Rattle.cmd_stations.specs.SourceCircuit.{shape_of, AreInits}
+use Rattle.cmd_stations.specs.SourceCircuit.{shape_of}
+use Rattle.netlist.specs.Runs.{AreInits}
 use Rattle.cmd_stations.specs.Tunable.{IsTunable}
 use Rattle.cover_pick.specs.Template.{TemplateValue}
 use Rattle.cmd_stations.specs.declared.source.Source.{Source}
@@ -31,7 +32,7 @@ pub record IsSourceStart (source : Source) (mapped : TemplateValue) (own : PackV
   pub config : IsConf own (param_inits source.params.list) bits
   pub template : sim.template ≡ mapped
   pub shape : sim.shape ≡ shape_of source
-  pub states : AreInits source sim.states
+  pub states : AreInits source.netlist.library sim.states
 
 abbrev pub IsStart : Job → MachineValue → Type 0
 IsStart job m = IsSourceStart job.source job.template m.host.pack m.host.state.params m.host.state.config m.sim

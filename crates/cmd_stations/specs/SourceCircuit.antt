@@ -1,11 +1,10 @@
--- The source circuit of a job: its netlist under its parameters, and a clock cycle of it.
+-- The source circuit of a job: its netlist under its parameters, a clock cycle of it, and its machine.
 use Rattle.std.specs.Prelude.{ℕ, length, ◌≡◌, Bool, List, map}
 use Rattle.param_list.specs.Parameters.{regular_names, param_names}
 use Rattle.lut_sim.specs.declared.shape.Shape.{Shape}
 use Rattle.cmd_stations.specs.declared.source.Source.{Source}
-use Rattle.netlist.specs.LibraryValue.{ModelValue}
-use Rattle.netlist.specs.Places.{Place}
-use Rattle.netlist.specs.Runs.{AreLatches, inits_of, IsCycle}
+use Rattle.machine.specs.Machine.{Machine}
+use Rattle.netlist.specs.Runs.{AreInits, IsCycle}
 
 -- how many inputs are left besides the parameters: each cycle gives them values
 abbrev pub width_of : Source → ℕ
@@ -22,9 +21,6 @@ pub record IsSourceCycle (source : Source) (params values states outputs next : 
   pub parameters : map x (param_names source.params.list) ≡ params
   pub cycle : IsCycle source.netlist.library x states outputs next
 
--- the latches' inits
-pub record AreInits (source : Source) (states : List Bool) : Type 0 where
-  pub main : ModelValue
-  pub latches : List Place
-  pub are_latches : AreLatches source.netlist.library main latches
-  pub are : states ≡ inits_of source.netlist.library latches
+-- The machine of a source circuit under values of its parameters: it takes values of the regular inputs, and starts at the latches' inits.
+abbrev pub source_machine : Source → List Bool → Machine (List Bool) (List Bool) (List Bool)
+source_machine source params = record { IsStart = AreInits source.netlist.library; HasCycle = IsSourceCycle source params }

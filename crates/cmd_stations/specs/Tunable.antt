@@ -7,15 +7,17 @@ use Rattle.cover_pick.specs.Template.{TemplateValue}
 use Rattle.ppc_pack.specs.Pack.{PackValue, IsConf}
 use Rattle.bit_fun.specs.PackOf.{IsPackOf}
 use Rattle.bit_fun.specs.PackLaw.{HasConfigurations}
-use Rattle.lut_sim.specs.Cycle.{IsOnlyTableCycle}
+use Rattle.lut_sim.specs.Cycle.{lut_machine}
+use Rattle.machine.specs.Machine.{Refines}
+use Rattle.netlist.specs.FlatCycle.{flat_inits}
 use Rattle.cmd_stations.specs.declared.limits.TheConstants.{GRAPH_ROOM}
 use Rattle.cmd_stations.specs.declared.source.Source.{Source}
-use Rattle.cmd_stations.specs.SourceCircuit.{width_of, shape_of, IsSourceCycle}
+use Rattle.cmd_stations.specs.SourceCircuit.{shape_of, source_machine}
 
--- Where no bit stands upset, the tables are the source circuit: under the configuration of any values of the parameters, a cycle of the tables, from any states, is the source circuit's under these values.
+-- Where no bit stands upset, the tables are the source circuit: under the configuration of any values of the parameters, their machine refines the source circuit's under these values.
 pub record HasSourceTables (source : Source) (template : TemplateValue) (pack : PackValue) : Type 0 where
-  pub cycles : (params config values states outputs next : List Bool) → length params ≡ length source.params.list → IsConf pack params config → length values ≡ width_of source → length states ≡ length source.netlist.flat.latches
-      → IsOnlyTableCycle template (shape_of source) config values states outputs next → IsSourceCycle source params values states outputs next
+  pub refines : (params config : List Bool) → length params ≡ length source.params.list → IsConf pack params config
+      → Refines (lut_machine template (shape_of source) config (flat_inits source.netlist.flat)) (source_machine source params)
 
 -- the bits of a template as functions of the parameters, in one pack over the source circuit's one graph: its configurations are the template's, and its tables are the source circuit
 pub record IsTunable (source : Source) (template : TemplateValue) (pack : PackValue) : Type 0 where

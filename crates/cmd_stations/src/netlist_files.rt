@@ -1,10 +1,10 @@
 //! Writing the two netlists of a source circuit.
-ghost use Rattle.std.specs.Prelude.{◌≡◌, Bool, List, length};
+ghost use Rattle.std.specs.Prelude.{◌≡◌};
 ghost use Rattle.tl_io.specs.Causes.{HasCause};
 ghost use Rattle.tl_io.specs.Sink.{IsPut};
-ghost use Rattle.ppc_pack.specs.Pack.{IsConf};
 ghost use Rattle.blif_write.specs.PlainNetlist.{netlist_text};
-ghost use Rattle.cmd_stations.specs.Written.{RunsAs, IsTuned, specialised_of, template_of};
+ghost use Rattle.cmd_stations.specs.Written.{specialised_of, template_of};
+ghost use Rattle.cmd_stations.specs.WrittenFiles.{specialised_text, RunsSpecialised, template_text, IsTunedSource};
 ghost use Rattle.cmd_stations.specs.FileWrites.{WritesFile};
 ghost use Rattle.cmd_stations.specs.Tables.{IsDraft};
 
@@ -59,9 +59,9 @@ pub fn write_specialised<S: Shelf>(
 ) -> Result<(), Failed>
     requires { IsDraft draft.now }
     ensures cause { HasCause (S.seen shelf.old).write_faults (S.seen shelf.new).write_faults result }
-    ensures written { WritesFile (record { name = name.now; bytes = netlist_text (specialised_of draft.now.mapped.source draft.now.mapped.tables.template config.now) }) (S.seen shelf.old).files (S.seen shelf.new).files result }
+    ensures written { WritesFile (specialised_text draft.now.mapped config.now name.now) (S.seen shelf.old).files (S.seen shelf.new).files result }
     ensures given { (S.seen shelf.new).given ≡ (S.seen shelf.old).given }
-    ensures means { (params : List Bool) → length params ≡ length draft.now.mapped.source.params.list → IsConf draft.now.mapped.tables.pack params config.now → RunsAs draft.now.mapped.source params (specialised_of draft.now.mapped.source draft.now.mapped.tables.template config.now) }
+    ensures means { RunsSpecialised draft.now.mapped config.now }
 {
     shelf.begin_write(name)?;
     let mut file = FileSink::over(shelf);
@@ -79,9 +79,9 @@ pub fn write_specialised<S: Shelf>(
 pub fn write_template<S: Shelf>(draft: &Draft, name: &str, shelf: &mut S) -> Result<(), Failed>
     requires { IsDraft draft.now }
     ensures cause { HasCause (S.seen shelf.old).write_faults (S.seen shelf.new).write_faults result }
-    ensures written { WritesFile (record { name = name.now; bytes = netlist_text (template_of draft.now.mapped.source draft.now.mapped.tables.template) }) (S.seen shelf.old).files (S.seen shelf.new).files result }
+    ensures written { WritesFile (template_text draft.now.mapped name.now) (S.seen shelf.old).files (S.seen shelf.new).files result }
     ensures given { (S.seen shelf.new).given ≡ (S.seen shelf.old).given }
-    ensures means { IsTuned draft.now.mapped.source draft.now.mapped.tables.template draft.now.mapped.tables.pack (template_of draft.now.mapped.source draft.now.mapped.tables.template) }
+    ensures means { IsTunedSource draft.now.mapped }
 {
     shelf.begin_write(name)?;
     let mut file = FileSink::over(shelf);

@@ -1,7 +1,8 @@
 -- One cycle of the LUTs, as a relation between the values of all literals: nothing is played in an order.
-use Rattle.std.specs.Prelude.{◌≡◌, ℕ, ◌+◌, ◌*◌, Bool, false, IsTrue, List, map, slice_index_or}
+use Rattle.std.specs.Prelude.{◌≡◌, ℕ, ◌+◌, ◌*◌, Bool, false, IsTrue, List, length, map, slice_index_or}
 use Rattle.list_laws.specs.Members.{In}
 use Rattle.list_laws.specs.Digits.{number}
+use Rattle.machine.specs.Machine.{Machine}
 use Rattle.aig_core.specs.Roots.{lits_of}
 use Rattle.cover_pick.specs.declared.lut.Lut.{Lut}
 use Rattle.cover_pick.specs.Template.{TemplateValue}
@@ -32,3 +33,22 @@ pub record IsTableCycle (t : TemplateValue) (shape : Shape) (config inputs state
 pub record IsOnlyTableCycle (t : TemplateValue) (shape : Shape) (config inputs states outputs next : List Bool) : Type 0 where
   pub outputs_are : (value : ℕ → Bool) → FitsTables t.luts shape config inputs states value → outputs ≡ map value (lits_of t.outputs)
   pub next_are : (value : ℕ → Bool) → FitsTables t.luts shape config inputs states value → next ≡ map value (lits_of t.next)
+
+-- what a cycle of LUTs takes: their configuration, and values of the regular inputs
+pub record Driven : Type 0 where
+  pub config : List Bool
+  pub values : List Bool
+
+-- The machine of LUTs: in each cycle it takes a configuration and values of the regular inputs, and it starts at its latches' inits.
+abbrev pub table_machine : TemplateValue → Shape → List Bool → Machine Driven (List Bool) (List Bool)
+table_machine t shape inits = record { IsStart = λ s. s ≡ inits; HasCycle = λ x s outputs next. IsTableCycle t shape x.config x.values s outputs next }
+
+-- a cycle with a value for each regular input, and a state for each latch
+pub record IsLutCycle (t : TemplateValue) (shape : Shape) (config x s outputs next : List Bool) : Type 0 where
+  pub inputs : length x ≡ shape.regular
+  pub states : length s ≡ shape.latches
+  pub only : IsOnlyTableCycle t shape config x s outputs next
+
+-- The machine of LUTs under one configuration: it takes values of the regular inputs.
+abbrev pub lut_machine : TemplateValue → Shape → List Bool → List Bool → Machine (List Bool) (List Bool) (List Bool)
+lut_machine t shape config inits = record { IsStart = λ s. s ≡ inits; HasCycle = IsLutCycle t shape config }

@@ -1,7 +1,12 @@
 -- When a graph's sources have a shape, and a list has the values of all its sources.
 use Rattle.std.specs.Prelude.{◌≡◌, ℕ, ◌++◌, IsTrue, Bool, List, length}
 use Rattle.aig_core.specs.Aig.{Aig, IsSource}
+use Rattle.aig_core.specs.Roots.{lits_of}
 use Rattle.aig_core.specs.declared.lit.Kind.TheVariants.{Regular}
+use Rattle.cover_pick.specs.Mapping.{IsMapping}
+use Rattle.cover_pick.specs.Template.{TemplateValue}
+use Rattle.list_laws.specs.Members.{In}
+use Rattle.lut_sim.specs.Playable.{IsPlayable}
 use Rattle.lut_sim.specs.declared.shape.Shape.{Shape}
 use Rattle.lut_sim.specs.Sources.{is_regular, last_source}
 
@@ -17,3 +22,12 @@ pub record AreSourceValues (shape : Shape) (inputs params states sources : List 
   pub params_len : length params ≡ shape.params
   pub states_len : length states ≡ shape.latches
   pub all : sources ≡ inputs ++ (params ++ states)
+
+-- a template can be played if its LUTs map a graph for roots that include its outputs and next states, of which there are so many
+abbrev pub PlaysRoots : Aig → ℕ → List ℕ → ℕ → TemplateValue → Shape → Type 0
+PlaysRoots g k roots latches t shape =
+    IsMapping g k roots t.luts t.bits → ((l : ℕ) → In (lits_of t.outputs) l → In roots l) → ((l : ℕ) → In (lits_of t.next) l → In roots l) → length t.next ≡ latches → IsPlayable t shape
+
+-- one of a graph of this shape, which has a next state for each latch
+abbrev pub PlaysMapping : Aig → ℕ → List ℕ → TemplateValue → Shape → Type 0
+PlaysMapping g k roots t shape = HasShape g shape → PlaysRoots g k roots shape.latches t shape

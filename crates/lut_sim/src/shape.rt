@@ -5,7 +5,7 @@ ghost use Rattle.aig_core.specs.Aig.{Aig};
 ghost use Rattle.aig_core.specs.Roots.{lits_of};
 ghost use Rattle.cover_pick.specs.Mapping.{IsMapping};
 ghost use Rattle.cover_pick.specs.Template.{TemplateValue};
-ghost use Rattle.lut_sim.specs.GraphShape.{HasShape};
+ghost use Rattle.lut_sim.specs.GraphShape.{PlaysMapping};
 ghost use Rattle.lut_sim.specs.Playable.{IsPlayable};
 ghost use Rattle.lut_sim.specs.Sources.{is_regular as regular_of, is_plain as plain_of};
 
@@ -32,7 +32,7 @@ impl Shape {
     /// outputs and next states, and it has one next state for each latch.
     pub fn new(regular: u32, params: u32, latches: u32) -> Shape
         ensures value { result ≡ record { regular = regular; params = params; latches = latches } }
-        ensures playable { (g : Aig) (k : ℕ) (roots : List ℕ) (t : TemplateValue) → HasShape g result → IsMapping g k roots t.luts t.bits → ((l : ℕ) → In (lits_of t.outputs) l → In roots l) → ((l : ℕ) → In (lits_of t.next) l → In roots l) → length t.next ≡ result.latches → IsPlayable t result }
+        ensures playable { (g : Aig) (k : ℕ) (roots : List ℕ) (t : TemplateValue) → PlaysMapping g k roots t result }
     {
         Shape {
             regular,

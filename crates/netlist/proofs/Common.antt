@@ -24,5 +24,5 @@ pub use Rattle.netlist.specs.FlatCoverValue.{FlatCoverValue}
 pub use Rattle.netlist.specs.FlatValue.{FlatValue}
 pub use Rattle.netlist.specs.LibraryValue.{LibraryValue}
 pub use Rattle.netlist.specs.Places.{none, more}
-pub use Rattle.netlist.specs.Runs.{Runs, AreLatches, inits_of, init_state, state_of, next_state, next_states, HasACycle, HasARun}
+pub use Rattle.netlist.specs.Runs.{AreLatches, inits_of, init_state, state_of, next_state, next_states}
 pub use Rattle.netlist.specs.SubcktValue.{SubcktValue}

@@ -1,9 +1,12 @@
 -- Evaluating a flat circuit in its order gives each cover the value of any map that fits, by the numbers of the nets.
-use Rattle.netlist.proofs.Common.{◌≡◌, ℕ, Bool, false, List, [], ◌∷◌, map, Some, refl, sym, ap, ap₂, ◌∙◌, subst, inl, inr, unwrap_or, ◌<◌, eqb, length, replicate, Option, ◌⊎◌, arith, slice_set, slice_get, option_and_then, In, both_ways, cases_Bool, length-set, length-replicate, same_Some, slice_get_within, at_within, set_here, set_other, zero, suc, true, subst₂, option_map, cond-true, cond-false, length-map, none-some, slice_get-map, In-left, In-right, In-get, AreApart, reversed_in, nodes_done, In-map, same_list, mapped_at, not, or_left, not-true, In-filter, has_name, IsMainInput, IsClock, CoverValue, LibraryValue, FlatCoverValue, FlatValue, Runs, eqb-true, eq-eqb}
+use Rattle.netlist.proofs.Common.{◌≡◌, ℕ, Bool, false, List, [], ◌∷◌, map, Some, refl, sym, ap, ap₂, ◌∙◌, subst, inl, inr, unwrap_or, ◌<◌, eqb, length, replicate, Option, ◌⊎◌, arith, slice_set, slice_get, option_and_then, In, both_ways, cases_Bool, length-set, length-replicate, same_Some, slice_get_within, at_within, set_here, set_other, zero, suc, true, subst₂, option_map, cond-true, cond-false, length-map, none-some, slice_get-map, In-left, In-right, In-get, AreApart, reversed_in, nodes_done, In-map, same_list, mapped_at, not, or_left, not-true, In-filter, has_name, IsMainInput, IsClock, CoverValue, LibraryValue, FlatCoverValue, FlatValue, AreLatches, eqb-true, eq-eqb}
 use Rattle.netlist.specs.Flat.{Places, none, more}
-use Rattle.netlist.specs.{cover_value, ModelValue, Path, body_at, CoverAt, input_net, latch_net, cover_net, Place, cover_in, FlatNet, Fits, an_input, a_latch, a_cover, IsNetOf, AreNetsOf, cover_numbers, IsFlat, reads_at, inputs_at, IsFlatCover, net_value, AreGiven, cover_behind, value_of, gate_value, evaluated, flat_values, Evaluates, same_place, latch_at, is_latch, FlatOrder, OutPort, FlatLatch, flat_roots, IsFlatLatch, init_state, inits_of, state_of, next_state, next_states, IsCycle, stops, steps, IsRun, flat_outputs, flat_next, flat_inits, run_outputs, run_states, input_values, HasCycles, IsSound, latch_nets}
+use Rattle.netlist.specs.{cover_value, ModelValue, Path, body_at, CoverAt, input_net, latch_net, cover_net, Place, cover_in, FlatNet, Fits, an_input, a_latch, a_cover, IsNetOf, AreNetsOf, cover_numbers, IsFlat, reads_at, inputs_at, IsFlatCover, net_value, AreGiven, cover_behind, value_of, gate_value, evaluated, flat_values, Evaluates, same_place, latch_at, is_latch, FlatOrder, OutPort, FlatLatch, flat_roots, IsFlatLatch, init_state, inits_of, state_of, next_state, IsCycle, AreInits, library_machine, flat_outputs, flat_next, flat_inits, IsFlatCycle, flat_machine, input_values, HasCycles, IsSound, latch_nets}
 use Rattle.std.proofs.lemmas.Simd.{map-map}
 use Rattle.netlist.specs.declared.flat.Net.TheVariants.{Cover}
+use Rattle.machine.specs.Machine.{reading}
+use Rattle.machine.proofs.RefineLemmas.{refines_by}
+use Rattle.netlist.proofs.RunLemmas.{cycle_there, run_there}
 use Rattle.netlist.proofs.OrderLemmas.{order_once, places_apart}
 use Rattle.tl_text.proofs.NameSetLemmas.{in_has}
 use Rattle.netlist.proofs.PlaceLemmas.{latch_at-some, cover_at-is, same_place-is, same_place-refl}
@@ -164,6 +167,14 @@ state_at (q ∷ places) (b ∷ states) (suc j) p apart n e =
       | inr f ↦ state_at places states j p apart.1 (omega (arith, n)) e ∙ ap Some (sym (cond-false (same_place p q) b (state_of places states p.path p.command) f))
     ]
 
+-- its latches are those of the flat circuit
+module _ (library : LibraryValue) (flat : FlatValue) (f : IsFlat library flat) (main : ModelValue) (latches : List Place) (are : AreLatches library main latches) where
+  main_once : main ≡ f.main
+  main_once = same_Some main f.main (sym are.at ∙ f.is_main)
+
+  latches_once : latches ≡ (f.at).latches
+  latches_once = order_once library is_latch (subst (λ m. FlatOrder library is_latch [] m latches) main_once are.order) f.latches_order
+
 module _ (library : LibraryValue) (flat : FlatValue) (f : IsFlat library flat) (x : List ℕ → Bool) (s outputs next : List Bool) (c : IsCycle library x s outputs next) where
   abbrev xs : List Bool
   xs = input_values flat x
@@ -175,10 +186,10 @@ module _ (library : LibraryValue) (flat : FlatValue) (f : IsFlat library flat) (
   state = state_of (f.at).latches s
 
   main_same : c.main ≡ f.main
-  main_same = same_Some c.main f.main (sym (c.are_latches).at ∙ f.is_main)
+  main_same = main_once library flat f c.main c.latches c.are_latches
 
   latches_same : c.latches ≡ (f.at).latches
-  latches_same = order_once library is_latch (subst (λ m. FlatOrder library is_latch [] m c.latches) main_same (c.are_latches).order) f.latches_order
+  latches_same = latches_once library flat f c.main c.latches c.are_latches
 
   fits : Fits library x state c.value
   fits = subst (λ l. Fits library x (state_of l s) c.value) latches_same c.fits
@@ -214,67 +225,33 @@ module _ (library : LibraryValue) (flat : FlatValue) (f : IsFlat library flat) w
   inits_same = same_maps (λ (p : Place). init_state (latch_at library p)) (λ (l : FlatLatch). l.init) (f.at).latches flat.latches f.latch_count
       (λ k p l a b. let i : IsFlatLatch library f.at p l = f.latches k p l a b in ap init_state (latch_at-some library p i.latch i.is) ∙ sym i.init)
 
-  runs_outputs : {s : List Bool} {xs : List (List ℕ → Bool)} {outputs states : List (List Bool)} → Runs library s xs outputs states → outputs ≡ run_outputs library flat s (map (input_values flat) xs)
-  runs_outputs stops = refl
-  runs_outputs {s} (steps x xs outputs next all_outputs states c r) =
-      ap₂ (λ (b : List Bool) (bs : List (List Bool)). b ∷ bs) (outputs_same library flat f x s outputs next c)
-      (runs_outputs r ∙ ap (λ n. run_outputs library flat n (map (input_values flat) xs)) (next_same library flat f x s outputs next c))
+  -- the library starts there
+  pub its_start : (s : List Bool) → AreInits library s → s ≡ flat_inits flat
+  its_start s a = a.are ∙ ap (inits_of library) (latches_once library flat f a.main a.latches a.are_latches) ∙ inits_same
 
-  runs_states : {s : List Bool} {xs : List (List ℕ → Bool)} {outputs states : List (List Bool)} → Runs library s xs outputs states → states ≡ run_states library flat s (map (input_values flat) xs)
-  runs_states stops = refl
-  runs_states {s} (steps x xs outputs next all_outputs states c r) =
-      ap₂ (λ (b : List Bool) (bs : List (List Bool)). b ∷ bs) (next_same library flat f x s outputs next c)
-      (runs_states r ∙ ap (λ n. run_states library flat n (map (input_values flat) xs)) (next_same library flat f x s outputs next c))
+  its_cycle : (x : List ℕ → Bool) (s outputs next : List Bool) → IsCycle library x s outputs next → IsFlatCycle library flat (input_values flat x) s outputs next
+  its_cycle x s outputs next c = record {
+    states = c.states ∙ ap length (latches_same library flat f x s outputs next c) ∙ sym f.latch_count;
+    outputs_are = outputs_same library flat f x s outputs next c;
+    next_are = next_same library flat f x s outputs next c;
+  }
 
-  run_inits : {xs : List (List ℕ → Bool)} {outputs states : List (List Bool)} → (r : IsRun library xs outputs states) → inits_of library r.latches ≡ flat_inits flat
-  run_inits r =
-      let m : r.main ≡ f.main = same_Some r.main f.main (sym (r.are_latches).at ∙ f.is_main) in
-      let l : r.latches ≡ (f.at).latches = order_once library is_latch (subst (λ y. FlatOrder library is_latch [] y r.latches) m (r.are_latches).order) f.latches_order in
-      ap (inits_of library) l ∙ inits_same
-
-  -- in a sound library the flat circuit's cycle is one of the library
+  -- in a sound library the flat circuit's cycles are the library's
   module _ (sound : IsSound library) where
-    cycle_exists : (x : List ℕ → Bool) (s : List Bool) → length s ≡ length flat.latches → IsCycle library x s (flat_outputs library flat (input_values flat x) s) (flat_next library flat (input_values flat x) s)
-    cycle_exists x s e =
-        let places : List Place = (f.at).latches in
-        let fit = (sound_law library sound).exists x (state_of places s) in
-        let outputs : List Bool = map (fit.value []) (f.main).outputs in
-        let next : List Bool = next_states library fit.value places in
-        let c : IsCycle library x s outputs next = record {
-          main = f.main;
-          latches = places;
-          are_latches = record { at = f.is_main; order = f.latches_order };
-          states = e ∙ f.latch_count;
-          value = fit.value;
-          fits = fit.fits;
-          outputs_are = refl;
-          next_are = refl;
-        } in
-        subst₂ (IsCycle library x s) (outputs_same library flat f x s outputs next c) (next_same library flat f x s outputs next c) c
+    are : AreLatches library f.main (f.at).latches
+    are = record { at = f.is_main; order = f.latches_order }
 
-    runs_exist : (s : List Bool) (xs : List (List ℕ → Bool)) → length s ≡ length flat.latches
-        → Runs library s xs (run_outputs library flat s (map (input_values flat) xs)) (run_states library flat s (map (input_values flat) xs))
-    runs_exist s [] e = stops
-    runs_exist s (x ∷ xs) e =
-        let next : List Bool = flat_next library flat (input_values flat x) s in
-        steps x xs (flat_outputs library flat (input_values flat x) s) next (run_outputs library flat next (map (input_values flat) xs)) (run_states library flat next (map (input_values flat) xs))
-        (cycle_exists x s e) (runs_exist next xs (length-map flat.latches (λ (l : FlatLatch). net_value (input_values flat x) s (flat_values library flat (input_values flat x) s) l.input)))
-
-    run_exists : (xs : List (List ℕ → Bool)) → IsRun library xs (run_outputs library flat (flat_inits flat) (map (input_values flat) xs)) (run_states library flat (flat_inits flat) (map (input_values flat) xs))
-    run_exists xs = record {
-      main = f.main;
-      latches = (f.at).latches;
-      are_latches = record { at = f.is_main; order = f.latches_order };
-      runs = subst (λ s. Runs library s xs (run_outputs library flat (flat_inits flat) (map (input_values flat) xs)) (run_states library flat (flat_inits flat) (map (input_values flat) xs)))
-          (sym inits_same) (runs_exist (flat_inits flat) xs (length-map flat.latches (λ (l : FlatLatch). l.init)));
-    }
+    library_cycle : (x : List ℕ → Bool) (s outputs next : List Bool) → IsFlatCycle library flat (input_values flat x) s outputs next → IsCycle library x s outputs next
+    library_cycle x s outputs next c =
+        let there = cycle_there library (sound_law library sound) f.main (f.at).latches are x s (c.states ∙ f.latch_count) in
+        subst₂ (IsCycle library x s) (outputs_same library flat f x s there.output there.next there.is ∙ sym c.outputs_are) (next_same library flat f x s there.output there.next there.is ∙ sym c.next_are) there.is
 
     pub flat_cycles : HasCycles library flat
     flat_cycles = record {
-      is_cycle = cycle_exists;
-      outputs = λ x s outputs next c. outputs_same library flat f x s outputs next c;
-      states = λ x s outputs next c. next_same library flat f x s outputs next c;
-      is_run = run_exists;
-      all_outputs = λ xs outputs states r. runs_outputs r.runs ∙ ap (λ s. run_outputs library flat s (map (input_values flat) xs)) (run_inits r);
-      all_states = λ xs outputs states r. runs_states r.runs ∙ ap (λ s. run_states library flat s (map (input_values flat) xs)) (run_inits r);
+      agrees = record {
+        forth = refines_by (library_machine library) (reading (input_values flat) (flat_machine library flat)) its_cycle its_start;
+        back = refines_by (reading (input_values flat) (flat_machine library flat)) (library_machine library) library_cycle
+            (λ s e. record { main = f.main; latches = (f.at).latches; are_latches = are; are = e ∙ sym inits_same });
+      };
+      gives = run_there library (sound_law library sound) f.main (f.at).latches are;
     }

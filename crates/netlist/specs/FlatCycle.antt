@@ -1,8 +1,9 @@
--- A clock cycle of a flat circuit: its outputs and next states, by evaluating its covers in its order. It is the cycle of the library's hierarchy, and so are runs.
-use Rattle.std.specs.Prelude.{◌≡◌, ℕ, Bool, List, [], ◌∷◌, length, map}
+-- A clock cycle of a flat circuit: its outputs and next states, by evaluating its covers in its order. Its machine is that of the library's hierarchy.
+use Rattle.std.specs.Prelude.{◌≡◌, ℕ, Bool, List, length, map}
+use Rattle.machine.specs.Machine.{Machine, GivesRun, Agrees, reading}
 use Rattle.netlist.specs.Circuits.{FlatValue, LibraryValue, FlatLatch, OutPort}
 use Rattle.netlist.specs.Evaluation.{net_value, flat_values}
-use Rattle.netlist.specs.Runs.{IsCycle, IsRun}
+use Rattle.netlist.specs.Runs.{library_machine}
 
 abbrev pub flat_outputs : LibraryValue → FlatValue → List Bool → List Bool → List Bool
 flat_outputs library flat x s = map (λ (o : OutPort). net_value x s (flat_values library flat x s) o.net) flat.outputs
@@ -13,24 +14,21 @@ flat_next library flat x s = map (λ (l : FlatLatch). net_value x s (flat_values
 abbrev pub flat_inits : FlatValue → List Bool
 flat_inits flat = map (λ (l : FlatLatch). l.init) flat.latches
 
--- the outputs of each cycle of a run from the states s, and the states after it
-abbrev pub run_outputs : LibraryValue → FlatValue → List Bool → List (List Bool) → List (List Bool)
-run_outputs library flat s [] = []
-run_outputs library flat s (x ∷ xs) = flat_outputs library flat x s ∷ run_outputs library flat (flat_next library flat x s) xs
+-- from the states s, one for each latch, under the values x of the inputs, in the circuit's order
+pub record IsFlatCycle (library : LibraryValue) (flat : FlatValue) (x s outputs next : List Bool) : Type 0 where
+  pub states : length s ≡ length flat.latches
+  pub outputs_are : outputs ≡ flat_outputs library flat x s
+  pub next_are : next ≡ flat_next library flat x s
 
-abbrev pub run_states : LibraryValue → FlatValue → List Bool → List (List Bool) → List (List Bool)
-run_states library flat s [] = []
-run_states library flat s (x ∷ xs) = flat_next library flat x s ∷ run_states library flat (flat_next library flat x s) xs
+-- The machine of a flat circuit: it takes values of the inputs in their order, and starts at the latches' inits.
+abbrev pub flat_machine : LibraryValue → FlatValue → Machine (List Bool) (List Bool) (List Bool)
+flat_machine library flat = record { IsStart = λ s. s ≡ flat_inits flat; HasCycle = IsFlatCycle library flat }
 
 -- the values of the flat circuit's inputs, by their names
 abbrev pub input_values : FlatValue → (List ℕ → Bool) → List Bool
 input_values flat x = map x flat.inputs
 
--- The library's cycle from any states, one for each latch, and its run from the latches' inits are the flat circuit's, and no others.
+-- The library's machine is the flat circuit's, and it has a run under any values.
 pub record HasCycles (library : LibraryValue) (flat : FlatValue) : Type 0 where
-  pub is_cycle : (x : List ℕ → Bool) (s : List Bool) → length s ≡ length flat.latches → IsCycle library x s (flat_outputs library flat (input_values flat x) s) (flat_next library flat (input_values flat x) s)
-  pub outputs : (x : List ℕ → Bool) (s outputs next : List Bool) → IsCycle library x s outputs next → outputs ≡ flat_outputs library flat (input_values flat x) s
-  pub states : (x : List ℕ → Bool) (s outputs next : List Bool) → IsCycle library x s outputs next → next ≡ flat_next library flat (input_values flat x) s
-  pub is_run : (xs : List (List ℕ → Bool)) → IsRun library xs (run_outputs library flat (flat_inits flat) (map (input_values flat) xs)) (run_states library flat (flat_inits flat) (map (input_values flat) xs))
-  pub all_outputs : (xs : List (List ℕ → Bool)) (outputs states : List (List Bool)) → IsRun library xs outputs states → outputs ≡ run_outputs library flat (flat_inits flat) (map (input_values flat) xs)
-  pub all_states : (xs : List (List ℕ → Bool)) (outputs states : List (List Bool)) → IsRun library xs outputs states → states ≡ run_states library flat (flat_inits flat) (map (input_values flat) xs)
+  pub agrees : Agrees (library_machine library) (reading (input_values flat) (flat_machine library flat))
+  pub gives : (xs : List (List ℕ → Bool)) → GivesRun (library_machine library) xs

@@ -1,5 +1,6 @@
--- The clock cycle of the source circuit, and its run over several clock cycles.
+-- The clock cycle of the source circuit, and its machine.
 use Rattle.std.specs.Prelude.{◌≡◌, ℕ, Bool, false, if◌then◌else◌, List, [], ◌∷◌, length, map, Option, Some, None}
+use Rattle.machine.specs.Machine.{Machine}
 use Rattle.netlist.specs.Circuits.{Path, model_at, Place, same_place, latch_at, is_latch, FlatOrder, LatchValue, ModelValue, LibraryValue}
 use Rattle.netlist.specs.Cycle.{Fits}
 
@@ -42,26 +43,13 @@ pub record IsCycle (library : LibraryValue) (x : List ℕ → Bool) (s outputs n
   pub outputs_are : outputs ≡ map (value []) main.outputs
   pub next_are : next ≡ next_states library value latches
 
--- Clock cycles from the states s, under the main inputs' values in each: each hands its next states on. They give the outputs of each cycle, and the states after it.
-pub data Runs (library : LibraryValue) : List Bool → List (List ℕ → Bool) → List (List Bool) → List (List Bool) → Type 0 where
-  stops : {s : List Bool} → Runs library s [] [] []
-  steps : {s : List Bool} (x : List ℕ → Bool) (xs : List (List ℕ → Bool)) (outputs next : List Bool) (all_outputs states : List (List Bool))
-      → IsCycle library x s outputs next → Runs library next xs all_outputs states → Runs library s (x ∷ xs) (outputs ∷ all_outputs) (next ∷ states)
-
--- a run starts at the latches' inits
-pub record IsRun (library : LibraryValue) (xs : List (List ℕ → Bool)) (outputs states : List (List Bool)) : Type 0 where
+-- the latches' inits
+pub record AreInits (library : LibraryValue) (states : List Bool) : Type 0 where
   pub main : ModelValue
   pub latches : List Place
   pub are_latches : AreLatches library main latches
-  pub runs : Runs library (inits_of library latches) xs outputs states
+  pub are : states ≡ inits_of library latches
 
--- there is a cycle from these states under these values, and a run under these
-pub record HasACycle (library : LibraryValue) (x : List ℕ → Bool) (s : List Bool) : Type 0 where
-  pub outputs : List Bool
-  pub next : List Bool
-  pub is : IsCycle library x s outputs next
-
-pub record HasARun (library : LibraryValue) (xs : List (List ℕ → Bool)) : Type 0 where
-  pub outputs : List (List Bool)
-  pub states : List (List Bool)
-  pub is : IsRun library xs outputs states
+-- The machine of a library: it takes values of the main inputs, by their names, and starts at the latches' inits.
+abbrev pub library_machine : LibraryValue → Machine (List ℕ → Bool) (List Bool) (List Bool)
+library_machine library = record { IsStart = AreInits library; HasCycle = IsCycle library }

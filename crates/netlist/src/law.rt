@@ -24,7 +24,7 @@ pub fn cycle_law(library: &Library)
 /// gives the values that fit. If the library is sound, its cycles and runs are exactly those of the flat circuit.
 ///
 /// The call does nothing: its contract is the law.
-#[tactic(auto, using(crate::proofs::EvaluateLemmas::flat_evaluates, crate::proofs::EvaluateLemmas::flat_cycles))]
+#[tactic(auto, using(crate::proofs::EvaluateLemmas::flat_evaluates))]
 pub fn flat_law(library: &Library, flat: &Flat)
     ensures values { IsFlat library.now flat.now → HasValues library.now flat.now }
     ensures cycles { IsSound library.now → IsFlat library.now flat.now → HasCycles library.now flat.now }

@@ -1,10 +1,10 @@
 //! The host: a pack whose parameters change.
 ghost use Rattle.std.specs.Prelude.{◌≡◌, ◌+◌, ◌<◌, Bool, List, [], length, IfOk, OnOk, OnErr};
 ghost use Rattle.tl_io.specs.Sink.{IsPut};
-ghost use Rattle.tl_io.specs.Writes.{written, writes_from};
+ghost use Rattle.tl_io.specs.Writes.{writes_from};
 ghost use Rattle.port_bank.specs.Seen.{bank_seen};
 ghost use Rattle.port_bank.specs.Send.{Plays};
-ghost use Rattle.port_bank.specs.Image.{Holds};
+ghost use Rattle.port_bank.specs.Image.{Holds, KeepsHolding};
 ghost use Rattle.port_bank.specs.Moves.{IsLeft, KeepsPlaces, LosesPlace};
 ghost use Rattle.ppc_pack.specs.Pack.{IsConf, HasOneConf, inits_of};
 ghost use Rattle.run_text.specs.EventValue.{event_value};
@@ -97,7 +97,8 @@ impl Host {
     ) -> Result<(), PortFault>
         ensures sent { OnOk result (HasSent (event_value event.now) self.now (bank_seen P.port_seen bank.old) (bank_seen P.port_seen bank.new)) }
         ensures lost { OnErr result (HasLost (event_value event.now) self.now (bank_seen P.port_seen bank.old) (bank_seen P.port_seen bank.new)) }
-        ensures holds { OnOk result ((before : SpecialiserValue) → IsHostEvent (event_value event.now) before self.now → Holds before.state.config (bank_seen P.port_seen bank.old) → Holds self.now.state.config (bank_seen P.port_seen bank.new)) }
+        ensures holds { OnOk result ((before : SpecialiserValue) → IsHostEvent (event_value event.now) before self.now
+            → Holds before.state.config (bank_seen P.port_seen bank.old) → Holds self.now.state.config (bank_seen P.port_seen bank.new)) }
         ensures left { IsLeft (bank_seen P.port_seen bank.old) (bank_seen P.port_seen bank.new) result }
         ensures places { OnOk result (KeepsPlaces (bank_seen P.port_seen bank.old) (bank_seen P.port_seen bank.new)) }
         ensures lost_place { OnErr result (LosesPlace (bank_seen P.port_seen bank.old) (bank_seen P.port_seen bank.new)) }
@@ -111,7 +112,7 @@ impl Host {
     // Sends the writes of the last event that had some.
     fn send_writes<P: ConfigPort>(&self, bank: &mut PortBank<P>) -> Result<(), PortFault>
         ensures plays { Plays self.now.state.config self.now.writes (bank_seen P.port_seen bank.old) (bank_seen P.port_seen bank.new) result }
-        ensures holds { OnOk result ((before : List Bool) → Holds before (bank_seen P.port_seen bank.old) → self.now.state.config ≡ written before self.now.writes → Holds self.now.state.config (bank_seen P.port_seen bank.new)) }
+        ensures holds { OnOk result (KeepsHolding self.now.state.config self.now.writes (bank_seen P.port_seen bank.old) (bank_seen P.port_seen bank.new)) }
         ensures left { IsLeft (bank_seen P.port_seen bank.old) (bank_seen P.port_seen bank.new) result }
         ensures places { OnOk result (KeepsPlaces (bank_seen P.port_seen bank.old) (bank_seen P.port_seen bank.new)) }
         ensures lost_place { OnErr result (LosesPlace (bank_seen P.port_seen bank.old) (bank_seen P.port_seen bank.new)) }

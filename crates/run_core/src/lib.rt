@@ -13,9 +13,9 @@
 #![tactic(auto)]
 
 mod host;
-mod machine;
+mod script_machine;
 mod step_err;
 
 pub use host::Host;
-pub use machine::Machine;
+pub use script_machine::Machine;
 pub use step_err::StepErr;

@@ -1,6 +1,7 @@
 -- A worked example of runs: a latch that toggles.
 use Rattle.netlist.proofs.Common.{◌≡◌, ℕ, zero, suc, Bool, true, false, not, List, [], ◌∷◌, codes, map, bytes_eq, Some, None, refl, sym, ap, ap₂, ◌∙◌, subst, if◌then◌else◌, slice_get, false≢true, none-some, same_Some, CoverValue, LibraryValue, none}
-use Rattle.netlist.specs.{Zero, Cover, Latch, LatchValue, cover_value, ModelValue, Path, body_at, subckts_of, model_at, is_input, IsMainInput, Place, flat, Fits, AreLatches, inits_of, state_of, IsCycle, stops, steps, IsRun}
+use Rattle.netlist.specs.{Zero, Cover, Latch, LatchValue, cover_value, ModelValue, Path, body_at, subckts_of, model_at, is_input, IsMainInput, Place, flat, Fits, AreLatches, inits_of, state_of, IsCycle, library_machine}
+use Rattle.machine.specs.Machine.{stops, steps, IsRun}
 use Rattle.netlist.proofs.PlaceLemmas.{inside}
 
 -- .model toggle / .outputs q / .names q d / 0 1 / .latch d q 1
@@ -75,10 +76,9 @@ cycle : (x : List ℕ → Bool) (s : Bool) → IsCycle library x (s ∷ []) (s �
 cycle x s = record { main = toggle; latches = latches; are_latches = are_latches; states = refl; value = value s; fits = fits x s; outputs_are = refl; next_are = refl }
 
 -- Over two cycles the output is 1 and then 0, and the states after them are 0 and 1.
-run : (x y : List ℕ → Bool) → IsRun library (x ∷ y ∷ []) ((true ∷ []) ∷ (false ∷ []) ∷ []) ((false ∷ []) ∷ (true ∷ []) ∷ [])
+run : (x y : List ℕ → Bool) → IsRun (library_machine library) (x ∷ y ∷ []) ((true ∷ []) ∷ (false ∷ []) ∷ []) ((false ∷ []) ∷ (true ∷ []) ∷ [])
 run x y = record {
-  main = toggle;
-  latches = latches;
-  are_latches = are_latches;
+  start = true ∷ [];
+  starts = record { main = toggle; latches = latches; are_latches = are_latches; are = refl };
   runs = steps x (y ∷ []) (true ∷ []) (false ∷ []) ((false ∷ []) ∷ []) ((true ∷ []) ∷ []) (cycle x true) (steps y [] (false ∷ []) (true ∷ []) [] [] (cycle y false) stops);
 }

@@ -62,7 +62,8 @@ impl Machine {
         ensures params { IfOk result (λ machine. machine.host.state.params ≡ inits_of pack.params) }
         ensures config { IfOk result (λ machine. IsConf pack (inits_of pack.params) machine.host.state.config) }
         ensures writes { IfOk result (λ machine. machine.host.writes ≡ []) }
-        ensures sim { IfOk result (λ machine. machine.sim ≡ record { template = template; shape = shape; outputs = replicate (length template.outputs) false; states = inits.now }) }
+        ensures sim { IfOk result (λ machine. machine.sim
+            ≡ record { template = template; shape = shape; outputs = replicate (length template.outputs) false; states = inits.now }) }
 
         // For any values of the parameters exactly one configuration exists.
         ensures one { (given : List Bool) → length given ≡ length pack.params → HasOneConf pack given }
@@ -85,7 +86,8 @@ impl Machine {
     /// [`StepErr::WriteFault`] only if the sink's count of faults rose. A prefix of the line is then written.
     pub fn header<O: Sink>(&mut self, out: &mut O) -> Result<(), StepErr>
         ensures same { self.new ≡ self.old }
-        ensures put { IsPut (O.seen out.old) (header_line (length self.old.sim.template.luts) self.old.sim.template.bits self.old.sim.template.depth) (O.seen out.new) result }
+        ensures put { IsPut (O.seen out.old)
+            (header_line (length self.old.sim.template.luts) self.old.sim.template.bits self.old.sim.template.depth) (O.seen out.new) result }
         ensures err { OnErr result (result ≡ Err StepErr.WriteFault) }
     {
         self.host.put_header(self.luts, self.depth, out)?;

@@ -1,7 +1,7 @@
 use Rattle.std.proofs.Common.{ap}
 use Rattle.std.proofs.lemmas.Result.{err_from_is_err_and}
 use Rattle.run_core.specs.Events.{MachineValue}
-use Rattle.run_core.proofs.machine.Machine.step.Goals as goal
+use Rattle.run_core.proofs.script_machine.Machine.step.Goals as goal
 
 pub returns-in_err-put-clause-holds : goal.returns-in_err-put-clause-holds
 returns-in_err-put-clause-holds g c =

@@ -1,0 +1,2 @@
+-- What public clauses say.
+pub mod Machine
