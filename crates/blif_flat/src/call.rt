@@ -1,7 +1,9 @@
 //! Flattening.
 ghost use Rattle.std.specs.Prelude.{◌≡◌, ◌<◌, ◌^◌, Some, IfOk, IfErr, length, map, slice_get};
 ghost use Rattle.netlist.specs.ShortPorts.{HasShortPorts};
-ghost use Rattle.blif_flat.specs.{OrMemory, IsWellFormed, refusal_of, IsFault, HasOneFault, HasNoFault, IsWithinBounds, IsLight, IsChecked, IsFlat, HasValues, HasOneFlat, HasCycles, HasOneCycle, IsSound, ports_value, model_names};
+ghost use Rattle.blif_flat.specs.Bodies.Conditions.{IsIndexed};
+ghost use Rattle.blif_flat.specs.{OrMemory, IsWellFormed, IsFault, HasOneFault, HasNoFault, IsWithinBounds, IsLight, IsChecked, IsFlat, HasValues, HasOneFlat, HasCycles, HasOneCycle, IsSound};
+ghost use Rattle.blif_flat.specs.{refusal_of};
 
 use crate::circuit::connect::connect;
 use crate::clock::clock_check::check_clocks;
@@ -36,11 +38,9 @@ fn flat_circuit(
     index: &ModelIndex,
     ports: &[Ports],
 ) -> Result<Flat, FlatErr>
-    requires formed { IsWellFormed library.now }
+    requires indexed { IsIndexed library.now index.now.names ports.now }
     requires short { HasShortPorts library.now }
     requires checked { IsChecked library.now }
-    requires names { index.now.names ≡ model_names library.now.models }
-    requires ports { ports.now ≡ map ports_value library.now.models }
     ensures flat { IfOk result (λ flat. IsFlat library.now flat) }
     ensures sound { IfOk result (λ flat. IsSound library.now) }
     ensures clean { IfOk result (λ flat. HasNoFault library.now) }

@@ -51,37 +51,27 @@ impl Reported for FlatErr {
 
     fn refusal(self) -> Option<Refusal> {
         match self {
-            FlatErr::UnknownModel(model, line, name) => Some(Refusal::new(
-                "F1",
-                "UnknownModel",
-                Details::Located(model, line, name),
-            )),
+            FlatErr::UnknownModel(model, line, name) => {
+                Some(Refusal::located("F1", "UnknownModel", model, line, name))
+            }
             FlatErr::RecursiveModel(chain) => Some(Refusal::new(
                 "F2",
                 "RecursiveModel",
                 Details::Listed(chain),
             )),
-            FlatErr::UnknownFormal(model, line, name) => Some(Refusal::new(
-                "F3",
-                "UnknownFormal",
-                Details::Located(model, line, name),
-            )),
-            FlatErr::Unconnected(model, line, name) => Some(Refusal::new(
-                "F4",
-                "Unconnected",
-                Details::Located(model, line, name),
-            )),
+            FlatErr::UnknownFormal(model, line, name) => {
+                Some(Refusal::located("F3", "UnknownFormal", model, line, name))
+            }
+            FlatErr::Unconnected(model, line, name) => {
+                Some(Refusal::located("F4", "Unconnected", model, line, name))
+            }
             FlatErr::TooLarge => Some(Refusal::new("L2", "TooLarge", Details::Nothing)),
-            FlatErr::DoublyDriven(model, line, name) => Some(Refusal::new(
-                "F5",
-                "DoublyDriven",
-                Details::Located(model, line, name),
-            )),
-            FlatErr::Undriven(model, line, name) => Some(Refusal::new(
-                "F6",
-                "Undriven",
-                Details::Located(model, line, name),
-            )),
+            FlatErr::DoublyDriven(model, line, name) => {
+                Some(Refusal::located("F5", "DoublyDriven", model, line, name))
+            }
+            FlatErr::Undriven(model, line, name) => {
+                Some(Refusal::located("F6", "Undriven", model, line, name))
+            }
             FlatErr::SecondClock(first, second) => Some(Refusal::new(
                 "F7",
                 "SecondClock",

@@ -1,5 +1,5 @@
 -- What a text denotes, the reader reads.
-use Rattle.blif_read.proofs.Common.{◌≡◌, ℕ, ◌<◌, Bool, true, List, [], ◌∷◌, ◌++◌, length, map, Some, None, Ok, refl, sym, ap, ◌∙◌, subst, arith, append_assoc, append-nil, cond-false, DuplicateModel, Body, Cover, Latch, Subckt, Command, CoverValue, RowValue, ModelValue, LibraryValue, Ports, input_ports, output_ports, clock_ports, ports_of, StatementValue, AreOnce, AreRows, names_in, IsCoverLine, AreCommands, IsModel, AreModels, Denotes, has, ports_fault, fault_by, State, ModelRead, with_command, flushed, ended, context, with_ports, ports_read, body_read, next_by, steps, library_at_end, finished, lines_read, text_read, fresh, rules, cond, eqb, Keyword, IsRow, row_of, mixed_fault, ◌+◌, ◌-◌, false, ltb, take, get_or, bytes_eq, codes, Option, inl, inr, length-append, position_or_len, cond-true, lt-ltb, ne_eqb, eq-eqb, and_from, or_from, not_from_false, false_from_ne_true, bytes_eq-Decides, In, bit_of, length-map, Cell, Zero, Pair, SubcktValue, alone, behind, cell_character, output_token, IsLatch, plain, with_init, with_control, whole, Starts, one, zero_, Controls, nil, net, connection_token, IsConnection, IsSubckt, formals, cells_of, init_fault, latch_fault, connection_of, connections_fault, subckt_fault, names_fault, cover_of, control_of, init_of, latch_of, pairs_of, subckt_of, not_in_both, has_in}
+use Rattle.blif_read.proofs.Common.{◌≡◌, ℕ, ◌<◌, Bool, true, List, [], ◌∷◌, ◌++◌, length, map, Some, None, Ok, refl, sym, ap, ◌∙◌, subst, arith, append_assoc, append-nil, cond-false, DuplicateModel, Body, Cover, Latch, Subckt, Command, CoverValue, RowValue, ModelValue, LibraryValue, Ports, input_ports, output_ports, clock_ports, ports_of, StatementValue, AreOnce, AreRows, names_in, IsCoverLine, AreCommands, IsModel, AreModels, Denotes, has, ports_fault, fault_by, State, ModelRead, with_command, flushed, ended, context, with_ports, ports_read, body_read, next_by, steps, library_at_end, finished, lines_read, text_read, fresh, rules, cond, eqb, Keyword, IsRow, row_of, mixed_fault, false, ltb, take, get_or, bytes_eq, codes, Option, inl, inr, length-append, position_or_len, cond-true, lt-ltb, ne_eqb, eq-eqb, and_from, or_from, not_from_false, false_from_ne_true, bytes_eq-Decides, In, bit_of, length-map, Cell, Zero, Pair, SubcktValue, alone, behind, cell_character, output_token, IsLatch, plain, with_init, with_control, whole, Starts, one, zero_, Controls, nil, net, connection_token, IsConnection, IsSubckt, formals, cells_of, init_fault, latch_fault, connection_of, connections_fault, subckt_fault, names_fault, cover_of, control_of, init_of, latch_of, pairs_of, subckt_of, not_in_both, has_in}
 use Rattle.blif_read.proofs.PortLemmas.{keyword_for, ports_line, which_ports, own_names, names_ports, skipped, rows_skipped, ports_grown, ports_keep, ports_commanded, ports_flushed, row_keyword}
 use Rattle.std.proofs.Math.Seq.{take-append_seam, drop-append-add, get_or-append_seam}
 use Rattle.netlist.specs.declared.latch.Latch.{Latch as LatchValue}

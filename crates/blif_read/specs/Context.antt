@@ -2,7 +2,7 @@
 -- Each is a recursion on the earlier statements, the nearest first.
 use Rattle.std.specs.Prelude.{ℕ, ◌-◌, ◌==◌, Bool, true, false, not, ◌&&◌, if◌then◌else◌, List, [], ◌∷◌, ◌++◌, length, Option, Some, None}
 use Rattle.std.specs.Option.{option_map}
-use Rattle.blif_read.specs.Words.{bit_of, Cell, Zero, One, Any, Keyword, Model, Inputs, Outputs, Clock, Names, Latch, Subckt, End, Unknown, Plain, Ports, input_ports, output_ports, clock_ports}
+use Rattle.blif_read.specs.Words.{bit_of, Cell, Zero, One, Any, Keyword, Model, Names, End, Plain, Ports, input_ports, output_ports, clock_ports}
 use Rattle.blif_read.specs.Statement.{StatementValue}
 use Rattle.blif_read.specs.Denotes.{port_names}
 
@@ -52,14 +52,7 @@ row_place words place = option_map (λ (p : CoverPlace). record { inputs = p.inp
 abbrev pub place_after : Keyword → List (List ℕ) → Option CoverPlace → Option CoverPlace
 place_after Names names place = Some (record { inputs = length names - 1; value = None })
 place_after Plain words place = row_place words place
-place_after Model words place = None
-place_after Inputs words place = None
-place_after Outputs words place = None
-place_after Clock words place = None
-place_after Latch words place = None
-place_after Subckt words place = None
-place_after End words place = None
-place_after Unknown words place = None
+place_after keyword words place = None
 
 abbrev pub cover_place : List StatementValue → Option CoverPlace
 cover_place [] = None
@@ -69,14 +62,7 @@ cover_place (s ∷ earlier) = place_after s.keyword s.arguments (cover_place ear
 abbrev pub open_after : Keyword → Bool → Bool
 open_after Model is_open = true
 open_after End is_open = false
-open_after Inputs is_open = is_open
-open_after Outputs is_open = is_open
-open_after Clock is_open = is_open
-open_after Names is_open = is_open
-open_after Latch is_open = is_open
-open_after Subckt is_open = is_open
-open_after Unknown is_open = is_open
-open_after Plain is_open = is_open
+open_after keyword is_open = is_open
 
 abbrev pub is_open : List StatementValue → Bool
 is_open [] = false
@@ -85,15 +71,7 @@ is_open (s ∷ earlier) = open_after s.keyword (is_open earlier)
 -- the names of the models that began
 abbrev pub models_after : Keyword → List (List ℕ) → List (List ℕ) → List (List ℕ)
 models_after Model names models = models ++ names
-models_after Inputs names models = models
-models_after Outputs names models = models
-models_after Clock names models = models
-models_after Names names models = models
-models_after Latch names models = models
-models_after Subckt names models = models
-models_after End names models = models
-models_after Unknown names models = models
-models_after Plain names models = models
+models_after keyword names models = models
 
 abbrev pub model_names : List StatementValue → List (List ℕ)
 model_names [] = []
@@ -103,14 +81,7 @@ model_names (s ∷ earlier) = models_after s.keyword s.arguments (model_names ea
 abbrev pub ports_after : Ports → Keyword → List (List ℕ) → List (List ℕ) → List (List ℕ)
 ports_after p Model names ports = []
 ports_after p End names ports = []
-ports_after p Inputs names ports = ports ++ port_names p Inputs names
-ports_after p Outputs names ports = ports ++ port_names p Outputs names
-ports_after p Clock names ports = ports ++ port_names p Clock names
-ports_after p Names names ports = ports ++ port_names p Names names
-ports_after p Latch names ports = ports ++ port_names p Latch names
-ports_after p Subckt names ports = ports ++ port_names p Subckt names
-ports_after p Unknown names ports = ports ++ port_names p Unknown names
-ports_after p Plain names ports = ports ++ port_names p Plain names
+ports_after p keyword names ports = ports ++ port_names p keyword names
 
 abbrev pub open_ports : Ports → List StatementValue → List (List ℕ)
 open_ports p [] = []

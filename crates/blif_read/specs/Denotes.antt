@@ -34,13 +34,7 @@ port_names output_ports keyword.Clock names = []
 port_names clock_ports keyword.Inputs names = []
 port_names clock_ports keyword.Outputs names = []
 port_names clock_ports keyword.Clock names = names
-port_names ports keyword.Model names = []
-port_names ports keyword.Names names = []
-port_names ports keyword.Latch names = []
-port_names ports keyword.Subckt names = []
-port_names ports keyword.End names = []
-port_names ports keyword.Unknown names = []
-port_names ports keyword.Plain names = []
+port_names ports other names = []
 
 -- the names of all `.inputs` lines in order, and likewise of `.outputs` and `.clock`
 abbrev pub names_in : Ports → List StatementValue → List (List ℕ)

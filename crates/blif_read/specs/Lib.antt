@@ -12,3 +12,4 @@ pub mod Size
 pub mod Statement
 -- What only bodies are compared with.
 pub mod Reading
+pub mod Answers

@@ -1,7 +1,7 @@
 -- The refusal of a text: of its lines, else that of the first logical line that has one, else that it has no model.
 use Rattle.std.specs.Prelude.{ℕ, Bool, true, false, List, [], ◌∷◌, Option, Some, None, Result, Ok, Err, if◌then◌else◌}
 use Rattle.std.specs.List.{list_any}
-use Rattle.blif_read.specs.Words.{LineValue, lines_of, TextErr, BlifErr, BadByte, TrailingSlash, NoModel, Memory, Keyword, Model, Inputs, Outputs, Clock, Names, Latch, Subckt, End, Unknown, Plain}
+use Rattle.blif_read.specs.Words.{LineValue, lines_of, TextErr, BlifErr, BadByte, TrailingSlash, NoModel, Memory, Keyword, Model}
 use Rattle.tl_text.specs.declared.text_err.TextErr.TheVariants as text
 use Rattle.blif_read.specs.Statement.{StatementValue, statements}
 use Rattle.blif_read.specs.Context.{context_of}
@@ -14,15 +14,7 @@ first_fault earlier (s ∷ ss) = or_later (line_fault (context_of earlier) s) (f
 
 abbrev pub is_model_keyword : Keyword → Bool
 is_model_keyword Model = true
-is_model_keyword Inputs = false
-is_model_keyword Outputs = false
-is_model_keyword Clock = false
-is_model_keyword Names = false
-is_model_keyword Latch = false
-is_model_keyword Subckt = false
-is_model_keyword End = false
-is_model_keyword Unknown = false
-is_model_keyword Plain = false
+is_model_keyword other = false
 
 abbrev pub has_model : List StatementValue → Bool
 has_model ss = list_any (λ (s : StatementValue). is_model_keyword s.keyword) ss

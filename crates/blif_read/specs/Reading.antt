@@ -143,9 +143,7 @@ model_after keyword.Clock line words r = ports_read clock_ports words r
 model_after keyword.Names line words r = names_read line words r
 model_after keyword.Latch line words r = body_read line (Latch (latch_of words)) r
 model_after keyword.Subckt line words r = body_read line (Subckt (subckt_of words)) r
-model_after keyword.Model line words r = r
-model_after keyword.End line words r = r
-model_after keyword.Unknown line words r = r
+model_after other line words r = r
 
 -- the state with a line read by the open model
 abbrev pub line_read : Keyword → State → ℕ → List (List ℕ) → State
@@ -208,9 +206,7 @@ model_line_fault keyword.Clock r number words = ports_fault number r.model.clock
 model_line_fault keyword.Names r number words = names_fault number words
 model_line_fault keyword.Latch r number words = latch_fault number words
 model_line_fault keyword.Subckt r number words = subckt_fault number words
-model_line_fault keyword.Model r number words = None
-model_line_fault keyword.End r number words = None
-model_line_fault keyword.Unknown r number words = None
+model_line_fault other r number words = None
 
 abbrev pub inside_fault : Keyword → Option ModelRead → ℕ → List (List ℕ) → Option BlifErr
 inside_fault k None number words = Some (OutsideModel number)

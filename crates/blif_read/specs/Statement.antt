@@ -27,15 +27,7 @@ keyword_of word =
 
 abbrev pub arguments_of : Keyword → List ℕ → List (List ℕ) → List (List ℕ)
 arguments_of Plain word rest = word ∷ rest
-arguments_of Model word rest = rest
-arguments_of Inputs word rest = rest
-arguments_of Outputs word rest = rest
-arguments_of Clock word rest = rest
-arguments_of Names word rest = rest
-arguments_of Latch word rest = rest
-arguments_of Subckt word rest = rest
-arguments_of End word rest = rest
-arguments_of Unknown word rest = rest
+arguments_of keyword word rest = rest
 
 abbrev pub statement_at : ℕ → List (List ℕ) → StatementValue
 statement_at number [] = record { number = number; keyword = Plain; arguments = [] }

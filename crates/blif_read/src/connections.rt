@@ -2,6 +2,7 @@
 ghost use Rattle.std.specs.Prelude.{◌≡◌, ◌==◌, ◌<◌, ◌++◌, [], length, true, false, None, Some, MatchResult, IfOk, position};
 ghost use Rattle.blif_read.specs.declared.blif_err.BlifErr.TheVariants.{BadConnection};
 ghost use Rattle.blif_read.specs.LineFault.{connection_of, split_at, repeats_formal, with_formal, connections_fault, subckt_fault};
+ghost use Rattle.blif_read.specs.Answers.{ReadsUnless};
 ghost use Rattle.blif_read.specs.Refusals.{refusal_of};
 ghost use Rattle.tl_fault.specs.OrMemory.{OrMemory};
 ghost use Rattle.blif_read.specs.Reading.{put_pair, pairs_of, subckt_of};
@@ -58,7 +59,9 @@ fn add_pair(
     word: &[u8],
 ) -> Result<(), BlifErr>
     ensures { MatchResult result
-        (λ _. (repeats_formal formals.old (connection_of word.now) ≡ false) × (formals.new ≡ with_formal formals.old (connection_of word.now)) × (pairs.new.items ≡ pairs.old.items ++ put_pair (connection_of word.now) []))
+        (λ _. (repeats_formal formals.old (connection_of word.now) ≡ false)
+        × (formals.new ≡ with_formal formals.old (connection_of word.now))
+        × (pairs.new.items ≡ pairs.old.items ++ put_pair (connection_of word.now) []))
         (OrMemory refusal_of (λ e. (repeats_formal formals.old (connection_of word.now) ≡ true) × (e ≡ BadConnection number))) }
 {
     let Some(pair) = connection(alloc, word)? else {
@@ -74,9 +77,7 @@ fn add_pair(
 
 // The connections that words are.
 fn pairs(alloc: Global, key: TextKey, number: u32, words: &[Name]) -> Result<Vec<Pair>, BlifErr>
-    ensures { MatchResult result
-        (λ pairs. (connections_fault number [] words.now ≡ None) × (pairs.items ≡ pairs_of words.now))
-        (OrMemory refusal_of (λ e. connections_fault number [] words.now ≡ Some e)) }
+    ensures { ReadsUnless (connections_fault number [] words.now) (λ pairs. pairs.items ≡ pairs_of words.now) result }
 {
     let mut formals = NameIndex::new(alloc, key);
     let mut pairs = Vec::new(alloc);
@@ -93,7 +94,7 @@ pub(crate) fn subckt_line(
     number: u32,
     mut words: Vec<Name>,
 ) -> Result<Subckt, BlifErr>
-    ensures { MatchResult result (λ subckt. (subckt_fault number words.items ≡ None) × (subckt ≡ subckt_of words.items)) (OrMemory refusal_of (λ e. subckt_fault number words.items ≡ Some e)) }
+    ensures { ReadsUnless (subckt_fault number words.items) (λ subckt. subckt ≡ subckt_of words.items) result }
 {
     if words.is_empty() {
         return Err(BlifErr::Arity(number));

@@ -1,9 +1,10 @@
 //! The `.latch` lines.
-ghost use Rattle.std.specs.Prelude.{◌≡◌, Some, List, ℕ, Option, ◌<◌, length, None, MatchResult};
+ghost use Rattle.std.specs.Prelude.{◌≡◌, Some, Option, ◌<◌, length, None, MatchResult};
 ghost use Rattle.blif_read.specs.LineFault.{init_fault, kind_fault, latch_fault};
+ghost use Rattle.blif_read.specs.Answers.{ReadsUnless};
 ghost use Rattle.blif_read.specs.Refusals.{refusal_of};
 ghost use Rattle.tl_fault.specs.OrMemory.{OrMemory};
-ghost use Rattle.blif_read.specs.Reading.{control_of, init_of, latch_of};
+ghost use Rattle.blif_read.specs.Reading.{control_of, latch_of};
 
 use crate::blif_err::BlifErr;
 use netlist::Latch;
@@ -100,7 +101,7 @@ fn made(mut words: Vec<Name>) -> Latch
 
 /// The latch given by the words after `.latch`.
 pub(crate) fn latch_line(number: u32, words: Vec<Name>) -> Result<Latch, BlifErr>
-    ensures { MatchResult result (λ latch. (latch_fault number words.items ≡ None) × (latch ≡ latch_of words.items)) (OrMemory refusal_of (λ e. latch_fault number words.items ≡ Some e)) }
+    ensures { ReadsUnless (latch_fault number words.items) (λ latch. latch ≡ latch_of words.items) result }
 {
     check(number, &words)?;
     Ok(made(words))

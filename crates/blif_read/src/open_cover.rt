@@ -3,6 +3,7 @@ ghost use Rattle.std.specs.Prelude.{◌≡◌, [], length, None, Some, MatchResu
 ghost use Rattle.std.specs.Option.{option_map};
 ghost use Rattle.blif_read.specs.Context.{row_of};
 ghost use Rattle.blif_read.specs.LineFault.{mixed_fault, names_fault, row_fault, row_read_fault, same_bit};
+ghost use Rattle.blif_read.specs.Answers.{ReadsUnless};
 ghost use Rattle.blif_read.specs.Refusals.{refusal_of};
 ghost use Rattle.tl_fault.specs.OrMemory.{OrMemory};
 ghost use Rattle.blif_read.specs.Reading.{cover_of, place_of_cover, value_so_far, with_row as cover_with_row, with_row_words};
@@ -98,9 +99,8 @@ fn read_row(
     cover: OpenCover,
     words: &[Name],
 ) -> Result<OpenCover, BlifErr>
-    ensures { MatchResult result
-        (λ c. (row_read_fault number (value_so_far cover.cover) (row_of (length cover.cover.inputs) words.now) ≡ None) × (c ≡ with_row_words words.now cover))
-        (OrMemory refusal_of (λ e. row_read_fault number (value_so_far cover.cover) (row_of (length cover.cover.inputs) words.now) ≡ Some e)) }
+    ensures { ReadsUnless (row_read_fault number (value_so_far cover.cover) (row_of (length cover.cover.inputs) words.now))
+        (λ c. c ≡ with_row_words words.now cover) result }
 {
     let OpenCover { line, cover } = cover;
     let Some(row) = row_line(alloc, cover.inputs.len(), words)? else {
@@ -118,9 +118,7 @@ pub(crate) fn read_cover_row(
     cover: Option<OpenCover>,
     words: &[Name],
 ) -> Result<Option<OpenCover>, BlifErr>
-    ensures { MatchResult result
-        (λ c. (row_fault number (place_of_cover cover) words.now ≡ None) × (c ≡ option_map (with_row_words words.now) cover))
-        (OrMemory refusal_of (λ e. row_fault number (place_of_cover cover) words.now ≡ Some e)) }
+    ensures { ReadsUnless (row_fault number (place_of_cover cover) words.now) (λ c. c ≡ option_map (with_row_words words.now) cover) result }
 {
     match cover {
         None => Err(BlifErr::NotCommand(number)),

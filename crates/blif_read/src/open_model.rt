@@ -1,9 +1,8 @@
 //! A model whose lines are being read.
-ghost use Rattle.std.specs.Prelude.{◌≡◌, ◌++◌, Some, ◌∷◌, [], None, MatchResult, IfOk, OnOk};
+ghost use Rattle.std.specs.Prelude.{◌≡◌, ◌++◌, Some, ◌∷◌, [], None, IfOk, OnOk};
 ghost use Rattle.netlist.specs.declared.command.Body.TheVariants.{Latch as LatchBody, Subckt as SubcktBody};
 ghost use Rattle.blif_read.specs.LineFault.{latch_fault, names_fault, ports_fault, row_fault, subckt_fault};
-ghost use Rattle.blif_read.specs.Refusals.{refusal_of};
-ghost use Rattle.tl_fault.specs.OrMemory.{OrMemory};
+ghost use Rattle.blif_read.specs.Answers.{ReadsUnless};
 ghost use Rattle.blif_read.specs.Reading.{body_read, commands_with, flushed, fresh, latch_of, model_line_fault, names_read, place_of_cover, row_read, subckt_of};
 ghost use Rattle.blif_read.specs.Reading.{model_after as after};
 
@@ -35,7 +34,10 @@ impl Model for OpenModel {
 
     ghost Value = { ModelRead };
 
-    ghost view = { λ m. record { model = record { name = m.name; line = m.line; inputs = m.inputs; outputs = m.outputs; clocks = m.clocks; commands = m.commands.items }; cover = m.cover } };
+    ghost view = { λ m. record {
+      model = record { name = m.name; line = m.line; inputs = m.inputs; outputs = m.outputs; clocks = m.clocks; commands = m.commands.items };
+      cover = m.cover;
+    } };
 }
 
 // Appends the cover of whose rows none follow any more.
@@ -57,7 +59,8 @@ fn add_cover(commands: &mut Vec<Command>, cover: Option<OpenCover>) -> Result<()
 
 // Puts the last cover among the commands: no row of it follows any more.
 fn end_cover(model: &mut OpenModel) -> Result<(), AllocError>
-    ensures { OnOk result (model.new ≡ record { model = record model.old.model { commands = commands_with model.old.model.commands model.old.cover }; cover = None }) }
+    ensures { OnOk result (model.new
+        ≡ record { model = record model.old.model { commands = commands_with model.old.model.commands model.old.cover }; cover = None }) }
 {
     let cover = model.cover.take();
     add_cover(&mut model.commands, cover)
@@ -70,9 +73,7 @@ fn add_ports(
     number: u32,
     names: Vec<Name>,
 ) -> Result<(), BlifErr>
-    ensures { MatchResult result
-        (λ _. (ports_fault number ports.old names.items ≡ None) × (ports.new ≡ ports.old ++ names.items))
-        (OrMemory refusal_of (λ e. ports_fault number ports.old names.items ≡ Some e)) }
+    ensures { ReadsUnless (ports_fault number ports.old names.items) (λ _. ports.new ≡ ports.old ++ names.items) result }
 {
     let key = ports.key();
     let before = std::mem::replace(ports, PortList::new(alloc, key));
@@ -87,9 +88,7 @@ fn begin_cover(
     number: u32,
     names: Vec<Name>,
 ) -> Result<(), BlifErr>
-    ensures { MatchResult result
-        (λ _. (names_fault number names.items ≡ None) × (model.new ≡ names_read number names.items model.old))
-        (OrMemory refusal_of (λ e. names_fault number names.items ≡ Some e)) }
+    ensures { ReadsUnless (names_fault number names.items) (λ _. model.new ≡ names_read number names.items model.old) result }
 {
     end_cover(model)?;
     match open_cover(alloc, number, names) {
@@ -103,9 +102,7 @@ fn begin_cover(
 
 // Adds the row that a line's words are.
 fn add_row(alloc: Global, model: &mut OpenModel, number: u32, words: &[Name]) -> Result<(), BlifErr>
-    ensures { MatchResult result
-        (λ _. (row_fault number (place_of_cover model.old.cover) words.now ≡ None) × (model.new ≡ row_read words.now model.old))
-        (OrMemory refusal_of (λ e. row_fault number (place_of_cover model.old.cover) words.now ≡ Some e)) }
+    ensures { ReadsUnless (row_fault number (place_of_cover model.old.cover) words.now) (λ _. model.new ≡ row_read words.now model.old) result }
 {
     model.cover = read_cover_row(alloc, number, model.cover.take(), words)?;
     Ok(())
@@ -113,9 +110,7 @@ fn add_row(alloc: Global, model: &mut OpenModel, number: u32, words: &[Name]) ->
 
 // Adds the latch that a line's words are.
 fn add_latch(model: &mut OpenModel, number: u32, words: Vec<Name>) -> Result<(), BlifErr>
-    ensures { MatchResult result
-        (λ _. (latch_fault number words.items ≡ None) × (model.new ≡ body_read number (LatchBody (latch_of words.items)) model.old))
-        (OrMemory refusal_of (λ e. latch_fault number words.items ≡ Some e)) }
+    ensures { ReadsUnless (latch_fault number words.items) (λ _. model.new ≡ body_read number (LatchBody (latch_of words.items)) model.old) result }
 {
     end_cover(model)?;
     let latch = latch_line(number, words)?;
@@ -133,9 +128,8 @@ fn add_subckt(
     number: u32,
     words: Vec<Name>,
 ) -> Result<(), BlifErr>
-    ensures { MatchResult result
-        (λ _. (subckt_fault number words.items ≡ None) × (model.new ≡ body_read number (SubcktBody (subckt_of words.items)) model.old))
-        (OrMemory refusal_of (λ e. subckt_fault number words.items ≡ Some e)) }
+    ensures { ReadsUnless (subckt_fault number words.items)
+        (λ _. model.new ≡ body_read number (SubcktBody (subckt_of words.items)) model.old) result }
 {
     end_cover(model)?;
     let subckt = subckt_line(alloc, model.inputs.key(), number, words)?;
@@ -154,9 +148,8 @@ pub(crate) fn add_line(
     number: u32,
     words: Vec<Name>,
 ) -> Result<(), BlifErr>
-    ensures { MatchResult result
-        (λ _. (model_line_fault keyword model.old number words.items ≡ None) × (model.new ≡ after keyword number words.items model.old))
-        (OrMemory refusal_of (λ e. model_line_fault keyword model.old number words.items ≡ Some e)) }
+    ensures { ReadsUnless (model_line_fault keyword model.old number words.items)
+        (λ _. model.new ≡ after keyword number words.items model.old) result }
 {
     match keyword {
         Keyword::Plain => add_row(alloc, model, number, &words),

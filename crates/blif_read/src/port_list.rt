@@ -2,6 +2,7 @@
 ghost use Rattle.std.specs.Prelude.{◌≡◌, ◌∷◌, [], ◌++◌, false, None, Some, MatchResult, if◌then◌else◌};
 ghost use Rattle.blif_read.specs.declared.blif_err.BlifErr.TheVariants.{DuplicatePort};
 ghost use Rattle.blif_read.specs.LineFault.{has, ports_fault};
+ghost use Rattle.blif_read.specs.Answers.{ReadsUnless};
 ghost use Rattle.blif_read.specs.Refusals.{refusal_of};
 ghost use Rattle.tl_fault.specs.OrMemory.{OrMemory};
 
@@ -78,9 +79,7 @@ impl PortList {
         number: u32,
         names: Vec<Name>,
     ) -> Result<PortList, BlifErr>
-        ensures { MatchResult result
-            (λ list. (ports_fault number self names.items ≡ None) × (list ≡ self ++ names.items))
-            (OrMemory refusal_of (λ e. ports_fault number self names.items ≡ Some e)) }
+        ensures { ReadsUnless (ports_fault number self names.items) (λ list. list ≡ self ++ names.items) result }
     {
         let PortList {
             names: mut done,

@@ -52,7 +52,8 @@ pub fn read(alloc: Global, text: &[u8]) -> Result<Library, BlifErr>
 
     // The text denotes the library, and the library that a text denotes is answered, but for want of memory.
     ensures denoted { IfOk result (λ library. Denotes text.now library) }
-    ensures complete { (library : LibraryValue) → Denotes text.now library → MatchResult result (λ answer. answer ≡ library) (λ e. e ≡ BlifErr.Memory) }
+    ensures complete { (library : LibraryValue) → Denotes text.now library
+        → MatchResult result (λ answer. answer ≡ library) (λ e. e ≡ BlifErr.Memory) }
 
     // A refusal is the text's first one, and a text that has one gives no library.
     ensures fault { MatchResult result (λ _. read_fault text.now ≡ None) (OrMemory refusal_of (λ e. read_fault text.now ≡ Some e)) }

@@ -4,7 +4,8 @@ ghost use Rattle.std.specs.Option.{option_map};
 ghost use Rattle.tl_text.specs.LineValue.{AreLinesIn};
 ghost use Rattle.blif_read.specs.declared.keyword.Keyword.TheVariants as keyword_;
 ghost use Rattle.blif_read.specs.Statement.{statements};
-ghost use Rattle.blif_read.specs.LineFault.{end_fault, line_fault, model_fault};
+ghost use Rattle.blif_read.specs.LineFault.{line_fault, model_fault};
+ghost use Rattle.blif_read.specs.Answers.{ReadsUnless};
 ghost use Rattle.blif_read.specs.Refusals.{refusal_of};
 ghost use Rattle.tl_fault.specs.OrMemory.{OrMemory};
 ghost use Rattle.blif_read.specs.Reading.{context, end_line_fault, ended, fault_of, finished, inside_fault, library_at_end, library_read, model_after as after, next, next_by, steps};
@@ -65,9 +66,8 @@ fn new_name(
     number: u32,
     words: Vec<Name>,
 ) -> Result<Name, BlifErr>
-    ensures { MatchResult result
-        (λ name. (model_fault number names.old words.items ≡ None) × (words.items ≡ name ∷ []) × (names.new ≡ names.old ++ words.items))
-        (OrMemory refusal_of (λ e. model_fault number names.old words.items ≡ Some e)) }
+    ensures { ReadsUnless (model_fault number names.old words.items)
+        (λ name. (words.items ≡ name ∷ []) × (names.new ≡ names.old ++ words.items)) result }
 {
     let Some(name) = only(words) else {
         return Err(BlifErr::Arity(number));
@@ -81,9 +81,8 @@ fn new_name(
 
 // Begins a model, by the words behind `.model`.
 fn begin(alloc: Global, reader: &mut Reader, number: u32, words: Vec<Name>) -> Result<(), BlifErr>
-    ensures { MatchResult result
-        (λ _. (model_fault number reader.old.names words.items ≡ None) × (reader.new ≡ next_by keyword_.Model reader.old number words.items))
-        (OrMemory refusal_of (λ e. model_fault number reader.old.names words.items ≡ Some e)) }
+    ensures { ReadsUnless (model_fault number reader.old.names words.items)
+        (λ _. reader.new ≡ next_by keyword_.Model reader.old number words.items) result }
 {
     let name = new_name(alloc, &mut reader.names, number, words)?;
     close(reader)?;
@@ -93,9 +92,8 @@ fn begin(alloc: Global, reader: &mut Reader, number: u32, words: Vec<Name>) -> R
 
 // Ends the open model, by the words behind `.end`.
 fn end(reader: &mut Reader, number: u32, words: &[Name]) -> Result<(), BlifErr>
-    ensures { MatchResult result
-        (λ _. (end_line_fault reader.old.current number words.now ≡ None) × (reader.new ≡ next_by keyword_.End reader.old number words.now))
-        (OrMemory refusal_of (λ e. end_line_fault reader.old.current number words.now ≡ Some e)) }
+    ensures { ReadsUnless (end_line_fault reader.old.current number words.now)
+        (λ _. reader.new ≡ next_by keyword_.End reader.old number words.now) result }
 {
     if reader.current.is_none() {
         return Err(BlifErr::OutsideModel(number));
@@ -115,9 +113,8 @@ fn inside(
     number: u32,
     words: Vec<Name>,
 ) -> Result<(), BlifErr>
-    ensures { MatchResult result
-        (λ _. (inside_fault keyword reader.old.current number words.items ≡ None) × (reader.new ≡ record { names = reader.old.names; done = reader.old.done; current = option_map (after keyword number words.items) reader.old.current }))
-        (OrMemory refusal_of (λ e. inside_fault keyword reader.old.current number words.items ≡ Some e)) }
+    ensures { ReadsUnless (inside_fault keyword reader.old.current number words.items)
+        (λ _. reader.new ≡ record reader.old { current = option_map (after keyword number words.items) reader.old.current }) result }
 {
     let Some(mut model) = reader.current.take() else {
         return Err(BlifErr::OutsideModel(number));
@@ -130,9 +127,7 @@ fn inside(
 
 // Reads a line.
 fn step(alloc: Global, reader: &mut Reader, line: Statement) -> Result<(), BlifErr>
-    ensures { MatchResult result
-        (λ _. (line_fault (context reader.old) line ≡ None) × (reader.new ≡ next reader.old line))
-        (OrMemory refusal_of (λ e. line_fault (context reader.old) line ≡ Some e)) }
+    ensures { ReadsUnless (line_fault (context reader.old) line) (λ _. reader.new ≡ next reader.old line) result }
 {
     let Statement {
         number,

@@ -27,7 +27,7 @@ pub use Rattle.tl_fault.specs.OrMemory.{OrMemory}
 pub use Rattle.tl_piece.proofs.AddedLemmas.{added_as, added_twice, added_none, put_over}
 pub use Rattle.tl_piece.proofs.PartLemmas.{added_part, added_item}
 pub use Rattle.tl_piece.specs.Added.{IsAdded}
-pub use Rattle.tl_text.proofs.TextOfLemmas.{text_settled, lines_fault}
+pub use Rattle.tl_text.proofs.TextOfLemmas.{text_settled, lines_fault, text_read, text_refused}
 pub use Rattle.tl_text.specs.LineValue.{WordsLine, words_line, LineValue, token_bytes}
 pub use Rattle.tl_text.specs.declared.token.Token.{Token}
 pub use Rattle.cert_check.specs.CertText.{says_depth, says_claim, SaidLine, path_said, steps_said, Saying, says_path, small, number_of, in_front, numbers_of, depth_with, claim_with, path_with, saying_by, said_of, step_said, AreSaid, AreLinesOf, IsCertText, fits_at, first_misfit, IsMalformed, malformed_line, cert_err, HasOneReading, IsCertTextFault, IsMisfit, saying_value}

@@ -34,7 +34,8 @@ fn add_saying(
     saying: Saying,
 ) -> Result<(), CertErr>
     ensures { MatchResult result
-        (λ _. (steps_said steps.new.items ≡ steps_said steps.old.items ++ record { number = line; saying = saying_value saying } ∷ []) × (fits_at (1 + length (steps_said steps.old.items)) (Some (saying_value saying)) ≡ true))
+        (λ _. (steps_said steps.new.items ≡ steps_said steps.old.items ++ record { number = line; saying = saying_value saying } ∷ [])
+        × (fits_at (1 + length (steps_said steps.old.items)) (Some (saying_value saying)) ≡ true))
         (OrMemory refusal_of (λ e. (fits_at (1 + length (steps_said steps.old.items)) (Some (saying_value saying)) ≡ false) × (e ≡ Malformed line))) }
 {
     match saying {

@@ -1,10 +1,7 @@
 //! Reading the text of a certificate.
 ghost use Rattle.std.specs.Prelude.{◌≡◌, ◌≤◌, length, Ok, IfOk, IfErr};
 ghost use Rattle.tl_fault.specs.OrMemory.{OrMemory};
-ghost use Rattle.tl_text.specs.LineValue.{AreLinesIn};
-ghost use Rattle.tl_text.specs.Lines.{lines_of};
 ghost use Rattle.tl_text.specs.declared.logical_lines.TheConstants.{MOST_BYTES};
-ghost use Rattle.tl_text.specs.TextOf.{IsLinesFault};
 ghost use Rattle.cert_check.specs.CertText.{cert_err, IsCertText, IsCertTextFault, HasOneReading};
 ghost use Rattle.cert_check.specs.Refusals.{refusal_of};
 ghost use Rattle.cert_check.specs.WrittenText.{IsWritable};
@@ -13,7 +10,7 @@ use crate::cert_err::CertErr;
 use crate::cert_lines::read_lines;
 use crate::certificate::Certificate;
 use std::alloc::Global;
-use tl_text::{Line, TextErr, lines};
+use tl_text::{TextErr, lines};
 
 // The refusal of a certificate that stands for this fault of its lines.
 fn lines_err(error: TextErr) -> CertErr
@@ -23,19 +20,6 @@ fn lines_err(error: TextErr) -> CertErr
         TextErr::BadByte(line) => CertErr::BadByte(line),
         TextErr::TrailingSlash(line) => CertErr::TrailingSlash(line),
         TextErr::Memory => CertErr::Memory,
-    }
-}
-
-// The lines of a text.
-fn text_lines(alloc: Global, text: &[u8]) -> Result<Vec<Line>, CertErr>
-    requires { length text.now ≤ MOST_BYTES }
-    ensures lines { IfOk result (λ found. lines_of text.now ≡ Ok found.items) }
-    ensures within { IfOk result (λ found. AreLinesIn text.now found.items) }
-    ensures fault { IfErr result (OrMemory refusal_of (IsLinesFault cert_err text.now)) }
-{
-    match lines(alloc, text) {
-        Ok(found) => Ok(found),
-        Err(error) => Err(lines_err(error)),
     }
 }
 
@@ -56,7 +40,8 @@ pub fn read_cert(alloc: Global, text: &[u8]) -> Result<Certificate, CertErr>
     ensures fault { IfErr result (OrMemory refusal_of (IsCertTextFault text.now)) }
     ensures one_reading { HasOneReading text.now }
 {
-    let found = text_lines(alloc, text)?;
-    let cert = read_lines(alloc, text, &found)?;
-    Ok(cert)
+    match lines(alloc, text) {
+        Ok(found) => read_lines(alloc, text, &found),
+        Err(error) => Err(lines_err(error)),
+    }
 }

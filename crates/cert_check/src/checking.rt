@@ -43,7 +43,8 @@ fn take_step(
     ensures claims { OnOk result (claims.new.items ≡ slice_set claims.old.items step.now.node step.now.claim) }
     ensures size { OnOk result (length stamps.new.items ≡ node_count graph.now) }
     ensures used { OnOk result ((m : ℕ) → slice_index stamps.new.items m ≤ step.now.node) }
-    ensures fault { IfErr result (λ e. First (IsAnd graph.now step.now.node × (last < step.now.node)) (BadClaim step.now.line) (StepFault graph.now k (λ m. slice_index claims.old.items m) step.now ⊥ e) e) }
+    ensures fault { IfErr result (λ e. First (IsAnd graph.now step.now.node × (last < step.now.node)) (BadClaim step.now.line)
+        (StepFault graph.now k (λ m. slice_index claims.old.items m) step.now ⊥ e) e) }
 {
     if !is_and(graph, step.node) || step.node <= last {
         return Err(CertErr::BadClaim(step.line));

@@ -1,5 +1,5 @@
 -- A walk that comes on, and what is taken back where memory runs out.
-use Rattle.depth_first.proofs.Common.{◌≡◌, ℕ, suc, ◌-◌, ◌<◌, ◌≤◌, Option, List, [], ◌∷◌, ◌++◌, length, take, drop, reverse, Some, refl, sym, ap, ◌∙◌, subst, subst₂, append_assoc, length-append, take-append-drop, inl, inr, arith, slice_get, slice_set, take-append_seam, drop-append_seam, length-drop, length-reverse, reverse-append, same_Some, In, at_within, set_other, set_length, Edge, Frame, Mark, New, OnPath, Done, End, WalkValue, Followed, passes, stops_at, enters, hits, skips_over, seen, FramesValue, path_of, entered, first_of, advanced, finished, without_begun, renewed, forgotten, renewed_since, taken_back, AreMarks, AreKept, HasGrown, rules}
+use Rattle.depth_first.proofs.Common.{◌≡◌, ℕ, suc, ◌-◌, ◌<◌, ◌≤◌, Option, List, [], ◌∷◌, ◌++◌, length, take, drop, reverse, Some, Result, Ok, Err, IfOk, OnOk, OnErr, refl, sym, ap, ◌∙◌, subst, append_assoc, length-append, take-append-drop, inl, inr, arith, slice_get, slice_set, take-append_seam, drop-append_seam, length-drop, length-reverse, reverse-append, same_Some, In, at_within, set_other, set_length, Edge, Frame, Mark, New, OnPath, Done, End, WalkValue, Followed, passes, stops_at, enters, hits, skips_over, seen, FramesValue, path_of, entered, first_of, advanced, finished, without_begun, renewed, forgotten, renewed_since, taken_back, AreMarks, AreKept, HasGrown, rules}
 use Rattle.list_laws.proofs.Members.{In-append, In-right}
 use Rattle.depth_first.proofs.ClearLemmas.{forgotten-length, forgotten-get, first_others}
 
@@ -145,15 +145,14 @@ module _ (w v : FramesValue) (fit : AreMarks w.marks w.begun w.order (path_of w.
   seen_taken = grind (arith, value, count_back, begun_back, order_back)
 
   kept_taken : AreKept w taken
-  kept_taken = search (rules, count_back, marks_same, subst₂, marks_back, begun_back, order_back, fits_back)
+  kept_taken = search (rules, count_back, marks_same, begun_back, order_back, fits_back)
 
-  -- the state is seen as before, and its marks fit
-  module _ (begun order : ℕ) (u : FramesValue) (p : begun ≡ length w.begun) (q : order ≡ length w.order) (e : u ≡ taken_back begun order v) where
-    is_taken : u ≡ taken
-    is_taken = e ∙ ap (λ k. taken_back k order v) p ∙ ap (λ k. taken_back (length w.begun) k v) q
+  -- the answer of a walk, with the state as it was before where memory ran out: it is seen as before, and its marks fit
+  module _ (begun order : ℕ) (p : begun ≡ length w.begun) (q : order ≡ length w.order) (u : FramesValue) where
+    is_taken : u ≡ taken_back begun order v → u ≡ taken
+    is_taken e = e ∙ ap (λ k. taken_back k order v) p ∙ ap (λ k. taken_back (length w.begun) k v) q
 
-    pub seen_back : seen u ≡ seen w
-    seen_back = ap seen is_taken ∙ seen_taken
-
-    pub kept_back : AreKept w u
-    kept_back = subst (AreKept w) (sym is_taken) kept_taken
+    pub went_back : {T E : Type 0} (r found : Result T E) → r ≡ found → OnOk r (u ≡ v) → OnErr r (u ≡ taken_back begun order v) → (P : FramesValue → T → Type 0)
+        → IfOk found (P v) → IfOk r (P u) × (OnErr r (seen u ≡ seen w) × AreKept w u)
+    went_back (Ok x) found e same back P h = (subst (λ s. P s x) (sym same) (subst (λ y. IfOk y (P v)) (sym e) h), (tt, subst (AreKept w) (sym same) kept))
+    went_back (Err x) found e same back P h = (tt, (ap seen (is_taken back) ∙ seen_taken, subst (AreKept w) (sym (is_taken back)) kept_taken))

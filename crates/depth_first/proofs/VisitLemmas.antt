@@ -1,5 +1,5 @@
 -- The walk to the end of its stack, and the visit of a start.
-use Rattle.depth_first.proofs.Common.{◌≡◌, ℕ, ◌<◌, true, false, List, [], ◌∷◌, length, Option, Some, None, refl, sym, ap, ◌∙◌, subst, inl, inr, slice_get, is_some, true≢false, false≢true, none-some, In, set_length, Edge, End, Frame, New, OnPath, Done, IsSettled, ways_from, successors, Visited, ending_of, FramesValue, path_of, first_of, entered, AreMarks, AreKept, walk_work, MeetsLeft, PostsLeft, EntersLeft, ArePassed, IsGoing, IsLater, Stepped, Ran, seen, arith}
+use Rattle.depth_first.proofs.Common.{◌≡◌, ℕ, ◌<◌, true, false, List, [], ◌∷◌, length, Option, Some, None, refl, sym, ap, ◌∙◌, subst, inl, inr, slice_get, is_some, true≢false, false≢true, none-some, In, set_length, Edge, End, Frame, New, OnPath, Done, IsSettled, ways_from, successors, Visited, ending_of, FramesValue, path_of, first_of, entered, AreMarks, AreKept, walk_work, MeetsLeft, PostsLeft, EntersLeft, ArePassed, IsGoing, IsLater, Stepped, Ran, CanVisit, AreNodes, seen, arith}
 use Rattle.depth_first.specs.DepthFirst.{leads, Ending, Meets, goes, MeetsAll, Posts, skips, posts, Outcome, ends_at, goes_through, Enters, ended, again, inside, onward}
 use Rattle.depth_first.proofs.DepthLemmas.{done_meets, settled_after}
 use Rattle.depth_first.proofs.PostLemmas.{adds_one}
@@ -20,6 +20,11 @@ pub kept_more : (w v u : FramesValue) → length v.marks ≡ length w.marks → 
 kept_more w v u q k = record { long = k.long ∙ q; fit = k.fit }
 
 module _ {S : Type 0} (edges : ℕ → List (Edge S)) (IsNode : ℕ → Type 0) where
+  -- after a walk that came to no end another one can begin
+  pub can_go_on : (w v : FramesValue) → CanVisit edges IsNode w → AreKept w v → IsSettled (ways_from edges) v.order → path_of v.stack ≡ [] → CanVisit edges IsNode v
+  can_go_on w v ready kept settled path =
+      record { nodes = subst (AreNodes IsNode (successors edges)) (sym kept.long) ready.nodes; marks = kept.fit; settled = settled; empty = no_path v.stack path }
+
   pub later_none : (w : FramesValue) → IsGoing edges IsNode w → IsLater edges IsNode w w
   later_none w going = record { long = refl; going = going; meets = λ r h. h; posts = λ r h. h; enters = λ r h. h }
 

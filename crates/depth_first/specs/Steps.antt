@@ -10,7 +10,7 @@ use Rattle.depth_first.specs.declared.frames.Mark.{Mark}
 use Rattle.depth_first.specs.declared.frames.Mark.TheVariants.{New, OnPath, Done}
 use Rattle.depth_first.specs.DepthFirst.{Way, Ending, nodes_of, MeetsAll, PostsAll, Outcome, ends_at, goes_through, Enters}
 use Rattle.depth_first.specs.Order.{LeadsInto, IsSettled}
-use Rattle.depth_first.specs.Edges.{ways_of, ways_from, successors}
+use Rattle.depth_first.specs.Edges.{AreNodes, ways_of, ways_from, successors}
 use Rattle.depth_first.specs.Walk.{WalkValue, ending_of, leads_to}
 use Rattle.depth_first.specs.Frames.{FramesValue, path_of, entered, AreMarks}
 
@@ -81,6 +81,13 @@ pub record IsGoing {S : Type 0} (edges : ℕ → List (Edge S)) (IsNode : ℕ �
   pub settled : IsSettled (ways_from edges) w.order
   pub nodes : (n : ℕ) → In (path_of w.stack) n → IsNode n
   pub passed : ArePassed edges w.order w.order w.stack
+
+-- visits can begin: each node has a mark, the marks fit, the nodes that are done are settled, and no path is left
+pub record CanVisit {S : Type 0} (edges : ℕ → List (Edge S)) (IsNode : ℕ → Type 0) (w : FramesValue) : Type 0 where
+  pub nodes : AreNodes IsNode (successors edges) (length w.marks)
+  pub marks : AreMarks w.marks w.begun w.order (path_of w.stack)
+  pub settled : IsSettled (ways_from edges) w.order
+  pub empty : w.stack ≡ []
 
 -- v stands later in the walk than w
 pub record IsLater {S : Type 0} (edges : ℕ → List (Edge S)) (IsNode : ℕ → Type 0) (w v : FramesValue) : Type 0 where

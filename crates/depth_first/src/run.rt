@@ -1,9 +1,9 @@
 //! The walk over a graph's edges.
-ghost use Rattle.std.specs.Prelude.{◌≡◌, [], All, Some, length, IfOk, OnErr};
-ghost use Rattle.depth_first.specs.Edges.{AreNodes, successors, ways_from};
-ghost use Rattle.depth_first.specs.Frames.{AreKept, AreMarks, HasGrown, first_of, path_of};
-ghost use Rattle.depth_first.specs.Order.{IsSettled};
-ghost use Rattle.depth_first.specs.Steps.{IsEdgeWithin, Followed, IsGoing, Stepped, Ran, seen};
+ghost use Rattle.std.specs.Prelude.{◌≡◌, ◌<◌, ℕ, All, Some, length, IfOk, OnOk, OnErr};
+ghost use Rattle.list_laws.specs.Members.{In};
+ghost use Rattle.depth_first.specs.Edges.{AreNodes, successors};
+ghost use Rattle.depth_first.specs.Frames.{AreKept, HasGrown, first_of, taken_back};
+ghost use Rattle.depth_first.specs.Steps.{IsEdgeWithin, Followed, IsGoing, Stepped, Ran, CanVisit, seen};
 ghost use Rattle.depth_first.specs.Walk.{Visited, VisitedAll};
 
 use crate::edge::{Edge, End, Successors};
@@ -79,11 +79,8 @@ fn go_from<G: Successors>(
     frames: &mut Frames,
     start: u32,
 ) -> Result<Option<End<G::Stop>>, AllocError>
-    requires nodes { AreNodes (G.is_node graph.now) (successors (G.edges graph.now)) (length frames.old.marks) }
+    requires ready { CanVisit (G.edges graph.now) (G.is_node graph.now) frames.old }
     requires here { G.is_node graph.now start }
-    requires marks { AreMarks frames.old.marks frames.old.begun frames.old.order (path_of frames.old.stack) }
-    requires settled { IsSettled (ways_from (G.edges graph.now)) frames.old.order }
-    requires empty { frames.old.stack ≡ [] }
     ensures ok { IfOk result (λ found. Visited (G.edges graph.now) (seen frames.old) (seen frames.new) start found) }
     ensures kept { AreKept frames.old frames.new }
     ensures grown { HasGrown frames.old frames.new }
@@ -99,30 +96,40 @@ fn go_from<G: Successors>(
     }
 }
 
+// What a walk found. If memory ran out, only so many nodes stay entered and done, and none is on the path.
+fn or_take_back<S: Drop>(
+    frames: &mut Frames,
+    begun: usize,
+    order: usize,
+    found: Result<Option<End<S>>, AllocError>,
+) -> Result<Option<End<S>>, AllocError>
+    requires { (n : ℕ) → In frames.old.begun n → n < length frames.old.marks }
+    ensures found { result ≡ found }
+    ensures ok { OnOk result (frames.new ≡ frames.old) }
+    ensures err { OnErr result (frames.new ≡ taken_back begun order frames.old) }
+{
+    if found.is_err() {
+        take_back(frames, begun, order);
+    }
+    found
+}
+
 // Walks from a start, unless it is done. If memory runs out, nothing has changed.
 pub(crate) fn visit_from<G: Successors>(
     graph: &G,
     frames: &mut Frames,
     start: u32,
 ) -> Result<Option<End<G::Stop>>, AllocError>
-    requires nodes { AreNodes (G.is_node graph.now) (successors (G.edges graph.now)) (length frames.old.marks) }
+    requires ready { CanVisit (G.edges graph.now) (G.is_node graph.now) frames.old }
     requires here { G.is_node graph.now start }
-    requires marks { AreMarks frames.old.marks frames.old.begun frames.old.order (path_of frames.old.stack) }
-    requires settled { IsSettled (ways_from (G.edges graph.now)) frames.old.order }
-    requires empty { frames.old.stack ≡ [] }
     ensures ok { IfOk result (λ found. Visited (G.edges graph.now) (seen frames.old) (seen frames.new) start found) }
     ensures err { OnErr result (seen frames.new ≡ seen frames.old) }
     ensures kept { AreKept frames.old frames.new }
 {
     let begun = frames.begun_count();
     let order = frames.done_count();
-    match go_from(graph, frames, start) {
-        Ok(found) => Ok(found),
-        Err(error) => {
-            take_back(frames, begun, order);
-            Err(error)
-        }
-    }
+    let found = go_from(graph, frames, start);
+    or_take_back(frames, begun, order, found)
 }
 
 // Walks from several starts in turn, up to the first end, as far as memory suffices.
@@ -131,11 +138,8 @@ fn go_all<G: Successors>(
     frames: &mut Frames,
     starts: &[u32],
 ) -> Result<Option<End<G::Stop>>, AllocError>
-    requires nodes { AreNodes (G.is_node graph.now) (successors (G.edges graph.now)) (length frames.old.marks) }
+    requires ready { CanVisit (G.edges graph.now) (G.is_node graph.now) frames.old }
     requires here { All (λ start. G.is_node graph.now start) starts.now }
-    requires marks { AreMarks frames.old.marks frames.old.begun frames.old.order (path_of frames.old.stack) }
-    requires settled { IsSettled (ways_from (G.edges graph.now)) frames.old.order }
-    requires empty { frames.old.stack ≡ [] }
     ensures ok { IfOk result (λ found. VisitedAll (G.edges graph.now) (seen frames.old) (seen frames.new) starts.now found) }
     ensures kept { AreKept frames.old frames.new }
     ensures grown { HasGrown frames.old frames.new }
@@ -155,22 +159,14 @@ pub(crate) fn visit_each<G: Successors>(
     frames: &mut Frames,
     starts: &[u32],
 ) -> Result<Option<End<G::Stop>>, AllocError>
-    requires nodes { AreNodes (G.is_node graph.now) (successors (G.edges graph.now)) (length frames.old.marks) }
+    requires ready { CanVisit (G.edges graph.now) (G.is_node graph.now) frames.old }
     requires here { All (λ start. G.is_node graph.now start) starts.now }
-    requires marks { AreMarks frames.old.marks frames.old.begun frames.old.order (path_of frames.old.stack) }
-    requires settled { IsSettled (ways_from (G.edges graph.now)) frames.old.order }
-    requires empty { frames.old.stack ≡ [] }
     ensures ok { IfOk result (λ found. VisitedAll (G.edges graph.now) (seen frames.old) (seen frames.new) starts.now found) }
     ensures err { OnErr result (seen frames.new ≡ seen frames.old) }
     ensures kept { AreKept frames.old frames.new }
 {
     let begun = frames.begun_count();
     let order = frames.done_count();
-    match go_all(graph, frames, starts) {
-        Ok(found) => Ok(found),
-        Err(error) => {
-            take_back(frames, begun, order);
-            Err(error)
-        }
-    }
+    let found = go_all(graph, frames, starts);
+    or_take_back(frames, begun, order, found)
 }

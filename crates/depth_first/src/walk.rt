@@ -64,8 +64,7 @@ impl Walk {
         ensures err { OnErr result (self.new ≡ self.old) }
         ensures count { self.new.count ≡ self.old.count }
     {
-        let found = visit_from(graph, &mut self.frames, start)?;
-        Ok(found)
+        visit_from(graph, &mut self.frames, start)
     }
 
     /// Walks from several starts in turn, as `visit` does, up to the first end.
@@ -85,8 +84,7 @@ impl Walk {
         ensures err { OnErr result (self.new ≡ self.old) }
         ensures count { self.new.count ≡ self.old.count }
     {
-        let found = visit_each(graph, &mut self.frames, starts)?;
-        Ok(found)
+        visit_each(graph, &mut self.frames, starts)
     }
 
     /// The nodes that were entered, in the order in which they were entered.

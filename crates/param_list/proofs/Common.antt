@@ -17,7 +17,7 @@ pub use Rattle.tl_fault.proofs.OrMemoryLemmas.{OrMemory-map}
 pub use Rattle.tl_fault.proofs.PassedOn.{passed_err}
 pub use Rattle.tl_fault.specs.OrMemory.{OrMemory}
 pub use Rattle.tl_text.proofs.NameSetLemmas.{place_none, has_one_more, no_match, or_nothing, has_in, in_has, place_is, place_some, new_names, has_with_names}
-pub use Rattle.tl_text.proofs.TextOfLemmas.{text_settled, lines_fault}
+pub use Rattle.tl_text.proofs.TextOfLemmas.{text_settled, lines_fault, text_read, text_refused}
 pub use Rattle.tl_text.specs.Clean.{IsClean, AreCleanIn}
 pub use Rattle.tl_text.specs.LineValue.{LineValue, token_bytes, words_line, WordsLine}
 pub use Rattle.tl_text.specs.NameIndex.{place_of}

@@ -43,21 +43,9 @@ impl Reported for ParErr {
             ParErr::TrailingSlash(line) => TextErr::TrailingSlash(line).refusal(),
             ParErr::Malformed(line) => Some(Refusal::new("P1", "Malformed", Details::Line(line))),
             ParErr::Parameters(line) => Some(Refusal::new("L8", "Parameters", Details::Line(line))),
-            ParErr::NotInput(line, name) => Some(Refusal::new(
-                "P2",
-                "NotInput",
-                Details::Named(line, name),
-            )),
-            ParErr::IsClock(line, name) => Some(Refusal::new(
-                "P3",
-                "IsClock",
-                Details::Named(line, name),
-            )),
-            ParErr::Repeated(line, name) => Some(Refusal::new(
-                "P4",
-                "Repeated",
-                Details::Named(line, name),
-            )),
+            ParErr::NotInput(line, name) => Some(Refusal::named("P2", "NotInput", line, name)),
+            ParErr::IsClock(line, name) => Some(Refusal::named("P3", "IsClock", line, name)),
+            ParErr::Repeated(line, name) => Some(Refusal::named("P4", "Repeated", line, name)),
             ParErr::Memory => None,
         }
     }

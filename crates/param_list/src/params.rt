@@ -2,10 +2,6 @@
 ghost use Rattle.std.specs.Prelude.{◌≡◌, ◌<◌, ◌≤◌, ◌^◌, length, Ok, IfOk, IfErr};
 ghost use Rattle.tl_fault.specs.OrMemory.{OrMemory};
 ghost use Rattle.tl_text.specs.Once.{AreOnce};
-ghost use Rattle.tl_text.specs.Clean.{AreCleanIn};
-ghost use Rattle.tl_text.specs.LineValue.{AreLinesIn};
-ghost use Rattle.tl_text.specs.Lines.{lines_of};
-ghost use Rattle.tl_text.specs.TextOf.{IsLinesFault};
 ghost use Rattle.tl_text.specs.declared.logical_lines.TheConstants.{MOST_BYTES};
 ghost use Rattle.param_list.specs.Parameters.{AreParameters};
 ghost use Rattle.param_list.specs.ParamsText.{IsParamsText, IsParamsFault, HasOneReading, par_err};
@@ -16,7 +12,7 @@ use crate::param_lines::read_lines;
 use netlist::Flat;
 use std::alloc::Global;
 use std::marker::Model;
-use tl_text::{Line, Name, TextErr, lines};
+use tl_text::{Name, TextErr, lines};
 
 /// A parameter: an input that seldom changes.
 #[derive(Debug, Drop)]
@@ -53,20 +49,6 @@ fn lines_err(error: TextErr) -> ParErr
     }
 }
 
-// The lines of a text.
-fn text_lines(alloc: Global, text: &[u8]) -> Result<Vec<Line>, ParErr>
-    requires { length text.now ≤ MOST_BYTES }
-    ensures lines { IfOk result (λ found. lines_of text.now ≡ Ok found.items) }
-    ensures within { IfOk result (λ found. AreLinesIn text.now found.items) }
-    ensures clean { IfOk result (λ found. AreCleanIn text.now found.items) }
-    ensures fault { IfErr result (OrMemory refusal_of (IsLinesFault par_err text.now)) }
-{
-    match lines(alloc, text) {
-        Ok(found) => Ok(found),
-        Err(error) => Err(lines_err(error)),
-    }
-}
-
 /// The parameters in a list, for a flat circuit. Each line has the name of an input and its initial value, `0` or `1`. The
 /// names of the inputs differ, and there are fewer than 2^32.
 ///
@@ -86,7 +68,11 @@ pub fn read_params(alloc: Global, text: &[u8], flat: &Flat) -> Result<Params, Pa
     ensures fault { IfErr result (OrMemory refusal_of (IsParamsFault flat.now text.now)) }
     ensures one_reading { HasOneReading flat.now text.now }
 {
-    let found = text_lines(alloc, text)?;
-    let list = read_lines(alloc, text, &found, flat)?;
-    Ok(Params { list })
+    match lines(alloc, text) {
+        Ok(found) => {
+            let list = read_lines(alloc, text, &found, flat)?;
+            Ok(Params { list })
+        }
+        Err(error) => Err(lines_err(error)),
+    }
 }

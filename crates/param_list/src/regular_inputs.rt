@@ -59,7 +59,8 @@ pub fn regular(alloc: Global, flat: &Flat, params: &Params) -> Result<Vec<u32>, 
     requires once { AreOnce flat.now.inputs }
     requires are { AreParameters flat.now params.now.list }
     ensures places { IfOk result (λ places. AreRegularPlaces flat.now params.now.list places.items) }
-    ensures names { IfOk result (λ places. map (slice_get flat.now.inputs) places.items ≡ map (λ name. Some name) (regular_names flat.now params.now.list)) }
+    ensures names { IfOk result (λ places.
+        map (slice_get flat.now.inputs) places.items ≡ map (λ name. Some name) (regular_names flat.now params.now.list)) }
     ensures count { IfOk result (λ places. length places.items ≡ length (regular_names flat.now params.now.list)) }
     ensures split { IsSplit flat.now params.now.list }
 {

@@ -18,7 +18,7 @@ pub use Rattle.tl_piece.proofs.AddedLemmas.{added_none, added_as, added_twice, p
 pub use Rattle.tl_piece.proofs.PartLemmas.{added_byte, added_part}
 pub use Rattle.tl_piece.specs.Added.{IsAdded}
 pub use Rattle.tl_text.proofs.NameSetLemmas.{place_is, has_one_more, place_some, place_none, new_names}
-pub use Rattle.tl_text.proofs.TextOfLemmas.{text_settled, lines_fault}
+pub use Rattle.tl_text.proofs.TextOfLemmas.{text_settled, lines_fault, text_read, text_refused}
 pub use Rattle.tl_text.specs.LineValue.{WordsLine, LineValue, words_line, token_bytes}
 pub use Rattle.tl_text.specs.NameIndex.{place_of}
 pub use Rattle.tl_text.specs.NameSets.{has_name, with_names}

@@ -25,7 +25,8 @@ fn read_assign(
     requires { length params.now ≤ MOST_PARAMETERS }
     ensures { MatchResult result
         (λ assign. (assign_of params.now setting.now ≡ Some assign) × (place_of seen.now setting.now.name ≡ None)
-        × ((rest : List SettingValue) → settings_refusal params.now number seen.now (setting.now ∷ rest) ≡ settings_refusal params.now number (seen.now ++ setting.now.name ∷ []) rest))
+        × ((rest : List SettingValue) → settings_refusal params.now number seen.now (setting.now ∷ rest)
+        ≡ settings_refusal params.now number (seen.now ++ setting.now.name ∷ []) rest))
         (OrMemory refusal_of (λ e. (rest : List SettingValue) → settings_refusal params.now number seen.now (setting.now ∷ rest) ≡ Some e)) }
 {
     let name = setting.name.bytes();

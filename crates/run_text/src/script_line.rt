@@ -23,7 +23,8 @@ use tl_text::{Line, NameIndex, Token, decimal};
 // The word of the token, if it is the only one.
 fn only<'a>(text: &'a [u8], tokens: &[Token]) -> Option<&'a [u8]>
     requires { (token : TokenValue) → In tokens.now token → IsWithin text.now token }
-    ensures { MatchOption result (only_word (map (token_bytes text.now) tokens.now) ≡ None) (λ word. only_word (map (token_bytes text.now) tokens.now) ≡ Some word.now) }
+    ensures { MatchOption result (only_word (map (token_bytes text.now) tokens.now) ≡ None)
+        (λ word. only_word (map (token_bytes text.now) tokens.now) ≡ Some word.now) }
 {
     if tokens.len() != 1 {
         return None;
@@ -196,7 +197,8 @@ pub(crate) fn read_line(
     requires few { length params.now ≤ MOST_PARAMETERS }
     requires same { params.now ≡ names.now.params }
     ensures { MatchResult result
-        (λ event. (line_refusal names.now earlier (words_line text.now line.now) ≡ None) × (line_event names.now (words_line text.now line.now) ≡ Some (event_value event)))
+        (λ event. (line_refusal names.now earlier (words_line text.now line.now) ≡ None)
+        × (line_event names.now (words_line text.now line.now) ≡ Some (event_value event)))
         (OrMemory refusal_of (λ e. line_refusal names.now earlier (words_line text.now line.now) ≡ Some e)) }
 {
     if earlier >= MOST_EVENTS {

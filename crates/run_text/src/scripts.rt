@@ -3,10 +3,7 @@ ghost use Rattle.std.specs.Prelude.{◌≡◌, ◌≤◌, length, Ok, IfOk, IfEr
 ghost use Rattle.list_laws.specs.Members.{In};
 ghost use Rattle.tl_text.specs.declared.limits.TheConstants.{MOST_PARAMETERS};
 ghost use Rattle.tl_fault.specs.OrMemory.{OrMemory};
-ghost use Rattle.tl_text.specs.LineValue.{AreLinesIn};
-ghost use Rattle.tl_text.specs.Lines.{lines_of};
 ghost use Rattle.tl_text.specs.Once.{AreOnce};
-ghost use Rattle.tl_text.specs.TextOf.{IsLinesFault};
 ghost use Rattle.tl_text.specs.declared.logical_lines.TheConstants.{MOST_BYTES};
 ghost use Rattle.run_text.specs.EventValue.{EventValue, event_values};
 ghost use Rattle.run_text.specs.Fits.{Fits};
@@ -17,7 +14,7 @@ use crate::event::{Event, Names};
 use crate::script_err::ScriptErr;
 use crate::script_lines::read_lines;
 use std::alloc::Global;
-use tl_text::{Line, TextErr, lines};
+use tl_text::{TextErr, lines};
 
 // The refusal of a script that stands for this fault of its lines.
 fn lines_err(error: TextErr) -> ScriptErr
@@ -27,19 +24,6 @@ fn lines_err(error: TextErr) -> ScriptErr
         TextErr::BadByte(line) => ScriptErr::BadByte(line),
         TextErr::TrailingSlash(line) => ScriptErr::TrailingSlash(line),
         TextErr::Memory => ScriptErr::Memory,
-    }
-}
-
-// The lines of a text.
-fn text_lines(alloc: Global, text: &[u8]) -> Result<Vec<Line>, ScriptErr>
-    requires { length text.now ≤ MOST_BYTES }
-    ensures lines { IfOk result (λ found. lines_of text.now ≡ Ok found.items) }
-    ensures within { IfOk result (λ found. AreLinesIn text.now found.items) }
-    ensures fault { IfErr result (OrMemory refusal_of (IsLinesFault script_err text.now)) }
-{
-    match lines(alloc, text) {
-        Ok(found) => Ok(found),
-        Err(error) => Err(lines_err(error)),
     }
 }
 
@@ -63,7 +47,8 @@ pub fn read_script(alloc: Global, text: &[u8], names: &Names) -> Result<Vec<Even
     ensures fault { IfErr result (OrMemory refusal_of (IsScriptFault names.now text.now)) }
     ensures one_reading { HasOneReading names.now text.now }
 {
-    let found = text_lines(alloc, text)?;
-    let events = read_lines(alloc, text, &found, names)?;
-    Ok(events)
+    match lines(alloc, text) {
+        Ok(found) => read_lines(alloc, text, &found, names),
+        Err(error) => Err(lines_err(error)),
+    }
 }

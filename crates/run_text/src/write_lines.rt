@@ -29,11 +29,7 @@ fn put_writes<'a, O: Sink>(
 ///
 /// # Errors
 /// `Failed` only if the sink's count of faults rose. A prefix of the line is then written.
-pub fn put_set<'a, O: Sink>(
-    writes: &'a [Write],
-    buf: &mut LineBuf,
-    out: &mut O,
-) -> Result<(), Failed>
+pub fn put_set<O: Sink>(writes: &[Write], buf: &mut LineBuf, out: &mut O) -> Result<(), Failed>
     ensures { IsPut (O.seen out.old) (set_line writes.now) (O.seen out.new) result }
 {
     put_writes(b"set ", writes, buf, out)
@@ -44,11 +40,7 @@ pub fn put_set<'a, O: Sink>(
 ///
 /// # Errors
 /// `Failed` only if the sink's count of faults rose. A prefix of the line is then written.
-pub fn put_wait<'a, O: Sink>(
-    writes: &'a [Write],
-    buf: &mut LineBuf,
-    out: &mut O,
-) -> Result<(), Failed>
+pub fn put_wait<O: Sink>(writes: &[Write], buf: &mut LineBuf, out: &mut O) -> Result<(), Failed>
     ensures { IsPut (O.seen out.old) (wait_line writes.now) (O.seen out.new) result }
 {
     put_writes(b"wait ", writes, buf, out)
@@ -75,11 +67,7 @@ pub fn put_ask<O: Sink>(count: u32, buf: &mut LineBuf, out: &mut O) -> Result<()
 ///
 /// # Errors
 /// `Failed` only if the sink's count of faults rose. A prefix of the line is then written.
-pub fn put_scrub<'a, O: Sink>(
-    writes: &'a [Write],
-    buf: &mut LineBuf,
-    out: &mut O,
-) -> Result<(), Failed>
+pub fn put_scrub<O: Sink>(writes: &[Write], buf: &mut LineBuf, out: &mut O) -> Result<(), Failed>
     ensures { IsPut (O.seen out.old) (scrub_line writes.now) (O.seen out.new) result }
 {
     put_writes(b"scrub ", writes, buf, out)

@@ -52,6 +52,7 @@ impl Refusal {
     ghost use Rattle.std.specs.Prelude.{◌≡◌};
     ghost use Rattle.tl_fault.specs.RefusalValue.{refusal};
     ghost use Rattle.tl_fault.specs.Refusals.{is_limit};
+    ghost use Rattle.tl_fault.specs.declared.refusal.Details.TheVariants.{Named, Located};
 
     /// The refusal with this code, word and details.
     pub fn new(code: &'static str, word: &'static str, details: Details) -> Refusal
@@ -62,6 +63,26 @@ impl Refusal {
             word,
             details,
         }
+    }
+
+    /// The refusal with this code and word at a name in a line.
+    pub fn named(code: &'static str, word: &'static str, line: u32, name: Name) -> Refusal
+        ensures { result ≡ refusal code.now word.now (Named line name) }
+    {
+        Refusal::new(code, word, Details::Named(line, name))
+    }
+
+    /// The refusal with this code and word at a name in a line of a model.
+    pub fn located(
+        code: &'static str,
+        word: &'static str,
+        model: Name,
+        line: u32,
+        name: Name,
+    ) -> Refusal
+        ensures { result ≡ refusal code.now word.now (Located model line name) }
+    {
+        Refusal::new(code, word, Details::Located(model, line, name))
     }
 
     /// Whether the refusal is a limit of the tool.

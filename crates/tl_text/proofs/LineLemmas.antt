@@ -90,10 +90,6 @@ slice_range_none text i = let e : i - i ≡ 0 = omega arith in ap (λ n. take n 
 abbrev pub reads : List ℕ → ℕ → ℕ → ℕ → Reading → Result (List LineValue) TextErr
 reads text i number start s = prepended s.done (lines_from number start s.unfinished (begun (slice_range text start i) (physical_lines (drop i text))))
 
-prepended_none : (r : Result (List LineValue) TextErr) → prepended [] r ≡ r
-prepended_none (Ok lines) = refl
-prepended_none (Err e) = refl
-
 -- it stays the same over a byte that is no line feed
 pub reads_other : (text : List ℕ) (i number start : ℕ) (s : Reading) → start ≤ i → i < length text → (get_or text i 0 ≡ 10 → ⊥) → reads text i number start s ≡ reads text (i + 1) number start s
 reads_other text i number start s le within other =

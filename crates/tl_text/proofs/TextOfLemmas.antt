@@ -1,10 +1,12 @@
 -- A text has one meaning at most, or one refusal at most, and never both, where lines have.
-use Rattle.tl_text.proofs.Common.{◌≡◌, ℕ, List, map, Option, None, Ok, Err, refl, sym, subst, Unless, OrMemory, LineValue, WordsLine, words_line, lines_of, refusal_of, TextErr, Memory}
+use Rattle.tl_text.proofs.Common.{◌≡◌, ℕ, List, map, Option, None, Result, Ok, Err, IfOk, refl, sym, subst, Unless, OrMemory, LineValue, WordsLine, words_line, lines_of, refusal_of, TextErr, Memory}
+use Rattle.std.specs.Prelude.{IfErr}
+use Rattle.std.proofs.lemmas.Result.{IfOk-weaker, IfErr-weaker}
 use Rattle.tl_fault.specs.RefusalValue.{RefusalValue}
 use Rattle.tl_fault.specs.Settled.{IsSettled, IsAfter, IsFaultAfter, passed_on, here}
-use Rattle.tl_fault.proofs.OrMemoryLemmas.{Unless-of}
+use Rattle.tl_fault.proofs.OrMemoryLemmas.{Unless-of, OrMemory-map}
 use Rattle.tl_fault.proofs.SettledLemmas.{result_settled, after_settled}
-use Rattle.tl_text.specs.TextOf.{IsTextOf, IsLinesFault, IsTextFault, by_lines, at_line}
+use Rattle.tl_text.specs.TextOf.{IsTextOf, IsTextFault, by_lines, at_line}
 
 module _ {V E : Type 0} (own : TextErr → E) (Is : List WordsLine → V → Type 0) (IsFault : List WordsLine → E → Type 0) (text : List ℕ) where
   abbrev HasLines : List LineValue → Type 0
@@ -34,8 +36,20 @@ module _ {V E : Type 0} (own : TextErr → E) (Is : List WordsLine → V → Typ
       }
 
 -- the error of a reader that stands for a refusal of the lines
-pub lines_fault : {E : Type 0} (own : TextErr → E) (told : E → Option RefusalValue) (text : List ℕ) (error : TextErr) (e : E) → e ≡ own error → told (own Memory) ≡ None → OrMemory refusal_of (λ x. lines_of text ≡ Err x) error
-    → OrMemory told (IsLinesFault own text) e
-lines_fault own told text Memory e is none said = subst (OrMemory told (IsLinesFault own text)) (sym is) (subst (λ o. Unless o (IsLinesFault own text (own Memory))) (sym none) tt)
-lines_fault own told text error e is none said =
-    subst (OrMemory told (IsLinesFault own text)) (sym is) (Unless-of {P = IsLinesFault own text (own error)} (told (own error)) (record { error = error; lines_are = said; is = refl }))
+pub lines_fault : {E : Type 0} (own : TextErr → E) (told : E → Option RefusalValue) (IsFault : List WordsLine → E → Type 0) (text : List ℕ) (error : TextErr) (e : E) → e ≡ own error → told (own Memory) ≡ None
+    → OrMemory refusal_of (λ x. lines_of text ≡ Err x) error → OrMemory told (IsTextFault own IsFault text) e
+lines_fault own told IsFault text Memory e is none said = subst (OrMemory told (IsTextFault own IsFault text)) (sym is) (subst (λ o. Unless o (IsTextFault own IsFault text (own Memory))) (sym none) tt)
+lines_fault own told IsFault text error e is none said =
+    subst (OrMemory told (IsTextFault own IsFault text)) (sym is)
+    (Unless-of {P = IsTextFault own IsFault text (own error)} (told (own error)) (by_lines (record { error = error; lines_are = said; is = refl })))
+
+-- what a reader makes of the lines of a text is what it makes of the text
+module _ {E T : Type 0} (text : List ℕ) (lines : List LineValue) (are : lines_of text ≡ Ok lines) (r : Result T E) where
+  pub text_read : {V : Type 0} (Is : List WordsLine → V → Type 0) (view : T → V) → IfOk r (λ v. Is (map (words_line text) lines) (view v)) → IfOk r (λ v. IsTextOf Is text (view v))
+  text_read Is view h = IfOk-weaker r (λ v. Is (map (words_line text) lines) (view v)) (λ v. IsTextOf Is text (view v)) (λ v is. record { lines = lines; lines_are = are; are = is }) h
+
+  pub text_refused : (own : TextErr → E) (told : E → Option RefusalValue) (IsFault : List WordsLine → E → Type 0)
+      → IfErr r (OrMemory told (IsFault (map (words_line text) lines))) → IfErr r (OrMemory told (IsTextFault own IsFault text))
+  text_refused own told IsFault h =
+      IfErr-weaker r (OrMemory told (IsFault (map (words_line text) lines))) (OrMemory told (IsTextFault own IsFault text))
+      (λ e. OrMemory-map told (IsFault (map (words_line text) lines)) (IsTextFault own IsFault text) e (λ x is. at_line lines are is)) h

@@ -1,5 +1,5 @@
 -- Flat order, of whatever the instances have of their own: an instance whose hierarchy ends has one, and one only; all that the instances within it have stands there, and nothing else.
-use Rattle.blif_flat.proofs.Common.{◌≡◌, ℕ, ◌+◌, Bool, true, List, [], ◌∷◌, ◌++◌, Some, refl, sym, ap, ◌∙◌, inl, inr, append_assoc, slice_get, In, AreApart, Body, Cover, Latch, LatchValue, ModelValue, Path, model_at, is_cover, is_latch, FlatOrder, flat, FlatUnder, InstanceOrder, InstancesUnder, itself, model_places, places_at, CoverValue, SubcktValue, LibraryValue, AreFrom, from_first, from_rest, from_start, order_apart, placed_at, Instance, AreInstances, paths_of, subst, same_Some}
+use Rattle.blif_flat.proofs.Common.{◌≡◌, ℕ, Bool, true, List, [], ◌∷◌, ◌++◌, Some, refl, sym, ap, ◌∙◌, inl, inr, append_assoc, slice_get, In, AreApart, Body, Cover, Latch, LatchValue, ModelValue, Path, model_at, is_cover, is_latch, FlatOrder, flat, FlatUnder, InstanceOrder, InstancesUnder, itself, model_places, places_at, CoverValue, SubcktValue, LibraryValue, AreFrom, from_first, from_rest, from_start, order_apart, placed_at, Instance, AreInstances, paths_of, subst, same_Some}
 use Rattle.netlist.specs.Places.{none, more}
 
 -- the instances in flat order: each once, and the first is the main model's own

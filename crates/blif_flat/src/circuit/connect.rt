@@ -1,6 +1,7 @@
 //! Creates the circuit of a library: its instances, their covers and latches, and the nets of all their names.
 ghost use Rattle.std.specs.Prelude.{◌≡◌, map, IfOk};
-ghost use Rattle.blif_flat.specs.{IsWellFormed, ports_value, model_names, IsDriven, IsLight, IsCircuit};
+ghost use Rattle.blif_flat.specs.Bodies.Conditions.{IsIndexed};
+ghost use Rattle.blif_flat.specs.{IsDriven, IsLight, IsCircuit};
 
 use crate::circuit::instances::{Gate, GateKind, Instance, gates, instances};
 use crate::circuit::net_table::fill_nets;
@@ -26,11 +27,9 @@ pub(crate) fn connect(
     index: &ModelIndex,
     ports: &[Ports],
 ) -> Result<Circuit, AllocError>
-    requires formed { IsWellFormed library.now }
+    requires indexed { IsIndexed library.now index.now.names ports.now }
     requires driven { IsDriven library.now }
     requires light { IsLight library.now }
-    requires names { index.now.names ≡ model_names library.now.models }
-    requires ports { ports.now ≡ map ports_value library.now.models }
     ensures { IfOk result (λ circuit. IsCircuit library.now circuit) }
 {
     let instances = instances(alloc, library, index)?;

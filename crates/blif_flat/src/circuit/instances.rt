@@ -1,7 +1,8 @@
 //! The instances of a library in flat order, their covers and latches, and the commands of these.
 ghost use Rattle.std.specs.Prelude.{◌≡◌, ℕ, ◌+◌, ◌<◌, ◌^◌, List, [], ◌∷◌, ◌++◌, length, reverse, Some, slice_get, IfOk, OnOk, ◌≤◌, None, MatchOption};
 ghost use Rattle.std.specs.Option.{option_map};
-ghost use Rattle.blif_flat.specs.{ModelValue, subckts_of, with_subckt, model_names, place_of, AreInstances, IsLight, number_or_zero, with_entry, entries_from, paths_of, places_at, kind_test, AreGatesAt, with_commands, with_model, most_weight, body_at, Place, latch_at, IsGateAt, numbered_body, place_body, gate_body as body_of};
+ghost use Rattle.blif_flat.specs.{ModelValue, AreInstances, IsLight, AreGatesAt, Place, IsGateAt};
+ghost use Rattle.blif_flat.specs.{subckts_of, with_subckt, model_names, place_of, number_or_zero, with_entry, entries_from, paths_of, places_at, kind_test, with_commands, with_model, most_weight, body_at, latch_at, numbered_body, place_body, gate_body as body_of};
 
 use crate::model::ports::ModelIndex;
 use netlist::{BlifModel, Body, Command, Latch, Library};
@@ -275,7 +276,8 @@ pub(crate) fn gate_latch<'a>(
     gate: Gate,
 ) -> Option<&'a Latch>
     requires instances { AreInstances library.now instances.now }
-    ensures { (p : Place) → IsGateAt (paths_of instances.now) gate p → MatchOption result (latch_at library.now p ≡ None) (λ l. latch_at library.now p ≡ Some l.now) }
+    ensures { (p : Place) → IsGateAt (paths_of instances.now) gate p
+        → MatchOption result (latch_at library.now p ≡ None) (λ l. latch_at library.now p ≡ Some l.now) }
 {
     match gate_body(library, instances, gate) {
         None => None,

@@ -3,7 +3,9 @@
 ghost use Rattle.std.specs.Prelude.{◌≡◌, ◌++◌, List, [], map, slice_get, IfOk, OnOk, ◌<◌, ◌≤◌, length, None, MatchOption, ◌^◌, ◌∷◌};
 ghost use Rattle.std.specs.Option.{option_map, option_and_then};
 ghost use Rattle.netlist.specs.SubcktValue.{SubcktValue};
-ghost use Rattle.blif_flat.specs.{ModelValue, subckts_of, with_subckt, IsNets, line_under, link_at, linked_out, linked_in, links_out, links_in, AreLinesOf, IsLink, most_weight, gate_body as body_of, output_of_cover as cover_output, output_of_latch as latch_output, with_named, with_covers, with_latches, with_inputs, IsWellFormed, IsDriven, ports_value, is_cover, is_latch, AreInstances, IsLight, paths_of, places_at, AreGatesAt, AreEmptyNets, AreAllNets};
+ghost use Rattle.blif_flat.specs.Bodies.Conditions.{AreCoversOf, AreLatchesOf};
+ghost use Rattle.blif_flat.specs.{ModelValue, IsNets, AreLinesOf, IsLink, IsWellFormed, IsDriven, AreInstances, IsLight, AreEmptyNets, AreAllNets};
+ghost use Rattle.blif_flat.specs.{subckts_of, with_subckt, line_under, link_at, linked_out, linked_in, links_out, links_in, most_weight, gate_body as body_of, output_of_cover as cover_output, output_of_latch as latch_output, with_named, with_covers, with_latches, with_inputs, ports_value, paths_of};
 ghost use Rattle.netlist.specs.LibraryValue.{LibraryValue};
 
 use crate::circuit::instances::{Gate, Instance, gate_body};
@@ -110,20 +112,24 @@ fn line_under<'a>(
     }
 }
 
-// How the instance of a row is connected; `None` for the first one.
-fn link_of<'a>(
-    lines: &SubcktLines<'a>,
+// The instances, and the lines and the ports of all models, which say how each instance is connected.
+#[derive(Drop)]
+struct Placed<'a, 'b> {
+    lines: &'b SubcktLines<'a>,
     ports: &'a [Ports],
-    instances: &[Instance],
-    j: u32,
-) -> Option<Link<'a>>
-    ensures { (library : LibraryValue) → AreLinesOf library lines.now ports.now
-        → MatchOption result (link_at library instances.now j ≡ None) (λ link. IsLink (link_at library instances.now j) link.outer link.ports.now link.pairs.now) }
+    instances: &'a [Instance],
+}
+
+// How the instance of a row is connected; `None` for the first one.
+fn link_of<'a>(placed: &Placed<'a, '_>, j: u32) -> Option<Link<'a>>
+    ensures { (library : LibraryValue) → AreLinesOf library placed.now.lines.now placed.now.ports.now
+        → MatchOption result (link_at library placed.now.instances.now j ≡ None)
+        (λ link. IsLink (link_at library placed.now.instances.now j) link.outer link.ports.now link.pairs.now) }
 {
-    let row = instances.get(j as usize)?;
+    let row = placed.instances.get(j as usize)?;
     let outer = row.parent?;
-    let subckt = line_under(lines, instances, outer, row.ordinal)?;
-    let ports = ports.get(row.model as usize)?;
+    let subckt = line_under(placed.lines, placed.instances, outer, row.ordinal)?;
+    let ports = placed.ports.get(row.model as usize)?;
     Some(Link {
         outer,
         ports,
@@ -132,76 +138,58 @@ fn link_of<'a>(
 }
 
 // Copies the nets of the outputs of the instance of a row out.
-fn link_out<'a>(
-    lines: &SubcktLines<'a>,
-    ports: &'a [Ports],
-    instances: &[Instance],
-    nets: &mut Nets,
-    j: u32,
-)
+fn link_out(placed: &Placed<'_, '_>, nets: &mut Nets, j: u32)
     requires { IsNets nets.old }
-    ensures out { (library : LibraryValue) → AreLinesOf library lines.now ports.now → nets.new ≡ linked_out nets.old j (link_at library instances.now j) }
+    ensures out { (library : LibraryValue) → AreLinesOf library placed.now.lines.now placed.now.ports.now
+        → nets.new ≡ linked_out nets.old j (link_at library placed.now.instances.now j) }
     ensures nets { IsNets nets.new }
 {
-    match link_of(lines, ports, instances, j) {
+    match link_of(placed, j) {
         None => {}
         Some(link) => pairs_out(nets, link.ports, j, link.outer, link.pairs),
     }
 }
 
 // Copies the nets of the inputs of the instance of a row in.
-fn link_in<'a>(
-    lines: &SubcktLines<'a>,
-    ports: &'a [Ports],
-    instances: &[Instance],
-    nets: &mut Nets,
-    j: u32,
-)
+fn link_in(placed: &Placed<'_, '_>, nets: &mut Nets, j: u32)
     requires { IsNets nets.old }
-    ensures inside { (library : LibraryValue) → AreLinesOf library lines.now ports.now → nets.new ≡ linked_in nets.old j (link_at library instances.now j) }
+    ensures inside { (library : LibraryValue) → AreLinesOf library placed.now.lines.now placed.now.ports.now
+        → nets.new ≡ linked_in nets.old j (link_at library placed.now.instances.now j) }
     ensures nets { IsNets nets.new }
 {
-    match link_of(lines, ports, instances, j) {
+    match link_of(placed, j) {
         None => {}
         Some(link) => pairs_in(nets, link.ports, j, link.outer, link.pairs),
     }
 }
 
-/// Copies the nets of all instances' outputs to their actuals, beginning with the last row. The time is linear in the bytes of
-/// the connections, on average over the hashes.
-pub(crate) fn links_out<'a>(
-    lines: &SubcktLines<'a>,
-    ports: &'a [Ports],
-    instances: &[Instance],
-    nets: &mut Nets,
-)
+// Copies the nets of all instances' outputs to their actuals, beginning with the last row. The time is linear in the bytes of
+// the connections, on average over the hashes.
+fn links_out(placed: &Placed<'_, '_>, nets: &mut Nets)
     requires nets { IsNets nets.old }
-    requires few { length instances.now ≤ most_weight }
-    ensures out { (library : LibraryValue) → AreLinesOf library lines.now ports.now → nets.new ≡ links_out library instances.now nets.old (length instances.now) }
+    requires few { length placed.now.instances.now ≤ most_weight }
+    ensures out { (library : LibraryValue) → AreLinesOf library placed.now.lines.now placed.now.ports.now
+        → nets.new ≡ links_out library placed.now.instances.now nets.old (length placed.now.instances.now) }
     ensures nets { IsNets nets.new }
 {
-    let mut left = instances.len() as u32;
+    let mut left = placed.instances.len() as u32;
     while left > 0 {
         left -= 1;
-        link_out(lines, ports, instances, nets, left);
+        link_out(placed, nets, left);
     }
 }
 
-/// Copies the nets of the actuals to all instances' inputs, beginning with the first row. The time is linear in the bytes of the
-/// connections, on average over the hashes.
-pub(crate) fn links_in<'a>(
-    lines: &SubcktLines<'a>,
-    ports: &'a [Ports],
-    instances: &[Instance],
-    nets: &mut Nets,
-)
+// Copies the nets of the actuals to all instances' inputs, beginning with the first row. The time is linear in the bytes of the
+// connections, on average over the hashes.
+fn links_in(placed: &Placed<'_, '_>, nets: &mut Nets)
     requires nets { IsNets nets.old }
-    requires few { length instances.now ≤ most_weight }
-    ensures inside { (library : LibraryValue) → AreLinesOf library lines.now ports.now → nets.new ≡ links_in library instances.now nets.old (length instances.now) }
+    requires few { length placed.now.instances.now ≤ most_weight }
+    ensures inside { (library : LibraryValue) → AreLinesOf library placed.now.lines.now placed.now.ports.now
+        → nets.new ≡ links_in library placed.now.instances.now nets.old (length placed.now.instances.now) }
     ensures nets { IsNets nets.new }
 {
-    for j in 0..instances.len() {
-        link_in(lines, ports, instances, nets, j as u32);
+    for j in 0..placed.instances.len() {
+        link_in(placed, nets, j as u32);
     }
 }
 
@@ -227,39 +215,38 @@ fn set_latch(library: &Library, instances: &[Instance], nets: &mut Nets, gate: &
     }
 }
 
-/// Sets the nets of the covers' outputs to the covers' numbers. The time is linear in the bytes of their names, on average over
-/// the hashes.
-pub(crate) fn set_covers(
-    library: &Library,
-    instances: &[Instance],
-    nets: &mut Nets,
-    covers: &[Gate],
-)
+// The covers and the latches of the instances of a library.
+#[derive(Drop)]
+struct Gates<'a> {
+    library: &'a Library,
+    instances: &'a [Instance],
+    covers: &'a [Gate],
+    latches: &'a [Gate],
+}
+
+// Sets the nets of the covers' outputs to the covers' numbers. The time is linear in the bytes of their names, on average over
+// the hashes.
+fn set_covers(gates: &Gates<'_>, nets: &mut Nets)
     requires nets { IsNets nets.old }
-    requires few { length covers.now ≤ most_weight }
-    ensures covers { nets.new ≡ with_covers library.now instances.now nets.old 0 covers.now }
+    requires few { length gates.now.covers.now ≤ most_weight }
+    ensures covers { nets.new ≡ with_covers gates.now.library.now gates.now.instances.now nets.old 0 gates.now.covers.now }
     ensures nets { IsNets nets.new }
 {
-    for (k, gate) in covers.iter().enumerate() {
-        set_cover(library, instances, nets, gate, k as u32);
+    for (k, gate) in gates.covers.iter().enumerate() {
+        set_cover(gates.library, gates.instances, nets, gate, k as u32);
     }
 }
 
-/// Sets the nets of the latches' outputs to the latches' numbers. The time is linear in the bytes of their names, on average
-/// over the hashes.
-pub(crate) fn set_latches(
-    library: &Library,
-    instances: &[Instance],
-    nets: &mut Nets,
-    latches: &[Gate],
-)
+// Sets the nets of the latches' outputs to the latches' numbers. The time is linear in the bytes of their names, on average
+// over the hashes.
+fn set_latches(gates: &Gates<'_>, nets: &mut Nets)
     requires nets { IsNets nets.old }
-    requires few { length latches.now ≤ most_weight }
-    ensures latches { nets.new ≡ with_latches library.now instances.now nets.old 0 latches.now }
+    requires few { length gates.now.latches.now ≤ most_weight }
+    ensures latches { nets.new ≡ with_latches gates.now.library.now gates.now.instances.now nets.old 0 gates.now.latches.now }
     ensures nets { IsNets nets.new }
 {
-    for (k, gate) in latches.iter().enumerate() {
-        set_latch(library, instances, nets, gate, k as u32);
+    for (k, gate) in gates.latches.iter().enumerate() {
+        set_latch(gates.library, gates.instances, nets, gate, k as u32);
     }
 }
 
@@ -302,13 +289,13 @@ pub(crate) fn set_inputs(main: &BlifModel, ports: &Ports, nets: &mut Nets)
 /// The nets of all instances. The ports, the instances, the covers and the latches belong to the library, and the empty table has
 /// slots for their names. `Err` only if memory runs out. The time is linear in the library's commands and in the bytes of the
 /// names of all instances, on average over the hashes.
-pub(crate) fn fill_nets(
+pub(crate) fn fill_nets<'a>(
     alloc: Global,
-    library: &Library,
-    ports: &[Ports],
-    instances: &[Instance],
-    covers: &[Gate],
-    latches: &[Gate],
+    library: &'a Library,
+    ports: &'a [Ports],
+    instances: &'a [Instance],
+    covers: &'a [Gate],
+    latches: &'a [Gate],
     empty: Nets,
 ) -> Result<Nets, AllocError>
     requires formed { IsWellFormed library.now }
@@ -316,8 +303,8 @@ pub(crate) fn fill_nets(
     requires light { IsLight library.now }
     requires ports { ports.now ≡ map ports_value library.now.models }
     requires instances { AreInstances library.now instances.now }
-    requires covers { AreGatesAt (paths_of instances.now) covers.now (places_at library.now is_cover (paths_of instances.now)) }
-    requires latches { AreGatesAt (paths_of instances.now) latches.now (places_at library.now is_latch (paths_of instances.now)) }
+    requires covers { AreCoversOf library.now instances.now covers.now }
+    requires latches { AreLatchesOf library.now instances.now latches.now }
     requires few_covers { length covers.now ≤ most_weight }
     requires few_latches { length latches.now ≤ most_weight }
     requires empty { AreEmptyNets library.now (paths_of instances.now) empty }
@@ -326,11 +313,22 @@ pub(crate) fn fill_nets(
     let main: &BlifModel = &library.models[0];
     let inputs: &Ports = &ports[0];
     let lines = SubcktLines::make(alloc, &library.models)?;
+    let gates = Gates {
+        library,
+        instances,
+        covers,
+        latches,
+    };
+    let placed = Placed {
+        lines: &lines,
+        ports,
+        instances,
+    };
     let mut nets = empty;
-    set_covers(library, instances, &mut nets, covers);
-    set_latches(library, instances, &mut nets, latches);
+    set_covers(&gates, &mut nets);
+    set_latches(&gates, &mut nets);
     set_inputs(main, inputs, &mut nets);
-    links_out(&lines, ports, instances, &mut nets);
-    links_in(&lines, ports, instances, &mut nets);
+    links_out(&placed, &mut nets);
+    links_in(&placed, &mut nets);
     Ok(nets)
 }

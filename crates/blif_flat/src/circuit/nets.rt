@@ -1,7 +1,8 @@
 //! The table of the nets of all instances' names. A net is the number of its driver.
 ghost use Rattle.std.specs.Prelude.{◌≡◌, ℕ, List, ◌<◌, length, Some, ◌≤◌, [], map, replicate, None, IfOk, slice_get};
 ghost use Rattle.std.specs.Option.{option_and_then};
-ghost use Rattle.blif_flat.specs.{place_of, slot_number, table_of, with_slot, with_found, copied, pair_out, pairs_out, pair_in, pairs_in, IsNets, ModelValue, is_input, is_output, ports_value, with_names as with_all_names, body_names, commands_names, AreInstances, IsLight, paths_of, AreEmptyNets, distinct_names, name_count, starts_from, slot_count, most_weight};
+ghost use Rattle.blif_flat.specs.{IsNets, ModelValue, AreInstances, IsLight, AreEmptyNets};
+ghost use Rattle.blif_flat.specs.{place_of, slot_number, table_of, with_slot, with_found, copied, pair_out, pairs_out, pair_in, pairs_in, is_input, is_output, ports_value, with_names as with_all_names, body_names, commands_names, paths_of, distinct_names, name_count, starts_from, slot_count, most_weight};
 
 use crate::circuit::instances::Instance;
 use crate::model::ports::Ports;

@@ -1,7 +1,9 @@
 //! The clock nets of a circuit, and those that are used as data: as an input of a cover or a latch, or as an output of the main
 //! model.
 ghost use Rattle.std.specs.Prelude.{◌≡◌, [], slice_get, Some, None, IfOk, IfErr, MatchOption};
-ghost use Rattle.blif_flat.specs.{OrMemory, ModelValue, refusal_of, model_at, inputs_of, IsDriven, Place, AreInstances, paths_of, places_at, is_gate, data_of, ClockData, IsGateAt, AreGatesAt, IsNets, AreAllNets, AreClockMarks, Tells, marked_name, clock_named, name_fault, names_fault, IsConnected, IsFault, IsLight, IsCircuit, AreClockNets};
+ghost use Rattle.blif_flat.specs.Bodies.Conditions.{OfGate, OfMain, TellsData};
+ghost use Rattle.blif_flat.specs.{OrMemory, IsDriven, AreInstances, AreGatesAt, IsNets, AreAllNets, AreClockMarks, Tells, IsConnected, IsFault, IsLight, IsCircuit, AreClockNets};
+ghost use Rattle.blif_flat.specs.{refusal_of, inputs_of, paths_of, places_at, is_gate, data_of, marked_name, clock_named, name_fault, names_fault};
 
 use crate::circuit::connect::Circuit;
 use crate::circuit::instances::{Gate, GateKind, gate_body, gates};
@@ -15,7 +17,8 @@ use std::alloc::Global;
 use tl_text::Name;
 
 fn marked_input<'a>(inputs: &'a [Name], marks: &[bool], j: u32) -> Option<&'a Name>
-    ensures { MatchOption result (marked_name (slice_get marks.now j) (slice_get inputs.now j) ≡ None) (λ name. marked_name (slice_get marks.now j) (slice_get inputs.now j) ≡ Some name.now) }
+    ensures { MatchOption result (marked_name (slice_get marks.now j) (slice_get inputs.now j) ≡ None)
+        (λ name. marked_name (slice_get marks.now j) (slice_get inputs.now j) ≡ Some name.now) }
 {
     match marks.get(j as usize) {
         None => None,
@@ -84,7 +87,8 @@ fn check_gate(
 ) -> Result<(), FlatErr>
     requires instances { AreInstances library.now wiring.now.instances.now }
     requires nets { IsNets wiring.now.nets.now }
-    ensures { (p : Place) → IsGateAt (paths_of wiring.now.instances.now) gate p → Tells result (names_fault wiring.now.inputs.now marks.now wiring.now.nets.now gate.row (data_of library.now p)) }
+    ensures { OfGate wiring.now.instances.now gate (λ p.
+        Tells result (names_fault wiring.now.inputs.now marks.now wiring.now.nets.now gate.row (data_of library.now p))) }
 {
     match gate_body(library, wiring.instances, gate) {
         None => Ok(()),
@@ -127,10 +131,10 @@ pub(crate) fn check_data(
     requires instances { AreInstances library.now wiring.now.instances.now }
     requires nets { AreAllNets library.now wiring.now.instances.now wiring.now.nets.now }
     requires gates { AreGatesAt (paths_of wiring.now.instances.now) gates.now (places_at library.now is_gate (paths_of wiring.now.instances.now)) }
-    requires inputs { (main : ModelValue) → model_at library.now [] ≡ Some main → wiring.now.inputs.now ≡ inputs_of main }
-    requires marks { (main : ModelValue) → model_at library.now [] ≡ Some main → AreClockMarks library.now main marks.now }
-    ensures ok { IfOk result (λ _. (main : ModelValue) → model_at library.now [] ≡ Some main → ClockData library.now main (places_at library.now is_gate (paths_of wiring.now.instances.now)) None) }
-    ensures err { IfErr result (OrMemory refusal_of (λ r. (main : ModelValue) → model_at library.now [] ≡ Some main → ClockData library.now main (places_at library.now is_gate (paths_of wiring.now.instances.now)) (Some r))) }
+    requires inputs { OfMain library.now (λ main. wiring.now.inputs.now ≡ inputs_of main) }
+    requires marks { OfMain library.now (λ main. AreClockMarks library.now main marks.now) }
+    ensures ok { IfOk result (λ _. TellsData library.now wiring.now.instances.now None) }
+    ensures err { IfErr result (OrMemory refusal_of (λ r. TellsData library.now wiring.now.instances.now (Some r))) }
 {
     for gate in gates {
         check_gate(alloc, library, wiring, marks, *gate)?;

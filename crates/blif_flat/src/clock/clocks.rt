@@ -82,7 +82,8 @@ fn marks_of(
     control: Option<u32>,
 ) -> Result<Vec<bool>, AllocError>
     requires within { (j : ℕ) → control ≡ Some j → j < length inputs.now }
-    ensures { IfOk result (λ marks. marks.items ≡ map (λ name. has_name clocks.now name || is_control_of (option_and_then (slice_get inputs.now) control) name) inputs.now) }
+    ensures { IfOk result (λ marks. marks.items
+        ≡ map (λ name. has_name clocks.now name || is_control_of (option_and_then (slice_get inputs.now) control) name) inputs.now) }
 {
     let mut marks = Vec::new(alloc);
     for input in inputs {

@@ -1,6 +1,8 @@
 //! The controls of the latches. Their net must be one input of the main model.
 ghost use Rattle.std.specs.Prelude.{◌≡◌, ◌<◌, ℕ, true, false, [], length, slice_get, Some, None, IfOk, IfErr};
-ghost use Rattle.blif_flat.specs.{OrMemory, ModelValue, LatchValue, refusal_of, Path, model_at, inputs_of, IsDriven, IsRead, LatchAt, latch_net, Place, is_cover, is_latch, AreInstances, paths_of, places_at, IsWritten, Clocks, IsGateAt, AreGatesAt, AreAllNets, IsControlled, input_at, IsKeptInput, IsSecond, IsMetInput, IsRefused, ControlNext, ControlFault};
+ghost use Rattle.blif_flat.specs.Bodies.Conditions.{AreCoversOf, AreLatchesOf, OfMain, OfPath, OfLatch, NamesLatch};
+ghost use Rattle.blif_flat.specs.{OrMemory, IsDriven, IsRead, AreInstances, Clocks, AreAllNets, IsControlled, IsKeptInput, IsSecond, IsMetInput, IsRefused, ControlNext, ControlFault};
+ghost use Rattle.blif_flat.specs.{refusal_of, inputs_of, is_latch, paths_of, places_at, input_at};
 
 use crate::circuit::instances::{Gate, Instance, gate_at, gate_latch};
 use crate::clock::wiring::Wiring;
@@ -14,19 +16,18 @@ use tl_text::Name;
 fn write_latch(
     alloc: Global,
     library: &Library,
-    instances: &[Instance],
-    latches: &[Gate],
+    wiring: &Wiring<'_>,
     k: u32,
 ) -> Result<Name, AllocError>
-    requires instances { AreInstances library.now instances.now }
-    requires latches { AreGatesAt (paths_of instances.now) latches.now (places_at library.now is_latch (paths_of instances.now)) }
-    requires here { k < length latches.now }
-    ensures { IfOk result (λ text. (p : Place) → slice_get (places_at library.now is_latch (paths_of instances.now)) k ≡ Some p → IsWritten library.now (latch_net p.path p.command) text) }
+    requires instances { AreInstances library.now wiring.now.instances.now }
+    requires latches { AreLatchesOf library.now wiring.now.instances.now wiring.now.latches.now }
+    requires here { k < length wiring.now.latches.now }
+    ensures { IfOk result (NamesLatch library.now wiring.now.instances.now k) }
 {
-    let gate = gate_at(latches, k);
-    match gate_latch(library, instances, gate) {
+    let gate = gate_at(wiring.latches, k);
+    match gate_latch(library, wiring.instances, gate) {
         None => Name::make(alloc, b""),
-        Some(latch) => write_net(alloc, instances, gate.row, &latch.output),
+        Some(latch) => write_net(alloc, wiring.instances, gate.row, &latch.output),
     }
 }
 
@@ -79,26 +80,21 @@ fn meet_control(
     requires driven { IsDriven library.now }
     requires instances { AreInstances library.now wiring.now.instances.now }
     requires nets { AreAllNets library.now wiring.now.instances.now wiring.now.nets.now }
-    requires covers { AreGatesAt (paths_of wiring.now.instances.now) wiring.now.covers.now (places_at library.now is_cover (paths_of wiring.now.instances.now)) }
-    requires latches { AreGatesAt (paths_of wiring.now.instances.now) wiring.now.latches.now (places_at library.now is_latch (paths_of wiring.now.instances.now)) }
-    requires inputs { (main : ModelValue) → model_at library.now [] ≡ Some main → wiring.now.inputs.now ≡ inputs_of main }
+    requires covers { AreCoversOf library.now wiring.now.instances.now wiring.now.covers.now }
+    requires latches { AreLatchesOf library.now wiring.now.instances.now wiring.now.latches.now }
+    requires inputs { OfMain library.now (λ main. wiring.now.inputs.now ≡ inputs_of main) }
     requires first { (j : ℕ) → first ≡ Some j → j < length wiring.now.inputs.now }
     requires here { row < length wiring.now.instances.now }
-    ensures ok { IfOk result (λ next. (path : Path) → slice_get (paths_of wiring.now.instances.now) row ≡ Some path → IsRead library.now path control.now
-        → IsMetInput library.now path control.now (input_at wiring.now.inputs.now first) (input_at wiring.now.inputs.now next)) }
+    ensures ok { IfOk result (λ next. OfPath wiring.now.instances.now row (λ path. IsRead library.now path control.now
+        → IsMetInput library.now path control.now (input_at wiring.now.inputs.now first) (input_at wiring.now.inputs.now next))) }
     ensures within { IfOk result (λ next. (j : ℕ) → next ≡ Some j → j < length wiring.now.inputs.now) }
-    ensures err { IfErr result (OrMemory refusal_of (λ r. (path : Path) → slice_get (paths_of wiring.now.instances.now) row ≡ Some path → IsRefused library.now path control.now (input_at wiring.now.inputs.now first) r)) }
+    ensures err { IfErr result (OrMemory refusal_of (λ r. OfPath wiring.now.instances.now row
+        (λ path. IsRefused library.now path control.now (input_at wiring.now.inputs.now first) r))) }
 {
     match wiring.nets.net(row, control.bytes()) {
         None => Ok(first),
         Some(Net::Input(j)) => Ok(Some(keep_input(alloc, wiring.inputs, first, j)?)),
-        Some(Net::Latch(k)) => Err(FlatErr::ClockNotInput(write_latch(
-            alloc,
-            library,
-            wiring.instances,
-            wiring.latches,
-            k,
-        )?)),
+        Some(Net::Latch(k)) => Err(FlatErr::ClockNotInput(write_latch(alloc, library, wiring, k)?)),
         Some(Net::Cover(k)) => Err(FlatErr::ClockNotInput(written_cover(
             alloc,
             library,
@@ -120,16 +116,16 @@ fn check_control(
     requires driven { IsDriven library.now }
     requires instances { AreInstances library.now wiring.now.instances.now }
     requires nets { AreAllNets library.now wiring.now.instances.now wiring.now.nets.now }
-    requires covers { AreGatesAt (paths_of wiring.now.instances.now) wiring.now.covers.now (places_at library.now is_cover (paths_of wiring.now.instances.now)) }
-    requires latches { AreGatesAt (paths_of wiring.now.instances.now) wiring.now.latches.now (places_at library.now is_latch (paths_of wiring.now.instances.now)) }
-    requires inputs { (main : ModelValue) → model_at library.now [] ≡ Some main → wiring.now.inputs.now ≡ inputs_of main }
+    requires covers { AreCoversOf library.now wiring.now.instances.now wiring.now.covers.now }
+    requires latches { AreLatchesOf library.now wiring.now.instances.now wiring.now.latches.now }
+    requires inputs { OfMain library.now (λ main. wiring.now.inputs.now ≡ inputs_of main) }
     requires first { (j : ℕ) → first ≡ Some j → j < length wiring.now.inputs.now }
     requires here { gate.row < length wiring.now.instances.now }
-    ensures ok { IfOk result (λ next. (p : Place) (l : LatchValue) → IsGateAt (paths_of wiring.now.instances.now) gate p → LatchAt library.now p.path p.command l
-        → ControlNext library.now p.path l.control (input_at wiring.now.inputs.now first) (input_at wiring.now.inputs.now next)) }
+    ensures ok { IfOk result (λ next. OfLatch library.now wiring.now.instances.now gate
+        (λ p l. ControlNext library.now p.path l.control (input_at wiring.now.inputs.now first) (input_at wiring.now.inputs.now next))) }
     ensures within { IfOk result (λ next. (j : ℕ) → next ≡ Some j → j < length wiring.now.inputs.now) }
-    ensures err { IfErr result (λ e. OrMemory refusal_of (λ r. (p : Place) (l : LatchValue) → IsGateAt (paths_of wiring.now.instances.now) gate p → LatchAt library.now p.path p.command l
-        → ControlFault library.now p.path l.control (input_at wiring.now.inputs.now first) r) e) }
+    ensures err { IfErr result (λ e. OrMemory refusal_of (λ r. OfLatch library.now wiring.now.instances.now gate
+        (λ p l. ControlFault library.now p.path l.control (input_at wiring.now.inputs.now first) r)) e) }
 {
     match gate_latch(library, wiring.instances, gate) {
         None => Ok(first),
@@ -154,11 +150,12 @@ pub(crate) fn check_controls(
     requires driven { IsDriven library.now }
     requires instances { AreInstances library.now wiring.now.instances.now }
     requires nets { AreAllNets library.now wiring.now.instances.now wiring.now.nets.now }
-    requires covers { AreGatesAt (paths_of wiring.now.instances.now) wiring.now.covers.now (places_at library.now is_cover (paths_of wiring.now.instances.now)) }
-    requires latches { AreGatesAt (paths_of wiring.now.instances.now) wiring.now.latches.now (places_at library.now is_latch (paths_of wiring.now.instances.now)) }
-    requires inputs { (main : ModelValue) → model_at library.now [] ≡ Some main → wiring.now.inputs.now ≡ inputs_of main }
-    ensures ok { IfOk result (λ control. (main : ModelValue) → model_at library.now [] ≡ Some main → IsControlled library.now main (paths_of wiring.now.instances.now) control) }
-    ensures err { IfErr result (OrMemory refusal_of (λ r. Clocks library.now None (places_at library.now is_latch (paths_of wiring.now.instances.now)) (Some r))) }
+    requires covers { AreCoversOf library.now wiring.now.instances.now wiring.now.covers.now }
+    requires latches { AreLatchesOf library.now wiring.now.instances.now wiring.now.latches.now }
+    requires inputs { OfMain library.now (λ main. wiring.now.inputs.now ≡ inputs_of main) }
+    ensures ok { IfOk result (λ control. OfMain library.now (λ main. IsControlled library.now main (paths_of wiring.now.instances.now) control)) }
+    ensures err { IfErr result (OrMemory refusal_of (λ r.
+        Clocks library.now None (places_at library.now is_latch (paths_of wiring.now.instances.now)) (Some r))) }
 {
     let mut first: Option<u32> = None;
     for gate in wiring.latches {

@@ -1,10 +1,11 @@
 //! Creates the flat circuit of a library from its circuit and its clock nets.
 ghost use Rattle.std.specs.Prelude.{◌≡◌, ◌<◌, ◌^◌, ℕ, Bool, List, ◌++◌, Some, None, IfOk, IfErr, length, slice_get, map, filter, not};
-ghost use Rattle.blif_flat.specs.{In, OrMemory, ModelValue, refusal_of, input_name, clock_test, with_control_net, IsDriven, IsFlat, IsLight, LoopWalk, IsLoop, inputs_of, IsCircuit, AreClockNets, paths_of, regular_places, IsLogic};
+ghost use Rattle.blif_flat.specs.{In, OrMemory, ModelValue, IsDriven, IsFlat, IsLight, LoopWalk, IsLoop, IsCircuit, AreClockNets, IsLogic};
+ghost use Rattle.blif_flat.specs.{refusal_of, input_name, clock_test, with_control_net, inputs_of, paths_of, regular_places};
 
 use crate::circuit::connect::Circuit;
 use crate::clock::clock_check::ClockNets;
-use crate::field::flat_gates::{flat_covers, flat_latches, regular_numbers};
+use crate::field::flat_gates::{Numbered, flat_covers, flat_latches, regular_numbers};
 use crate::field::flat_ports::{clock_names, flat_outputs, most_underscores, regular_inputs};
 use crate::field::loops::cover_order;
 use crate::flat_err::FlatErr;
@@ -37,11 +38,11 @@ struct Logic {
 }
 
 // The logic of a circuit with these clock nets.
-fn flat_logic(
+fn flat_logic<'a>(
     alloc: Global,
-    library: &Library,
+    library: &'a Library,
     main: &BlifModel,
-    circuit: &Circuit,
+    circuit: &'a Circuit,
     clocks: &ClockNets,
 ) -> Result<Logic, AllocError>
     requires driven { IsDriven library.now }
@@ -49,15 +50,24 @@ fn flat_logic(
     requires main { slice_get library.now.models 0 ≡ Some main.now }
     requires circuit { IsCircuit library.now circuit.now }
     requires clocks { AreClockNets library.now main.now circuit.now.instances.items clocks.now }
-    ensures { IfOk result (λ logic. IsLogic library.now main.now (regular_places library.now main.now (clock_test main.now (input_name main.now clocks.now.control)) (paths_of circuit.now.instances.items))
+    ensures { IfOk result (λ logic. IsLogic library.now main.now
+        (regular_places library.now main.now (clock_test main.now (input_name main.now clocks.now.control)) (paths_of circuit.now.instances.items))
         logic.covers.items logic.latches.items logic.outputs.items) }
 {
     let instances = circuit.instances.as_slice();
     let nets = &circuit.nets;
     let numbers = regular_numbers(alloc, &clocks.marks)?;
     let list = numbers.as_slice();
-    let covers = flat_covers(alloc, library, instances, nets, list, &circuit.covers)?;
-    let latches = flat_latches(alloc, library, instances, nets, list, &circuit.latches)?;
+    let from = Numbered {
+        library,
+        instances,
+        nets,
+        covers: circuit.covers.as_slice(),
+        latches: circuit.latches.as_slice(),
+        numbers: list,
+    };
+    let covers = flat_covers(alloc, &from)?;
+    let latches = flat_latches(alloc, &from)?;
     let outputs = flat_outputs(alloc, library, instances, nets, list)?;
     Ok(Logic {
         covers,
@@ -84,7 +94,8 @@ fn flat_header(
 ) -> Result<Header, AllocError>
     requires inputs { inputs.now ≡ inputs_of main.now }
     ensures model { IfOk result (λ header. header.model ≡ main.now.name) }
-    ensures inputs { IfOk result (λ header. (test : List ℕ → Bool) → clocks.now.marks.items ≡ map test (inputs_of main.now) → header.inputs.items ≡ filter (λ name. not (test name)) main.now.inputs) }
+    ensures inputs { IfOk result (λ header. (test : List ℕ → Bool) → clocks.now.marks.items ≡ map test (inputs_of main.now)
+        → header.inputs.items ≡ filter (λ name. not (test name)) main.now.inputs) }
     ensures clocks { IfOk result (λ header. header.clocks.items ≡ with_control_net main.now.clocks header.control) }
     ensures control { IfOk result (λ header. header.control ≡ input_name main.now clocks.now.control) }
 {

@@ -1,7 +1,9 @@
 //! The covers and the latches of a flat circuit. Inputs in their nets are numbered among the regular inputs.
 ghost use Rattle.std.specs.Prelude.{◌≡◌, ◌<◌, ◌^◌, length, slice_get, IfOk, []};
 ghost use Rattle.std.specs.Option.{option_map};
-ghost use Rattle.blif_flat.specs.{number_or_zero, IsNets, regular_numbers as numbers_of, renumbered as renumbered_of, regular_net, regular_nets, Body as BodyValue, IsDriven, is_cover, is_latch, AreInstances, paths_of, places_at, AreGatesAt, AreAllNets, IsRegular, regular_places, AreFlatCovers, AreFlatLatches, row_model, cover_inputs as inputs_of, flat_cover as cover_of, made_latch as latch_of, absent_latch as no_latch_value, flat_latch as latch_of_gate};
+ghost use Rattle.blif_flat.specs.Bodies.Conditions.{AreCoversOf, AreLatchesOf, AreRegularCovers, AreRegularLatches};
+ghost use Rattle.blif_flat.specs.{IsNets, IsDriven, AreInstances, AreAllNets};
+ghost use Rattle.blif_flat.specs.{number_or_zero, regular_numbers as numbers_of, renumbered as renumbered_of, regular_net, regular_nets, row_model, cover_inputs as inputs_of, flat_cover as cover_of, made_latch as latch_of, absent_latch as no_latch_value, flat_latch as latch_of_gate};
 
 use crate::circuit::instances::{Gate, Instance, gate_body};
 use crate::circuit::nets::Nets;
@@ -120,26 +122,36 @@ fn flat_cover(
     })
 }
 
+/// The instances of a library with their nets, covers and latches, and the numbers of the inputs among the regular ones.
+#[derive(Drop)]
+pub(crate) struct Numbered<'a> {
+    pub library: &'a Library,
+    pub instances: &'a [Instance],
+    pub nets: &'a Nets,
+    pub covers: &'a [Gate],
+    pub latches: &'a [Gate],
+    pub numbers: &'a [u32],
+}
+
 /// The flat covers. The instances, the nets and the covers belong to the library. `Err` only if memory runs out. The time is
 /// linear in the bytes of the covers' inputs, on average over the hashes.
-pub(crate) fn flat_covers(
-    alloc: Global,
-    library: &Library,
-    instances: &[Instance],
-    nets: &Nets,
-    numbers: &[u32],
-    covers: &[Gate],
-) -> Result<Vec<FlatCover>, AllocError>
-    requires driven { IsDriven library.now }
-    requires instances { AreInstances library.now instances.now }
-    requires nets { AreAllNets library.now instances.now nets.now }
-    requires covers { AreGatesAt (paths_of instances.now) covers.now (places_at library.now is_cover (paths_of instances.now)) }
-    ensures { IfOk result (λ flat. (r : IsRegular library.now numbers.now)
-        → AreFlatCovers library.now (regular_places library.now r.main r.test (paths_of instances.now)) flat.items) }
+pub(crate) fn flat_covers(alloc: Global, from: &Numbered<'_>) -> Result<Vec<FlatCover>, AllocError>
+    requires driven { IsDriven from.now.library.now }
+    requires instances { AreInstances from.now.library.now from.now.instances.now }
+    requires nets { AreAllNets from.now.library.now from.now.instances.now from.now.nets.now }
+    requires covers { AreCoversOf from.now.library.now from.now.instances.now from.now.covers.now }
+    ensures { IfOk result (λ flat. AreRegularCovers from.now.library.now from.now.instances.now from.now.numbers.now flat.items) }
 {
     let mut flat = Vec::new(alloc);
-    for &gate in covers {
-        let cover = flat_cover(alloc, library, instances, nets, numbers, gate)?;
+    for &gate in from.covers {
+        let cover = flat_cover(
+            alloc,
+            from.library,
+            from.instances,
+            from.nets,
+            from.numbers,
+            gate,
+        )?;
         flat.push(cover)?;
     }
     Ok(flat)
@@ -188,24 +200,17 @@ fn flat_latch(
 }
 
 /// The flat latches, likewise.
-pub(crate) fn flat_latches(
-    alloc: Global,
-    library: &Library,
-    instances: &[Instance],
-    nets: &Nets,
-    numbers: &[u32],
-    latches: &[Gate],
-) -> Result<Vec<FlatLatch>, AllocError>
-    requires driven { IsDriven library.now }
-    requires instances { AreInstances library.now instances.now }
-    requires nets { AreAllNets library.now instances.now nets.now }
-    requires latches { AreGatesAt (paths_of instances.now) latches.now (places_at library.now is_latch (paths_of instances.now)) }
-    ensures { IfOk result (λ flat. (r : IsRegular library.now numbers.now)
-        → AreFlatLatches library.now (regular_places library.now r.main r.test (paths_of instances.now)) flat.items) }
+pub(crate) fn flat_latches(alloc: Global, from: &Numbered<'_>) -> Result<Vec<FlatLatch>, AllocError>
+    requires driven { IsDriven from.now.library.now }
+    requires instances { AreInstances from.now.library.now from.now.instances.now }
+    requires nets { AreAllNets from.now.library.now from.now.instances.now from.now.nets.now }
+    requires latches { AreLatchesOf from.now.library.now from.now.instances.now from.now.latches.now }
+    ensures { IfOk result (λ flat. AreRegularLatches from.now.library.now from.now.instances.now from.now.numbers.now flat.items) }
 {
     let mut flat = Vec::new(alloc);
-    for &gate in latches {
-        flat.push(flat_latch(library, instances, nets, numbers, gate))?;
+    for &gate in from.latches {
+        let latch = flat_latch(from.library, from.instances, from.nets, from.numbers, gate);
+        flat.push(latch)?;
     }
     Ok(flat)
 }

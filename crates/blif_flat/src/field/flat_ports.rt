@@ -1,6 +1,7 @@
 //! The ports of a flat circuit: its outputs, its regular inputs and its clock nets.
 ghost use Rattle.std.specs.Prelude.{◌≡◌, ◌<◌, ◌^◌, ℕ, Bool, List, [], ◌∷◌, ◌++◌, length, map, filter, max, not, IfOk, OnOk, slice_get};
-ghost use Rattle.blif_flat.specs.{In, OutPort as OutPortValue, inputs_of, has_name, IsDriven, AreInstances, paths_of, IsNets, AreAllNets, AreNetsOf, with_control_net, underscores as underscores_of, most_underscores, IsRegular, regular_places, out_port as port_of, outputs_or, with_unmarked, unmarked_after};
+ghost use Rattle.blif_flat.specs.{In, OutPort as OutPortValue, IsDriven, AreInstances, IsNets, AreAllNets, AreNetsOf, IsRegular};
+ghost use Rattle.blif_flat.specs.{inputs_of, has_name, paths_of, with_control_net, underscores as underscores_of, most_underscores, regular_places, out_port as port_of, outputs_or, with_unmarked, unmarked_after};
 
 use crate::circuit::instances::Instance;
 use crate::circuit::nets::Nets;
@@ -63,7 +64,8 @@ pub(crate) fn flat_outputs(
     requires nets { AreAllNets library.now instances.now nets.now }
     ensures names { IfOk result (λ flat. (r : IsRegular library.now numbers.now) → map (λ (o : OutPortValue). o.name) flat.items ≡ r.main.outputs) }
     ensures nets { IfOk result (λ flat. (r : IsRegular library.now numbers.now)
-        → AreNetsOf library.now (regular_places library.now r.main r.test (paths_of instances.now)) [] r.main.outputs (map (λ (o : OutPortValue). o.net) flat.items)) }
+        → AreNetsOf library.now (regular_places library.now r.main r.test (paths_of instances.now)) []
+        r.main.outputs (map (λ (o : OutPortValue). o.net) flat.items)) }
 {
     let ports = out_ports(alloc, nets, numbers, main_outputs(library))?;
     Ok(ports)
@@ -116,7 +118,8 @@ pub(crate) fn regular_inputs(
     model: &BlifModel,
     marks: &[bool],
 ) -> Result<Vec<Name>, AllocError>
-    ensures { IfOk result (λ names. (test : List ℕ → Bool) → marks.now ≡ map test (inputs_of model.now) → names.items ≡ filter (λ name. not (test name)) model.now.inputs) }
+    ensures { IfOk result (λ names. (test : List ℕ → Bool) → marks.now ≡ map test (inputs_of model.now)
+        → names.items ≡ filter (λ name. not (test name)) model.now.inputs) }
 {
     let names = unmarked(alloc, &model.inputs, marks)?;
     Ok(names)

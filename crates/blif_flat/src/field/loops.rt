@@ -1,7 +1,9 @@
 //! Loops of covers, and the order of the covers, by their depth-first walk.
 ghost use Rattle.std.specs.Prelude.{◌≡◌, All, ◌<◌, ◌≤◌, ◌^◌, map, length, slice_get, IfOk, ℕ, List, [], ◌∷◌, ◌++◌, reverse, IfErr, OnOk};
 ghost use Rattle.std.specs.List.{range_with_len};
-ghost use Rattle.blif_flat.specs.{inputs_at, edge_of, InRange, IsReady, Searched, IsFound, In, OrMemory, FlatNet as NetValue, OutPort as OutPortValue, refusal_of, IsDriven, is_cover, most_weight, AreInstances, paths_of, places_at, AreGatesAt, cover_numbers, cover_reads, PostsAll, LoopWalk, IsLoop, AreCounted, latch_nets, root_numbers, AreWrittenAt};
+ghost use Rattle.blif_flat.specs.Bodies.Conditions.{AreCoversOf};
+ghost use Rattle.blif_flat.specs.{InRange, IsReady, Searched, IsFound, In, OrMemory, FlatNet as NetValue, OutPort as OutPortValue, IsDriven, AreInstances, PostsAll, LoopWalk, IsLoop, AreCounted, AreWrittenAt};
+ghost use Rattle.blif_flat.specs.{inputs_at, edge_of, refusal_of, is_cover, most_weight, paths_of, places_at, cover_numbers, cover_reads, root_numbers};
 
 use crate::circuit::instances::{Gate, Instance};
 use crate::field::written::written_cover;
@@ -168,7 +170,7 @@ fn written_covers(
     numbers: &[u32],
 ) -> Result<Vec<Name>, AllocError>
     requires instances { AreInstances library.now instances.now }
-    requires gates { AreGatesAt (paths_of instances.now) gates.now (places_at library.now is_cover (paths_of instances.now)) }
+    requires gates { AreCoversOf library.now instances.now gates.now }
     requires here { (number : ℕ) → In numbers.now number → number < length gates.now }
     ensures { IfOk result (λ texts. AreWrittenAt library.now (places_at library.now is_cover (paths_of instances.now)) numbers.now texts.items) }
 {
@@ -196,11 +198,12 @@ pub(crate) fn cover_order(
 ) -> Result<Vec<u32>, FlatErr>
     requires driven { IsDriven library.now }
     requires instances { AreInstances library.now instances.now }
-    requires gates { AreGatesAt (paths_of instances.now) gates.now (places_at library.now is_cover (paths_of instances.now)) }
+    requires gates { AreCoversOf library.now instances.now gates.now }
     requires walked { AreCounted library.now (paths_of instances.now) (map (λ (o : OutPortValue). o.net) outputs.now) covers.now latches.now }
     requires few { length covers.now ≤ most_weight }
     ensures clean { IfOk result (λ order. LoopWalk library.now None) }
-    ensures order { IfOk result (λ order. PostsAll (cover_reads covers.now) [] (root_numbers (map (λ (o : OutPortValue). o.net) outputs.now) latches.now) (reverse order.items)) }
+    ensures order { IfOk result (λ order. PostsAll (cover_reads covers.now) []
+        (root_numbers (map (λ (o : OutPortValue). o.net) outputs.now) latches.now) (reverse order.items)) }
     ensures err { IfErr result (OrMemory refusal_of (IsLoop library.now)) }
 {
     let roots = all_roots(alloc, outputs, latches)?;

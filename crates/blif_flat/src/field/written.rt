@@ -2,7 +2,9 @@
 //! at the driver.
 ghost use Rattle.std.specs.Prelude.{◌≡◌, ◌<◌, ◌∷◌, ◌++◌, [], length, decimal, Some, slice_get, IfOk, OnOk};
 ghost use Rattle.std.specs.Option.{option_and_then};
-ghost use Rattle.blif_flat.specs.{Path, body_at, cover_in, is_cover, CoverAt, cover_net, path_text, IsWritten, paths_of, AreInstances, places_at, AreGatesAt, IsWrittenAt, AreUnder, output_or, output_at as output_at_of};
+ghost use Rattle.blif_flat.specs.Bodies.Conditions.{AreCoversOf};
+ghost use Rattle.blif_flat.specs.{Path, CoverAt, IsWritten, AreInstances, IsWrittenAt, AreUnder};
+ghost use Rattle.blif_flat.specs.{body_at, cover_in, is_cover, cover_net, path_text, paths_of, places_at, output_or, output_at as output_at_of};
 ghost use Rattle.netlist.specs.CoverValue.{CoverValue};
 
 use crate::circuit::instances::{Gate, Instance};
@@ -140,7 +142,7 @@ pub(crate) fn written_cover(
     number: u32,
 ) -> Result<Name, AllocError>
     requires instances { AreInstances library.now instances.now }
-    requires gates { AreGatesAt (paths_of instances.now) gates.now (places_at library.now is_cover (paths_of instances.now)) }
+    requires gates { AreCoversOf library.now instances.now gates.now }
     requires here { number < length gates.now }
     ensures { IfOk result (λ text. IsWrittenAt library.now (places_at library.now is_cover (paths_of instances.now)) number text) }
 {

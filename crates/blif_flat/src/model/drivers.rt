@@ -1,6 +1,7 @@
 //! Names that are driven twice, and names that are read but not driven.
 ghost use Rattle.std.specs.Prelude.{◌≡◌, ℕ, List, [], ◌∷◌, ◌++◌, map, None, slice_get, MatchOption};
-ghost use Rattle.blif_flat.specs.{ModelValue, model_named, has_name, ports_value, model_names, output_actuals, input_actuals, driven_pairs, read_pairs, control_names, drives, reads, all_drives, twice_in, twice_fault, undriven_in, undriven_fault, model_fault, models_fault, Tells, Adds, ArePortsOf, AreOf, fault_of, models_at};
+ghost use Rattle.blif_flat.specs.{ModelValue, Tells, Adds, ArePortsOf, AreOf};
+ghost use Rattle.blif_flat.specs.{model_named, ports_value, output_actuals, input_actuals, driven_pairs, read_pairs, control_names, drives, reads, all_drives, twice_in, twice_fault, undriven_in, undriven_fault, model_fault, models_fault, fault_of, models_at};
 ghost use Rattle.netlist.specs.LibraryValue.{LibraryValue};
 
 use crate::flat_err::FlatErr;
@@ -57,7 +58,8 @@ fn ports_of<'a>(index: &ModelIndex, ports: &'a [Ports], name: &Name) -> Option<&
 // Adds the actual of a connection of an output.
 fn drive_actual(site: &Site, driven: &mut Driven, ports: &Ports, pair: &Pair) -> Result<(), FlatErr>
     ensures { (child : ModelValue) → ports.now ≡ ports_value child
-        → Adds result (twice_in site.now.model.now site.now.line driven.old (output_actuals child (pair.now ∷ []))) driven.old driven.new (output_actuals child (pair.now ∷ [])) }
+        → Adds result (twice_in site.now.model.now site.now.line driven.old (output_actuals child (pair.now ∷ [])))
+        driven.old driven.new (output_actuals child (pair.now ∷ [])) }
 {
     if ports.is_output(pair.formal.bytes()) {
         drive(site, driven, &pair.actual)
@@ -73,7 +75,8 @@ fn drive_actuals(
     pairs: &[Pair],
 ) -> Result<(), FlatErr>
     ensures { (child : ModelValue) → ports.now ≡ ports_value child
-        → Adds result (twice_in site.now.model.now site.now.line driven.old (output_actuals child pairs.now)) driven.old driven.new (output_actuals child pairs.now) }
+        → Adds result (twice_in site.now.model.now site.now.line driven.old (output_actuals child pairs.now))
+        driven.old driven.new (output_actuals child pairs.now) }
 {
     for pair in pairs {
         drive_actual(site, driven, ports, pair)?;
@@ -83,7 +86,8 @@ fn drive_actuals(
 
 // Tells the actual of a connection of an input where it isn't driven.
 fn check_actual(site: &Site, driven: &Driven, ports: &Ports, pair: &Pair) -> Result<(), FlatErr>
-    ensures { (child : ModelValue) → ports.now ≡ ports_value child → Tells result (undriven_in site.now.model.now site.now.line driven.now (input_actuals child (pair.now ∷ []))) }
+    ensures { (child : ModelValue) → ports.now ≡ ports_value child
+        → Tells result (undriven_in site.now.model.now site.now.line driven.now (input_actuals child (pair.now ∷ []))) }
 {
     if ports.is_input(pair.formal.bytes()) {
         check_driven(site, driven, &pair.actual)
@@ -93,7 +97,8 @@ fn check_actual(site: &Site, driven: &Driven, ports: &Ports, pair: &Pair) -> Res
 }
 
 fn check_actuals(site: &Site, driven: &Driven, ports: &Ports, pairs: &[Pair]) -> Result<(), FlatErr>
-    ensures { (child : ModelValue) → ports.now ≡ ports_value child → Tells result (undriven_in site.now.model.now site.now.line driven.now (input_actuals child pairs.now)) }
+    ensures { (child : ModelValue) → ports.now ≡ ports_value child
+        → Tells result (undriven_in site.now.model.now site.now.line driven.now (input_actuals child pairs.now)) }
 {
     for pair in pairs {
         check_actual(site, driven, ports, pair)?;

@@ -2,7 +2,9 @@
 ghost use Rattle.std.specs.Prelude.{◌≡◌, ◌∷◌, ◌++◌, [], IfOk, OnOk, IfErr, None, ◌<◌, length, map, slice_get, Some};
 ghost use Rattle.std.specs.Option.{option_map};
 ghost use Rattle.depth_first.specs.Walk.{from_node};
-ghost use Rattle.blif_flat.specs.{UnknownFormal as unknown_formal_of, Unconnected as unconnected_of, IsTold, ports_value, foreign_formal, open_among, ports_fault, AreOnce, ModelValue, RecursiveModel as recursive_model_of, model_names, with_name_of, names_at, IsPlacing, line_fault};
+ghost use Rattle.blif_flat.specs.Bodies.Conditions.{OfModel};
+ghost use Rattle.blif_flat.specs.{UnknownFormal as unknown_formal_of, Unconnected as unconnected_of, IsTold, AreOnce, RecursiveModel as recursive_model_of, IsPlacing};
+ghost use Rattle.blif_flat.specs.{ports_value, foreign_formal, open_among, ports_fault, model_names, with_name_of, names_at, line_fault};
 
 use crate::flat_err::FlatErr;
 use crate::model::ports::{Models, Ports, formal_index};
@@ -148,8 +150,8 @@ fn check_child(
 ) -> Result<(), FlatErr>
     requires within { n < length models.now.list.now }
     requires ports { models.now.ports.now ≡ map ports_value models.now.list.now }
-    ensures ok { OnOk result ((child : ModelValue) → slice_get models.now.list.now n ≡ Some child → ports_fault model.now line subckt.now child ≡ None) }
-    ensures err { IfErr result (λ e. (child : ModelValue) → slice_get models.now.list.now n ≡ Some child → IsTold e (ports_fault model.now line subckt.now child)) }
+    ensures ok { OnOk result (OfModel models.now.list.now n (λ child. ports_fault model.now line subckt.now child ≡ None)) }
+    ensures err { IfErr result (λ e. OfModel models.now.list.now n (λ child. IsTold e (ports_fault model.now line subckt.now child))) }
 {
     let child = &models.list[n as usize];
     let child_ports = &models.ports[n as usize];
@@ -170,7 +172,9 @@ pub(crate) fn check_line(
     requires ports { models.now.ports.now ≡ map ports_value models.now.list.now }
     requires names { AreOnce (model_names models.now.list.now) }
     ensures ok { IfOk result (λ n. IsPlacing models.now.list.now walk.now.path model.now (record { line = line; subckt = subckt.now }) n) }
-    ensures err { IfErr result (λ e. IsTold e (line_fault (record { models = models.now.list.now }) (names_at models.now.list.now walk.now.path) model.now (record { line = line; subckt = subckt.now }))) }
+    ensures err { IfErr result (λ e. IsTold e
+        (line_fault (record { models = models.now.list.now }) (names_at models.now.list.now walk.now.path) model.now
+        (record { line = line; subckt = subckt.now }))) }
 {
     match models.index.find(subckt.model.bytes()) {
         None => {

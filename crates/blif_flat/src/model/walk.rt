@@ -1,7 +1,9 @@
 //! The walk of the models, as a graph in which each `.subckt` line leads to its model.
 ghost use Rattle.std.specs.Prelude.{◌≡◌, [], map, IfOk, MatchResult, IsSome, ◌<◌, List, length, reverse, slice_get, Some, None, OnOk, IfErr};
 ghost use Rattle.depth_first.specs.declared.edge.Edge.TheVariants.{Stop as stop_at};
-ghost use Rattle.blif_flat.specs.{AreOnce, refusal_of, ports_value, model_names, line_edge, body_edge, commands_edges, edge_rows, In, OrMemory, IsWellFormed, ModelValue, IsTold, names_at, lines_fault, path_fault, models_at, AreChildrenFirst, SubcktLine, with_line, subckt_lines, walked, refused, WalksMain};
+ghost use Rattle.blif_flat.specs.Bodies.Conditions.{walk_fault, WalksTo, WalkTells};
+ghost use Rattle.blif_flat.specs.{AreOnce, In, IsWellFormed, IsTold, AreChildrenFirst, SubcktLine};
+ghost use Rattle.blif_flat.specs.{refusal_of, ports_value, model_names, line_edge, body_edge, commands_edges, edge_rows, path_fault, with_line, subckt_lines};
 
 use crate::flat_err::FlatErr;
 use crate::model::line_check::check_line;
@@ -142,8 +144,11 @@ fn check_command(
     requires index { models.now.index.now.names ≡ model_names models.now.list.now }
     requires ports { models.now.ports.now ≡ map ports_value models.now.list.now }
     requires names { AreOnce (model_names models.now.list.now) }
-    ensures ok { OnOk result ((lines : List SubcktLine) → lines_fault models.now.list.now (names_at models.now.list.now walk.now.path) model.now (with_line command.now.line command.now.body lines) ≡ lines_fault models.now.list.now (names_at models.now.list.now walk.now.path) model.now lines) }
-    ensures err { IfErr result (λ e. (lines : List SubcktLine) → IsTold e (lines_fault models.now.list.now (names_at models.now.list.now walk.now.path) model.now (with_line command.now.line command.now.body lines))) }
+    ensures ok { OnOk result ((lines : List SubcktLine)
+        → walk_fault models.now.list.now walk.now.path model.now (with_line command.now.line command.now.body lines)
+        ≡ walk_fault models.now.list.now walk.now.path model.now lines) }
+    ensures err { IfErr result (λ e. (lines : List SubcktLine)
+        → IsTold e (walk_fault models.now.list.now walk.now.path model.now (with_line command.now.line command.now.body lines))) }
 {
     match &command.body {
         Body::Cover(_) => Ok(()),
@@ -165,8 +170,8 @@ fn check_commands(
     requires index { models.now.index.now.names ≡ model_names models.now.list.now }
     requires ports { models.now.ports.now ≡ map ports_value models.now.list.now }
     requires names { AreOnce (model_names models.now.list.now) }
-    ensures ok { OnOk result (lines_fault models.now.list.now (names_at models.now.list.now walk.now.path) model.now (subckt_lines model.now.commands) ≡ None) }
-    ensures err { IfErr result (λ e. IsTold e (lines_fault models.now.list.now (names_at models.now.list.now walk.now.path) model.now (subckt_lines model.now.commands))) }
+    ensures ok { OnOk result (walk_fault models.now.list.now walk.now.path model.now (subckt_lines model.now.commands) ≡ None) }
+    ensures err { IfErr result (λ e. IsTold e (walk_fault models.now.list.now walk.now.path model.now (subckt_lines model.now.commands))) }
 {
     for command in &model.commands {
         check_command(alloc, models, walk, model, command)?;
@@ -197,10 +202,10 @@ fn walk_slice(alloc: Global, models: &Models<'_>) -> Result<Walk, FlatErr>
     requires ports { models.now.ports.now ≡ map ports_value models.now.list.now }
     requires names { AreOnce (model_names models.now.list.now) }
     requires some { 0 < length models.now.list.now }
-    ensures ok { IfOk result (λ w. (main : ModelValue) → slice_get models.now.list.now 0 ≡ Some main → WalksMain (record { models = models.now.list.now }) main (walked (models_at models.now.list.now (reverse w.begun)))) }
+    ensures ok { IfOk result (λ w. WalksTo (record { models = models.now.list.now }) w.begun) }
     ensures children { IfOk result (λ w. AreChildrenFirst (record { models = models.now.list.now }) (reverse w.order)) }
     ensures main { IfOk result (λ w. In w.order 0) }
-    ensures err { IfErr result (λ e. (main : ModelValue) → slice_get models.now.list.now 0 ≡ Some main → OrMemory refusal_of (λ r. WalksMain (record { models = models.now.list.now }) main (refused r)) e) }
+    ensures err { IfErr result (WalkTells (record { models = models.now.list.now })) }
 {
     let mut walk = Walk::make(alloc, models.list.len())?;
     let graph = ModelGraph::make(alloc, models, &walk)?;
@@ -230,10 +235,10 @@ pub(crate) fn walk_models(
     requires formed { IsWellFormed library.now }
     requires index { index.now.names ≡ model_names library.now.models }
     requires ports { ports.now ≡ map ports_value library.now.models }
-    ensures ok { IfOk result (λ w. (main : ModelValue) → slice_get library.now.models 0 ≡ Some main → WalksMain library.now main (walked (models_at library.now.models (reverse w.begun)))) }
+    ensures ok { IfOk result (λ w. WalksTo library.now w.begun) }
     ensures children { IfOk result (λ w. AreChildrenFirst library.now (reverse w.order)) }
     ensures main { IfOk result (λ w. In w.order 0) }
-    ensures err { IfErr result (λ e. (main : ModelValue) → slice_get library.now.models 0 ≡ Some main → OrMemory refusal_of (λ r. WalksMain library.now main (refused r)) e) }
+    ensures err { IfErr result (WalkTells library.now) }
 {
     let models = Models {
         list: &library.models,

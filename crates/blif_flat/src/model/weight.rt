@@ -1,6 +1,7 @@
 //! The weights of models, each capped at 2^22 + 1.
 ghost use Rattle.std.specs.Prelude.{◌≡◌, ℕ, ◌+◌, ◌<◌, ◌≤◌, length, Some, slice_get, set, IfOk, MatchResult};
-ghost use Rattle.blif_flat.specs.{In, OrMemory, ModelValue, most_weight, body_weight, commands_weight, own_weight, TooLarge, refusal_of, model_names, HasWeight, capped, body_kept, commands_kept, model_kept, AreChildrenFirst, IsKeptWeight};
+ghost use Rattle.blif_flat.specs.{In, OrMemory, ModelValue, TooLarge, HasWeight, AreChildrenFirst, IsKeptWeight};
+ghost use Rattle.blif_flat.specs.{most_weight, body_weight, commands_weight, own_weight, refusal_of, model_names, capped, body_kept, commands_kept, model_kept};
 
 use crate::flat_err::FlatErr;
 use crate::model::ports::ModelIndex;
@@ -145,7 +146,8 @@ pub(crate) fn check_weight(
     requires order { AreChildrenFirst library.now order.now }
     requires main { In order.now 0 }
     ensures { (main : ModelValue) → slice_get library.now.models 0 ≡ Some main
-        → MatchResult result (λ _. HasWeight library.now main (λ w. w ≤ most_weight)) (OrMemory refusal_of (λ r. (r ≡ TooLarge) × HasWeight library.now main (λ w. most_weight < w))) }
+        → MatchResult result (λ _. HasWeight library.now main (λ w. w ≤ most_weight))
+        (OrMemory refusal_of (λ r. (r ≡ TooLarge) × HasWeight library.now main (λ w. most_weight < w))) }
 {
     let weights = weigh(alloc, library, index, order)?;
     match weights.first() {

@@ -1,12 +1,12 @@
 use Rattle.depth_first.proofs.Common.{◌+◌, drop, get_or, sym, ap, ◌∙◌, drop_past, path_of, seen}
 use Rattle.depth_first.proofs.AllLemmas.{drop_next, left_none, left_step, left_found, left_end}
-use Rattle.depth_first.proofs.VisitLemmas.{no_path, kept_same, kept_more}
+use Rattle.depth_first.proofs.VisitLemmas.{can_go_on, kept_same, kept_more}
 use Rattle.depth_first.proofs.BackLemmas.{grown_none, grown_on}
 use Rattle.depth_first.proofs.run.go_all.Goals as goal
 
 pub loop-start-init : goal.loop-start-init
 loop-start-init g c = let w = c.args.frames.now in
-    (left_none (g.G.Successors.edges c.args.graph.now) (seen w) c.args.starts.now c.requires.settled (ap path_of c.requires.empty), (kept_same w c.requires.marks, grown_none w))
+    (left_none (g.G.Successors.edges c.args.graph.now) (seen w) c.args.starts.now c.requires.ready.settled (ap path_of c.requires.ready.empty), (kept_same w c.requires.ready.marks, grown_none w))
 
 pub loop-start-preserved : goal.loop-start-preserved
 loop-start-preserved g c = let w = c.args.frames.now in let v = c.loop-start.frames in let u = c.go_from.new.frames in let xs = c.args.starts.now in let i = c.loop-start.start-index in (
@@ -15,8 +15,9 @@ loop-start-preserved g c = let w = c.args.frames.now in let v = c.loop-start.fra
   (kept_more w v u c.loop-start.invariant.1.0.long c.go_from.ensures.kept, grown_on w v u c.loop-start.invariant.1.1 c.go_from.ensures.grown),
 )
 
-pub go_from-requires-clause-empty : goal.go_from-requires-clause-empty
-go_from-requires-clause-empty g c = no_path c.loop-start.frames.stack c.loop-start.invariant.0.path
+pub go_from-requires-clause-ready : goal.go_from-requires-clause-ready
+go_from-requires-clause-ready g c = let l = c.loop-start in
+    can_go_on (g.G.Successors.edges c.args.graph.now) (g.G.Successors.is_node c.args.graph.now) c.args.frames.now l.frames c.requires.ready l.invariant.1.0 l.invariant.0.settled l.invariant.0.path
 
 pub returns-then-is_some-clause-ok : goal.returns-then-is_some-clause-ok
 returns-then-is_some-clause-ok g c = let xs = c.args.starts.now in let i = c.loop-start.start-index in

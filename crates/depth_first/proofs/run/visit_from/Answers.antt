@@ -1,12 +1,11 @@
-use Rattle.depth_first.proofs.BackLemmas.{seen_back, kept_back}
+use Rattle.depth_first.proofs.Common.{Visited, seen}
+use Rattle.depth_first.proofs.BackLemmas.{went_back}
 use Rattle.depth_first.proofs.run.visit_from.Goals as goal
 
-pub returns-in-Err-clause-err : goal.returns-in-Err-clause-err
-returns-in-Err-clause-err g c =
-    seen_back c.args.frames.now c.go_from.new.frames c.requires.marks c.requires.empty c.go_from.ensures.kept c.go_from.ensures.grown
-    c.begun_count-begun.result c.done_count-order.result c.take_back.new.frames c.begun_count-begun.ensures c.done_count-order.ensures c.take_back.ensures
-
-pub returns-in-Err-clause-kept : goal.returns-in-Err-clause-kept
-returns-in-Err-clause-kept g c =
-    kept_back c.args.frames.now c.go_from.new.frames c.requires.marks c.requires.empty c.go_from.ensures.kept c.go_from.ensures.grown
-    c.begun_count-begun.result c.done_count-order.result c.take_back.new.frames c.begun_count-begun.ensures c.done_count-order.ensures c.take_back.ensures
+pub returns : goal.returns
+returns g c =
+    let w = c.args.frames.now in
+    let back = went_back w c.go_from-found.new.frames c.requires.ready.marks c.requires.ready.empty c.go_from-found.ensures.kept c.go_from-found.ensures.grown
+    c.begun_count-begun.result c.done_count-order.result c.begun_count-begun.ensures c.done_count-order.ensures c.or_take_back.new.frames
+    c.or_take_back.result c.go_from-found.result c.or_take_back.ensures.found c.or_take_back.ensures.ok c.or_take_back.ensures.err (λ v found. Visited (g.G.Successors.edges c.args.graph.now) (seen w) (seen v) c.args.start found) c.go_from-found.ensures.ok in
+    record { ok = back.0; err = back.1.0; kept = back.1.1 }

@@ -1,34 +1,28 @@
-use Rattle.run_text.proofs.Common.{List, map, Ok, sym, ap, ◌∙◌, OrMemory-map, OrMemory, LineValue, words_line, IsLinesFault, by_lines, at_line, event_values, refusal_of, script_err, IsFirstRefusal, IsScriptFault, passed_err}
+use Rattle.run_text.proofs.Common.{map, Ok, refl, sym, ap, ◌∙◌, In, words_line, lines_fault, text_read, text_refused, EventValue, event_values, refusal_of, script_err, IsFirstRefusal}
+use Rattle.std.proofs.lemmas.Result.{IfOk-weaker}
+use Rattle.run_text.specs.Fits.{Fits}
+use Rattle.run_text.specs.ScriptText.{AreEventsOf}
 use Rattle.run_text.proofs.FitLemmas.{events_fit}
 use Rattle.run_text.proofs.ScriptOnceLemmas.{one_reading}
 use Rattle.run_text.proofs.scripts.read_script.Goals as goal
 
-pub returns-in_err-found-clause-fault : goal.returns-in_err-found-clause-fault
-returns-in_err-found-clause-fault c = passed_err c.from_residual.result c.in_err-found.field-0.0 (OrMemory refusal_of (IsScriptFault c.args.names.now c.args.text.now)) c.from_residual.ensures.1
-    (OrMemory-map refusal_of (IsLinesFault script_err c.args.text.now) (IsScriptFault c.args.names.now c.args.text.now) c.in_err-found.field-0.0 (λ e f. by_lines f) c.in_err-found.ensures.fault)
+pub returns-in-Err-clause-fault : goal.returns-in-Err-clause-fault
+returns-in-Err-clause-fault c =
+    lines_fault script_err refusal_of (λ lines. IsFirstRefusal c.args.names.now lines) c.args.text.now c.in-Err.error c.lines_err.result c.lines_err.ensures refl c.in-Err.ensures.answer
 
-pub returns-in_err-found-clause-one_reading : goal.returns-in_err-found-clause-one_reading
-returns-in_err-found-clause-one_reading c = one_reading c.args.names.now c.args.text.now
+pub returns-in-Err-clause-one_reading : goal.returns-in-Err-clause-one_reading
+returns-in-Err-clause-one_reading c = one_reading c.args.names.now c.args.text.now
 
-pub returns-in_err-events-clause-fault : goal.returns-in_err-events-clause-fault
-returns-in_err-events-clause-fault c =
-    let lines : List LineValue = c.deref.result.now in
-    passed_err c.from_residual-in_err-events.result c.in_err-events.field-0.0 (OrMemory refusal_of (IsScriptFault c.args.names.now c.args.text.now)) c.from_residual-in_err-events.ensures.1
-    (OrMemory-map refusal_of (IsFirstRefusal c.args.names.now (map (words_line c.args.text.now) lines)) (IsScriptFault c.args.names.now c.args.text.now) c.in_err-events.field-0.0
-    (λ e first. at_line lines (c.in_ok-found.ensures.lines ∙ ap (λ l. Ok l) (sym c.deref.ensures.value)) first) c.in_err-events.ensures.fault)
-
-pub returns-in_err-events-clause-one_reading : goal.returns-in_err-events-clause-one_reading
-returns-in_err-events-clause-one_reading c = one_reading c.args.names.now c.args.text.now
-
-pub returns-clause-events : goal.returns-clause-events
-returns-clause-events c = record {
-  lines = c.deref.result.now;
-  lines_are = c.in_ok-found.ensures.lines ∙ ap (λ l. Ok l) (sym c.deref.ensures.value);
-  are = c.in_ok-events.ensures.events;
-}
-
-pub returns-clause-fit : goal.returns-clause-fit
-returns-clause-fit c = events_fit c.args.names.now (map (words_line c.args.text.now) c.deref.result.now) (event_values c.in_ok-events.events.items) c.in_ok-events.ensures.events
-
-pub returns-clause-one_reading : goal.returns-clause-one_reading
-returns-clause-one_reading c = one_reading c.args.names.now c.args.text.now
+pub returns-in-Ok : goal.returns-in-Ok
+returns-in-Ok c =
+    let text = c.args.text.now in
+    let names = c.args.names.now in
+    let lines = c.deref.result.now in
+    let are = c.in-Ok.ensures.answer ∙ ap (λ l. Ok l) (sym c.deref.ensures.value) in
+    record {
+      events = text_read text lines are c.read_lines.result (λ lines. AreEventsOf names lines) (λ events. event_values events.items) c.read_lines.ensures.events;
+      fit = IfOk-weaker c.read_lines.result (λ events. AreEventsOf names (map (words_line text) lines) (event_values events.items)) (λ events. (event : EventValue) → In (event_values events.items) event → Fits names event)
+          (λ events. events_fit names (map (words_line text) lines) (event_values events.items)) c.read_lines.ensures.events;
+      fault = text_refused text lines are c.read_lines.result script_err refusal_of (λ lines. IsFirstRefusal names lines) c.read_lines.ensures.fault;
+      one_reading = one_reading names text;
+    }

@@ -1,4 +1,4 @@
-use Rattle.blif_flat.proofs.Common.{◌≡◌, ◌+◌, List, [], ◌∷◌, ◌++◌, length, reverse, Some, ap, sym, subst, ◌∙◌, arith, slice_get, length-append, same_Some, slice_get_within, ModelValue, subckts_of, Instance, Listed, entries_from}
+use Rattle.blif_flat.proofs.Common.{◌≡◌, List, [], ◌∷◌, ◌++◌, length, reverse, Some, ap, sym, subst, ◌∙◌, arith, slice_get, length-append, same_Some, slice_get_within, ModelValue, subckts_of, Instance, Listed, entries_from}
 use Rattle.blif_flat.proofs.Hierarchy.InstanceRowLemmas.{listed_begin, listed_pushed, listed_empty, next_popped}
 use Rattle.blif_flat.proofs.circuit.instances.instances.Goals as goal
 

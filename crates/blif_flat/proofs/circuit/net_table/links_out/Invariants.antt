@@ -3,7 +3,7 @@ use Rattle.blif_flat.proofs.circuit.net_table.links_out.Given as goal
 
 abbrev pub invariant-loop-left : goal.invariant-loop-left
 invariant-loop-left l = record {
-  out : (library : LibraryValue) → AreLinesOf library l.lines l.ports → links_out library l.instances l.nets l.left ≡ links_out library l.instances l.initial.nets (length l.instances);
+  out : (library : LibraryValue) → AreLinesOf library l.placed.lines.now l.placed.ports.now → links_out library l.placed.instances.now l.nets l.left ≡ links_out library l.placed.instances.now l.initial.nets (length l.placed.instances.now);
   nets : IsNets l.nets;
 }
 

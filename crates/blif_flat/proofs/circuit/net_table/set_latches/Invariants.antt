@@ -3,6 +3,6 @@ use Rattle.blif_flat.proofs.circuit.net_table.set_latches.Given as goal
 
 abbrev pub invariant-loop-k : goal.invariant-loop-k
 invariant-loop-k l = record {
-  latches : with_latches l.library l.instances l.nets l.k (drop l.k l.latches) ≡ with_latches l.library l.instances l.initial.nets 0 l.latches;
+  latches : with_latches l.gates.library.now l.gates.instances.now l.nets l.k (drop l.k l.gates.latches.now) ≡ with_latches l.gates.library.now l.gates.instances.now l.initial.nets 0 l.gates.latches.now;
   nets : IsNets l.nets;
 }

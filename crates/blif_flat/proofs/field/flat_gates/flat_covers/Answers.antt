@@ -3,6 +3,6 @@ use Rattle.blif_flat.proofs.Fields.RegularNetLemmas.{all_mapped, covers_are}
 use Rattle.blif_flat.proofs.field.flat_gates.flat_covers.Goals as goal
 
 pub returns : goal.returns
-returns c r = subst (AreFlatCovers c.args.library.now (regular_places c.args.library.now r.main r.test (paths_of c.args.instances.now)))
-    (sym (all_mapped (flat_cover c.args.library.now c.args.instances.now c.args.nets.now c.args.numbers.now) c.loop-gate.flat.items c.args.covers.now c.loop-gate.gate-index c.loop-gate.invariant c.loop-gate-test.false))
-    (covers_are c.args.library.now c.args.instances.now c.requires.instances c.requires.driven c.args.numbers.now r c.args.nets.now c.requires.nets c.args.covers.now c.requires.covers)
+returns c r = subst (AreFlatCovers c.args.from.now.library.now (regular_places c.args.from.now.library.now r.main r.test (paths_of c.args.from.now.instances.now)))
+    (sym (all_mapped (flat_cover c.args.from.now.library.now c.args.from.now.instances.now c.args.from.now.nets.now c.args.from.now.numbers.now) c.loop-gate.flat.items c.args.from.now.covers.now c.loop-gate.gate-index c.loop-gate.invariant c.loop-gate-test.false))
+    (covers_are c.args.from.now.library.now c.args.from.now.instances.now c.requires.instances c.requires.driven c.args.from.now.numbers.now r c.args.from.now.nets.now c.requires.nets c.args.from.now.covers.now c.requires.covers)

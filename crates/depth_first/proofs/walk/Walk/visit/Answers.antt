@@ -1,6 +1,11 @@
-use Rattle.depth_first.proofs.Common.{ap, ◌∙◌, WalkValue}
+use Rattle.depth_first.proofs.Common.{ap, ◌∙◌, WalkValue, rules}
 use Rattle.depth_first.proofs.VisitLemmas.{no_path}
 use Rattle.depth_first.proofs.walk.Walk.visit.Goals as goal
 
-pub visit_from-requires-clause-empty : goal.visit_from-requires-clause-empty
-visit_from-requires-clause-empty g c = no_path c.self.inside.frames.stack (ap (λ (v : WalkValue). v.path) c.self.view_is ∙ c.requires.path)
+pub visit_from-requires-clause-ready : goal.visit_from-requires-clause-ready
+visit_from-requires-clause-ready g c = record {
+  nodes = search rules;
+  marks = search rules;
+  settled = search rules;
+  empty = no_path c.self.inside.frames.stack (ap (λ (v : WalkValue). v.path) c.self.view_is ∙ c.requires.path);
+}

@@ -1,5 +1,0 @@
-use Rattle.param_list.proofs.Common.{refl, lines_fault, par_err, refusal_of}
-use Rattle.param_list.proofs.params.text_lines.Goals as goal
-
-pub returns-in-Err-clause-fault : goal.returns-in-Err-clause-fault
-returns-in-Err-clause-fault c = lines_fault par_err refusal_of c.args.text.now c.in-Err.error c.lines_err.result c.lines_err.ensures refl c.in-Err.ensures.answer
