@@ -205,3 +205,15 @@ pub record HasAllTables (g : Aig) (tables : List Lut) (old new : Aig) (lits bits
   pub free : List Bool
   pub kept : List Bool
   pub made : AreTablesMadeTo g free tables [] old new kept lits bits
+
+-- what making one bit of a LUT, its later bits and all its bits does to the pack, for any LUTs and kept nodes for which all is ready
+abbrev pub AddsBit : Aig → Lut → ℕ → List ℕ → Aig → List Lit → Aig → List Lit → Lit → Type 0
+AddsBit g t v order old before new after bit = (luts : List Lut) (kept : List Bool) → IsBitReady g luts kept t order old before → IsBitMade g luts kept t v order old new after bit
+
+abbrev pub AddsLaterBits : Aig → Lut → List ℕ → Aig → List Lit → List Lit → Aig → List Lit → List Lit → Type 0
+AddsLaterBits g t order old before bits new after made = (luts : List Lut) (kept : List Bool) → IsBitReady g luts kept t order old before
+    → AreBitsMade g luts t 1 (2 ^ length t.leaves) old bits new kept after made
+
+abbrev pub AddsBits : Aig → Lut → List Bool → Aig → List Bool → List Lit → List Lit → Aig → List Bool → List Lit → List Lit → Type 0
+AddsBits g t free old kept before bits new kept' after made = (luts : List Lut) → In luts t → AreFree g luts free → IsBetween g luts old kept before
+    → AreBitsMade g luts t 0 (2 ^ length t.leaves) old bits new kept' after made

@@ -1,7 +1,10 @@
 -- The configuration under the parameters' values: all bits in the order of their addresses.
 use Rattle.std.specs.Prelude.{◌≡◌, ℕ, ◌<◌, Bool, false, List, length, slice_index_or}
-use Rattle.bit_fun.specs.Words.{Aig, Lut, IsMapping, bits_of}
-use Rattle.bit_fun.specs.BitFunction.{IsBit}
+use Rattle.bit_fun.specs.Words.{Aig, Lut, Param, IsMapping, bits_of}
+use Rattle.bit_fun.specs.BitFunction.{IsBit, HasOneBit}
+use Rattle.bit_fun.specs.Parameters.{param_count}
+use Rattle.cover_pick.specs.Work.{IsMakeable}
+use Rattle.param_list.specs.Parameters.{AreNamed}
 
 -- the tables map the graph for some roots
 pub record IsMapped (g : Aig) (luts : List Lut) : Type 0 where
@@ -20,3 +23,14 @@ pub record HasOneConfiguration (g : Aig) (luts : List Lut) (params : List Bool) 
   pub bits : List Bool
   pub is : IsConfiguration g luts params bits
   pub only : (others : List Bool) → IsConfiguration g luts params others → others ≡ bits
+
+-- under any values of the parameters there is one bit at each address
+abbrev pub HasEachBit : Aig → List Lut → Type 0
+HasEachBit g luts = (given : List Bool) → length given ≡ param_count g.kinds → (b : ℕ) → b < bits_of luts → HasOneBit g luts given b
+
+-- what a pack is made from: LUTs that map the graph, whose work is within the limit, and a name for each parameter
+pub record HaveFunctions (g : Aig) (luts : List Lut) (params : List Param) : Type 0 where
+  pub mapped : IsMapped g luts
+  pub light : IsMakeable g luts
+  pub count : param_count g.kinds ≡ length params
+  pub names : AreNamed params

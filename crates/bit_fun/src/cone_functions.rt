@@ -5,9 +5,8 @@ ghost use Rattle.list_laws.specs.Digits.{bit_value};
 ghost use Rattle.aig_core.specs.Aig.{first_and, AreNormal, IsAnd, IsLit};
 ghost use Rattle.aig_core.specs.And.{and_of, with_pairs};
 ghost use Rattle.cut_sets.specs.declared.limits.TheConstants.{MOST_LEAVES};
-ghost use Rattle.cover_pick.specs.declared.lut.Lut.{Lut as LutValue};
 ghost use Rattle.bit_fun.specs.PackOf.{phase_literal};
-ghost use Rattle.bit_fun.specs.ConeFunctions.{fan_in, with_leaves, AreLits, IsGrown, IsMadeOver, IsTableIn, IsBitReady, IsBitMade};
+ghost use Rattle.bit_fun.specs.ConeFunctions.{fan_in, with_leaves, AreLits, IsGrown, IsMadeOver, IsTableIn, AddsBit};
 
 use aig_core::{AigErr, Graph, Lit};
 use cover_pick::Lut;
@@ -116,7 +115,7 @@ pub fn make_bit(
     requires nodes { (n : ℕ) → In order.now n → IsAnd graph.now n }
     requires lits { AreLits graph.now pack.old lits.old }
     requires room { length pack.old.pairs + length order.now ≤ pack.old.max }
-    ensures made { IfOk result (λ bit. (luts : List LutValue) (kept : List Bool) → IsBitReady graph.now luts kept table.now (reverse order.now) pack.old lits.old → IsBitMade graph.now luts kept table.now v (reverse order.now) pack.old pack.new lits.new bit) }
+    ensures made { IfOk result (AddsBit graph.now table.now v (reverse order.now) pack.old lits.old pack.new lits.new) }
     ensures grown { OnOk result (IsGrown graph.now pack.old pack.new (length order.now) lits.new) }
 {
     set_leaves(table.leaves.leaves(), v, lits);

@@ -5,18 +5,16 @@ ghost use Rattle.param_list.specs.Parameters.{AreNamed};
 ghost use Rattle.aig_core.specs.declared.lit.Kind.TheVariants.{Parameter};
 ghost use Rattle.aig_core.specs.Aig.{first_and, node_count, AreNormal, IsAnd};
 ghost use Rattle.cover_pick.specs.declared.lut.Lut.{Lut as LutValue};
-ghost use Rattle.cover_pick.specs.Mapping.{bits_of};
 ghost use Rattle.tl_text.specs.declared.limits.TheConstants.{MOST_PARAMETERS};
 ghost use Rattle.cover_pick.specs.declared.limits.TheConstants.{MOST_WORK};
 ghost use Rattle.cover_pick.specs.Work.{IsMakeable};
 ghost use Rattle.cover_pick.specs.Free.{AreFree};
 ghost use Rattle.ppc_pack.specs.Pack.{IsPack};
 ghost use Rattle.bit_fun.specs.Parameters.{param_count};
-ghost use Rattle.bit_fun.specs.BitFunction.{HasOneBit};
-ghost use Rattle.bit_fun.specs.Configuration.{IsMapped, HasOneConfiguration};
+ghost use Rattle.bit_fun.specs.Configuration.{IsMapped, HasEachBit, HasOneConfiguration, HaveFunctions};
 ghost use Rattle.bit_fun.specs.PackOf.{pack_param, IsPackOf, HasOnePack};
 ghost use Rattle.bit_fun.specs.PackLaw.{HasConfigurations};
-ghost use Rattle.bit_fun.specs.ConeFunctions.{lit_of, HaveSourceLits, HaveSourceLitsTo, AreLits, HasRoom, IsTableWithin, IsTableIn, IsGrown, IsBitReady, IsBetween, AreBitsMade, HasAllTables};
+ghost use Rattle.bit_fun.specs.ConeFunctions.{lit_of, HaveSourceLits, HaveSourceLitsTo, AreLits, HasRoom, IsTableWithin, IsTableIn, IsGrown, AddsBits, AddsLaterBits, HasAllTables};
 
 use crate::cone_functions::make_bit;
 use crate::cone_graph::walk_cone;
@@ -75,7 +73,7 @@ fn push_bits(
     requires nodes { (n : ℕ) → In order.now n → IsAnd graph.now n }
     requires lits { AreLits graph.now pack.old lits.old }
     requires room { length pack.old.pairs + (2 ^ length table.now.leaves - 1) * length order.now ≤ pack.old.max }
-    ensures made { OnOk result ((luts : List LutValue) (kept : List Bool) → IsBitReady graph.now luts kept table.now (reverse order.now) pack.old lits.old → AreBitsMade graph.now luts table.now 1 (2 ^ length table.now.leaves) pack.old bits.old.items pack.new kept lits.new bits.new.items) }
+    ensures made { OnOk result (AddsLaterBits graph.now table.now (reverse order.now) pack.old lits.old bits.old.items pack.new lits.new bits.new.items) }
     ensures grown { OnOk result (IsGrown graph.now pack.old pack.new ((2 ^ length table.now.leaves - 1) * length order.now) lits.new) }
 {
     let count = 1u32 << table.leaves.len();
@@ -104,7 +102,7 @@ fn push_table(
     requires long { length kept.old ≡ node_count graph.now }
     requires room { HasRoom graph.now free.now table.now kept.old pack.old }
     requires count { walk.old.count ≡ node_count graph.now }
-    ensures made { OnOk result ((luts : List LutValue) → In luts table.now → AreFree graph.now luts free.now → IsBetween graph.now luts pack.old kept.old lits.old → AreBitsMade graph.now luts table.now 0 (2 ^ length table.now.leaves) pack.old bits.old.items pack.new kept.new lits.new bits.new.items) }
+    ensures made { OnOk result (AddsBits graph.now table.now free.now pack.old kept.old lits.old bits.old.items pack.new kept.new lits.new bits.new.items) }
     ensures few { OnOk result (IsTableWithin graph.now free.now table.now pack.old kept.old pack.new kept.new) }
     ensures long { length kept.new ≡ length kept.old }
     ensures count { walk.new.count ≡ walk.old.count }
@@ -180,10 +178,7 @@ fn make_pack(
     template: &Template,
     params: &Params,
 ) -> Result<Pack, AllocError>
-    requires mapped { IsMapped graph.now template.now.luts }
-    requires light { IsMakeable graph.now template.now.luts }
-    requires count { param_count graph.now.kinds ≡ length params.now.list }
-    requires names { AreNamed params.now.list }
+    requires { HaveFunctions graph.now template.now.luts params.now.list }
     ensures pack { IfOk result (λ pack. IsPackOf graph.now template.now.luts params.now.list pack) }
     ensures kept { IfOk result (λ pack. IsPack pack.params pack.graph pack.bits) }
     ensures normal { IfOk result (λ pack. AreNormal (first_and pack.graph) pack.graph.pairs) }
@@ -229,7 +224,7 @@ pub fn functions(
     ensures one { HasOnePack graph.now template.now.luts params.now.list }
 
     // For any values of the parameters there is exactly one bit at each address, and exactly one configuration.
-    ensures bit { (given : List Bool) → length given ≡ param_count graph.now.kinds → (b : ℕ) → b < bits_of template.now.luts → HasOneBit graph.now template.now.luts given b }
+    ensures bit { HasEachBit graph.now template.now.luts }
     ensures configuration { (given : List Bool) → length given ≡ param_count graph.now.kinds → HasOneConfiguration graph.now template.now.luts given }
 {
     make_pack(alloc, graph, template, params)

@@ -1,6 +1,5 @@
 -- The candidates of a node: the unions, and the low cut if none of them is as low as the label.
-use Rattle.bounded_cuts.proofs.Common.{◌≡◌, ℕ, ◌<◌, ◌≤◌, List, [], ◌∷◌, ◌++◌, map, sym, ap, subst, ◌∙◌, arith, In, In-map, from_map, Candidate, Worth, cuts_of, ArePricedBy, height, label_at, label_in}
-use Rattle.std.proofs.lemmas.List.{map-append}
+use Rattle.bounded_cuts.proofs.Common.{◌≡◌, ℕ, ◌<◌, ◌≤◌, List, [], ◌∷◌, ◌++◌, sym, ap, subst, ◌∙◌, arith, In, In-map, from_map, Candidate, Worth, cuts_of, AddsLow, as_low, none_low, ArePricedBy, height, label_at, label_in}
 use Rattle.cut_sets.proofs.HeightLemmas.{height_same}
 use Rattle.bounded_cuts.specs.Candidates.{WithLow, there, missing, unions}
 
@@ -17,16 +16,14 @@ heights_are labels ws n all us is known below priced c i =
     let there : In us c.cut = subst (λ (cs : List (List ℕ)). In cs c.cut) is (In-map (λ (d : Candidate). d.cut) all c i) in
     (priced c i).height_is ∙ height_same (label_in ws) (label_at labels) c.cut (λ m j. known m (below c.cut m there j))
 
-module _ (labels : List ℕ) (r : ℕ) (low : List ℕ) (all : List Candidate) (us : List (List ℕ)) (is : cuts_of all ≡ us) (heights : (c : Candidate) → In all c → c.height ≡ height (label_at labels) c.cut) where
-  pub low_there : (c : Candidate) → In all c → c.height ≤ r → WithLow (label_at labels) r low us (cuts_of all)
-  low_there c m l = there (c.cut, subst (λ (cs : List (List ℕ)). In cs c.cut) is (In-map (λ (d : Candidate). d.cut) all c m), subst (λ (h : ℕ). h ≤ r) (heights c m) l) is
-
-  pub low_missing : (new : List Candidate) (last : Candidate) → ((c : Candidate) → In all c → r < c.height) → new ≡ all ++ last ∷ [] → last.cut ≡ low → WithLow (label_at labels) r low us (cuts_of new)
-  low_missing new last none e cut = missing
-      (λ has. let from = from_map (λ (d : Candidate). d.cut) all has.0 (subst (λ (cs : List (List ℕ)). In cs has.0) (sym is) has.1) in
-      let above : r < from.0.height = none from.0 from.1 in
-      let h : from.0.height ≡ height (label_at labels) from.0.cut = heights from.0 from.1 in
-      let same : height (label_at labels) has.0 ≡ height (label_at labels) from.0.cut = ap (height (label_at labels)) from.2 in
-      let small : height (label_at labels) has.0 ≤ r = has.2 in
-      omega arith)
-      (ap (map (λ (d : Candidate). d.cut)) e ∙ map-append (λ (d : Candidate). d.cut) all (last ∷ []) ∙ ap (λ (cs : List (List ℕ)). cs ++ last.cut ∷ []) is ∙ ap (λ (d : List ℕ). us ++ d ∷ []) cut)
+-- with the low cut behind them if none is as low as the label
+pub with_low : (labels : List ℕ) (r : ℕ) (low : List ℕ) (all new : List Candidate) (us : List (List ℕ)) → cuts_of all ≡ us → ((c : Candidate) → In all c → c.height ≡ height (label_at labels) c.cut) → AddsLow r low all new → WithLow (label_at labels) r low us (cuts_of new)
+with_low labels r low all new us is heights (as_low c m l e) =
+    there (c.cut, subst (λ (cs : List (List ℕ)). In cs c.cut) is (In-map (λ (d : Candidate). d.cut) all c m), subst (λ (h : ℕ). h ≤ r) (heights c m) l) (ap cuts_of e ∙ is)
+with_low labels r low all new us is heights (none_low none e) = missing
+    (λ has. let from = from_map (λ (d : Candidate). d.cut) all has.0 (subst (λ (cs : List (List ℕ)). In cs has.0) (sym is) has.1) in
+    let above : r < from.0.height = none from.0 from.1 in
+    let same : from.0.height ≡ height (label_at labels) has.0 = heights from.0 from.1 ∙ sym (ap (height (label_at labels)) from.2) in
+    let small : height (label_at labels) has.0 ≤ r = has.2 in
+    omega arith)
+    (e ∙ ap (λ (cs : List (List ℕ)). cs ++ low ∷ []) is)

@@ -18,16 +18,17 @@ pub use Rattle.bounded_cuts.specs.declared.price.Candidate.{Candidate}
 pub use Rattle.bounded_cuts.specs.declared.taking.Order.{Order}
 pub use Rattle.bounded_cuts.specs.declared.taking.Order.TheVariants.{LeastHeight, FewestLeaves, LeastCost}
 pub use Rattle.bounded_cuts.specs.Flow.{flow_at, cut_flow, flows_below}
-pub use Rattle.bounded_cuts.specs.Sets.{candidate_at, paid_flow, ComesBefore, by_first, by_second, by_place, AreFirst, AreInOrder, IsLeastAt, IsLeastAtHeight, IsLeft, AreTakenPlaces, places, IsTaken, AreSets, AreServing}
-pub use Rattle.bounded_cuts.specs.Taking.{AreCapped, is_favoured, HasSmallCosts, HaveSmallCosts, IsPriced, ArePriced, cuts_of, Pricing, first_of, second_of, second_bound, key_at, place_of, Qualifies, looked_at, HasTakenPart, AreTaking, IsKeyOf, HasKey, AreKeys, AreTakenNow, Looks, dropped, took, CanTake, MayTake, IsTakingOn, HasTaken, HasLowPlace, IsPlaced}
+pub use Rattle.bounded_cuts.specs.Sets.{candidate_at, paid_flow, ComesBefore, by_first, by_second, by_place, AreFirst, AreInOrder, IsLeastAt, IsLeastAtHeight, IsLeft, AreTakenPlaces, places, IsTaken, HasSet, AreSets, AreServing, AreOnce, AreOfUse}
+pub use Rattle.bounded_cuts.specs.Taking.{AreCapped, is_favoured, HasSmallCosts, HaveSmallCosts, IsPriced, ArePriced, cuts_of, Pricing, first_of, second_of, second_bound, key_at, place_of, Qualifies, looked_at, HasTakenPart, AreTaking, IsKeyOf, HasKey, AreKeys, AreTakenNow, Looks, dropped, took, CanTake, MayTake, IsTakingOn, HasTaken, ArePlaced, Takes, AddsKey, AreKeysOf, cuts_at, low_cuts_at}
 pub use Rattle.aig_core.specs.Aig.{Aig, first_and, IsAnd, IsNode, AreNormal, IsNormal, IsSource, node_count}
 pub use Rattle.aig_core.specs.declared.lit.Pair.{Pair}
 pub use Rattle.aig_core.proofs.NodeLemmas.{node_normal}
 pub use Rattle.cut_sets.proofs.BlockLemmas.{Blocks-within}
 pub use Rattle.cut_sets.specs.Cuts.{Blocks, member, fan_ins, CanBeLeaf, IsCut}
 pub use Rattle.cut_sets.specs.Rows.{row_at}
+pub use Rattle.cut_sets.specs.declared.limits.TheConstants.{MOST_CUTS}
 pub use Rattle.bounded_cuts.specs.declared.worths.Worth.{Worth}
-pub use Rattle.bounded_cuts.specs.Worths.{no_worth, worth_at, label_in, flow_in, low_flow_in, paid_in, flows_of, low_flows_of, AreCounted, AllCounted, AreBounded, IsWorth, AreWorths, IsPricedBy, ArePricedBy}
+pub use Rattle.bounded_cuts.specs.Worths.{no_worth, worth_at, label_in, flow_in, low_flow_in, paid_in, flows_of, low_flows_of, pricing, AddsLow, as_low, none_low, AreCounted, AllCounted, AreBounded, IsWorth, AreWorths, IsPricedBy, ArePricedBy}
 pub use Rattle.bounded_cuts.specs.Candidates.{AreCandidates, HandsOn, free, source, node, one_union, unions_with, unions, HasLow, WithLow, there, missing}
 pub use Rattle.std.proofs.Math.Nat.{div-le_self, mul-suc, mul-zero, mul-le-mul_left}
 pub use Rattle.list_laws.proofs.Choice.{choose, choose_one}

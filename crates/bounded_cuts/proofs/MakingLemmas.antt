@@ -1,12 +1,15 @@
 -- The sets of the first n nodes and one set more are those of the first n + 1.
-use Rattle.bounded_cuts.proofs.Common.{◌≡◌, ℕ, suc, ◌+◌, ◌-◌, ◌*◌, ◌/◌, ◌<◌, ◌≤◌, max, Bool, if◌then◌else◌, nat_lt, List, [], ◌∷◌, ◌++◌, length, sym, ap, subst, ◌∙◌, inl, inr, arith, length-append, get_or_push, get_or_append_left, get_or_past, sum_by, sum_by_push, cases_lt, cases_eq, lt-ltb, le-ltb, mul-suc, mul-zero, In, height, row_at, Aig, AreNormal, IsAnd, first_and, node_count, IsCut, places}
-use Rattle.std.proofs.Common.{cond}
+use Rattle.bounded_cuts.proofs.Common.{◌≡◌, ℕ, zero, suc, ◌+◌, ◌-◌, ◌*◌, ◌/◌, ◌<◌, ◌≤◌, max, cond, Bool, if◌then◌else◌, nat_lt, List, [], ◌∷◌, ◌++◌, length, refl, sym, ap, subst, ◌∙◌, inl, inr, arith, length-append, get_or_push, get_or_append_left, get_or_past, sum_by, sum_by-cons, cases_lt, cases_eq, lt-ltb, le-ltb, mul-suc, mul-zero, mul-le-mul_left, In, label_at, row_at, IsAnd, first_and, node_count, IsCut, places, Worth, flows_of, low_flows_of, IsWorth, AreWorths, MOST_CUTS}
+use Rattle.bounded_cuts.specs.declared.making.Wanted.{Wanted}
+use Rattle.bounded_cuts.specs.declared.scope.Scope.{Scope}
 use Rattle.bounded_cuts.specs.declared.scope.Scope.TheVariants.{AnyHeight, LeastHeight}
 use Rattle.bounded_cuts.specs.Candidates.{AreCandidates}
 use Rattle.bounded_cuts.specs.Flow.{cuts_within, flows_below, least_flow, node_flow}
-use Rattle.bounded_cuts.specs.Making.{AreMade, ServeBelow}
-use Rattle.bounded_cuts.specs.Sets.{AreServing, AreSets, IsTaken}
+use Rattle.bounded_cuts.specs.Making.{AreMade, AreSetsFor, CanMake, count_in, favoured_in, low_in}
+use Rattle.bounded_cuts.specs.Sets.{HasSet, IsTaken}
 use Rattle.bounded_cuts.proofs.GrowthLemmas.{AgreeBelow, candidates_agree, flows_agree, taken_as}
+use Rattle.bounded_cuts.proofs.ServingLemmas.{rows_are_cuts, set_few}
+use Rattle.bounded_cuts.proofs.WorthLemmas.{flows_pushed, low_flows_pushed, no_worths, worths_pushed}
 
 -- the flow of a node below the AND nodes, and of one of them
 pub source_flow : (n first flow : ℕ) → n < first → 0 ≡ (if nat_lt n first then 0 else flow)
@@ -29,158 +32,119 @@ module _ (rows : List (List (List ℕ))) (set : List (List ℕ)) (n : ℕ) (coun
   row_past : (m : ℕ) → n < m → row_at (rows ++ set ∷ []) m ≡ []
   row_past m l = get_or_past (rows ++ set ∷ []) m [] (omega (arith, rows_count))
 
-  -- what holds of each row, the new one and the empty one holds of each row now
-  row_each : (P : List (List ℕ) → Type 0) (m : ℕ) → P (row_at rows m) → P set → P [] → P (row_at (rows ++ set ∷ []) m)
-  row_each P m old new none = elim (cases_lt m n) [
-    | inl l ↦ subst P (sym (rows_before m l)) old
-    | inr l ↦ elim (cases_eq m n) [
-      | inl e ↦ subst P (sym (ap (row_at (rows ++ set ∷ [])) e ∙ row_new)) new
-      | inr d ↦ subst P (sym (row_past m (omega arith))) none
+-- rows of at most p cuts each, of which the first ones are empty
+sum_rows : (p : ℕ) (rows : List (List (List ℕ))) (first rest : ℕ) → length rows ≤ first + rest → ((m : ℕ) → length (row_at rows m) ≤ p) → ((m : ℕ) → m < first → row_at rows m ≡ []) → sum_by length rows ≤ p * rest
+sum_rows p [] first rest l few none = omega arith
+sum_rows p (r ∷ rows) zero zero l few none = absurd (omega arith)
+sum_rows p (r ∷ rows) zero (suc rest) l few none =
+    let s : sum_by length rows ≤ p * rest = sum_rows p rows zero rest (omega arith) (λ m. few (suc m)) (λ m b. absurd (omega arith)) in
+    let new : length r ≤ p = few zero in
+    omega (arith, sum_by-cons (λ (c : List (List ℕ)). length c) r rows, mul-suc p rest)
+sum_rows p (r ∷ rows) (suc first) rest l few none =
+    let s : sum_by length rows ≤ p * rest = sum_rows p rows first rest (omega arith) (λ m. few (suc m)) (λ m b. none (suc m) (omega arith)) in
+    let new : length r ≡ 0 = ap length (none zero (omega arith)) in
+    omega (arith, sum_by-cons (λ (c : List (List ℕ)). length c) r rows)
+
+module _ (w : Wanted) (n : ℕ) (rows : List (List (List ℕ))) (worths : List Worth) (can : CanMake w) (made : AreMade w n rows worths) where
+  pub rows_cut : (m : ℕ) (c : List ℕ) → IsAnd w.graph.now m → m < n → In (row_at rows m) c → IsCut w.graph.now w.k m c
+  rows_cut = rows_are_cuts w.graph.now can.normal w.k (label_at w.labels.now) (low_in w.lows.now) can.lows.cut (count_in w.counts.now) (favoured_in w.favoured.now) rows n made.each
+
+  pub row_few : n ≤ node_count w.graph.now → (m : ℕ) → length (row_at rows m) ≤ places w.k
+  row_few inside m = elim (cases_lt m n) [
+    | inr past ↦ (let e : length (row_at rows m) ≡ 0 = ap length (get_or_past rows m [] (omega (arith, made.count))) in omega arith)
+    | inl below ↦ elim (cases_lt m (first_and w.graph.now)) [
+      | inl source ↦ (let e : length (row_at rows m) ≡ 0 = ap length (made.sources m source) in omega arith)
+      | inr above ↦ (let has = made.each m (above, (let l : m < node_count w.graph.now = omega arith in l)) below in set_few _ _ _ _ _ _ _ _ has.2)
     ]
   ]
 
--- an AND node has a set among its candidates
-abbrev HasSet : Aig → ℕ → (ℕ → ℕ) → (ℕ → List ℕ) → (ℕ → ℕ) → (ℕ → Bool) → List (List (List ℕ)) → ℕ → Type 0
-HasSet g k label lows counts favoured rows m = (cs : List (List ℕ)) × AreCandidates g k label (lows m) rows m cs
-    × IsTaken k label (label m) (flows_below g AnyHeight label rows counts m) (flows_below g LeastHeight label rows counts m) favoured cs (row_at rows m)
-
-module _ (g : Aig) (k : ℕ) (label : ℕ → ℕ) (lows : ℕ → List ℕ) (counts : ℕ → ℕ) (favoured : ℕ → Bool) (n : ℕ) (rows : List (List (List ℕ))) (flows low_flows : List ℕ) (normal : AreNormal (first_and g) g.pairs) (made : AreMade g k label lows counts favoured n rows flows low_flows) (set : List (List ℕ)) (flow low_flow : ℕ)
-    (flow_is : flow ≡ (if nat_lt n (first_and g) then 0 else least_flow flows set / max 1 (counts n)))
-    (low_flow_is : low_flow ≡ (if nat_lt n (first_and g) then 0 else least_flow low_flows (cuts_within label (label n) set) / max 1 (counts n)))
-    (source : n < first_and g → set ≡ [])
-    (chosen : IsAnd g n → (cs : List (List ℕ)) × AreCandidates g k label (lows n) rows n cs × IsTaken k label (label n) flows low_flows favoured cs set) where
-  same : AgreeBelow rows (rows ++ set ∷ []) n
-  same = rows_before rows set n made.count
-
-  at : row_at (rows ++ set ∷ []) n ≡ set
-  at = row_new rows set n made.count
-
-  flows_here : flows ≡ flows_below g AnyHeight label (rows ++ set ∷ []) counts n
-  flows_here = made.flows_are ∙ sym (flows_agree g AnyHeight label rows (rows ++ set ∷ []) counts n same)
-
-  low_flows_here : low_flows ≡ flows_below g LeastHeight label (rows ++ set ∷ []) counts n
-  low_flows_here = made.low_flows_are ∙ sym (flows_agree g LeastHeight label rows (rows ++ set ∷ []) counts n same)
-
-  set_before : (m : ℕ) → m < n → HasSet g k label lows counts favoured rows m → HasSet g k label lows counts favoured (rows ++ set ∷ []) m
-  set_before m l has =
-      let below : AgreeBelow rows (rows ++ set ∷ []) m = (λ j i. same j (omega arith)) in (
-        has.0,
-        candidates_agree g k label (lows m) rows (rows ++ set ∷ []) m has.0 normal below has.1,
-        taken_as k label (label m) (flows_below g AnyHeight label rows counts m) (flows_below g LeastHeight label rows counts m) (flows_below g AnyHeight label (rows ++ set ∷ []) counts m) (flows_below g LeastHeight label (rows ++ set ∷ []) counts m) favoured has.0 (row_at rows m) (row_at (rows ++ set ∷ []) m)
-            (sym (flows_agree g AnyHeight label rows (rows ++ set ∷ []) counts m below)) (sym (flows_agree g LeastHeight label rows (rows ++ set ∷ []) counts m below)) (sym (same m l)) has.2,
-      )
-
-  set_new : IsAnd g n → HasSet g k label lows counts favoured (rows ++ set ∷ []) n
-  set_new and =
-      let has = chosen and in (
-        has.0,
-        candidates_agree g k label (lows n) rows (rows ++ set ∷ []) n has.0 normal same has.1,
-        taken_as k label (label n) flows low_flows (flows_below g AnyHeight label (rows ++ set ∷ []) counts n) (flows_below g LeastHeight label (rows ++ set ∷ []) counts n) favoured has.0 set (row_at (rows ++ set ∷ []) n) flows_here low_flows_here (sym at) has.2,
-      )
-
-  made_next : AreMade g k label lows counts favoured (suc n) (rows ++ set ∷ []) (flows ++ flow ∷ []) (low_flows ++ low_flow ∷ [])
-  made_next = record {
-    count = rows_count rows set n made.count;
-    sources = λ m l. elim (cases_lt m n) [
-      | inl b ↦ same m b ∙ made.sources m l
-      | inr b ↦ elim (cases_eq m n) [
-        | inl e ↦ ap (row_at (rows ++ set ∷ [])) e ∙ at ∙ source (omega arith)
-        | inr d ↦ row_past rows set n made.count m (omega arith)
-      ]
-    ];
-    flows_are = ap (λ (x : ℕ). flows ++ x ∷ []) (flow_is ∙ ap (λ (row : List (List ℕ)). if nat_lt n (first_and g) then 0 else least_flow flows row / max 1 (counts n)) (sym at))
-        ∙ ap (λ (fs : List ℕ). fs ++ node_flow g AnyHeight label (rows ++ set ∷ []) counts fs n ∷ []) flows_here;
-    low_flows_are = ap (λ (x : ℕ). low_flows ++ x ∷ []) (low_flow_is ∙ ap (λ (row : List (List ℕ)). if nat_lt n (first_and g) then 0 else least_flow low_flows (cuts_within label (label n) row) / max 1 (counts n)) (sym at))
-        ∙ ap (λ (fs : List ℕ). fs ++ node_flow g LeastHeight label (rows ++ set ∷ []) counts fs n ∷ []) low_flows_here;
-    each = λ m and l. elim (cases_lt m n) [
-      | inl b ↦ set_before m b (made.each m and b)
-      | inr b ↦ (let e : n ≡ m = omega arith in subst (HasSet g k label lows counts favoured (rows ++ set ∷ [])) e (set_new (subst (IsAnd g) (sym e) and)))
-    ];
-  }
-
-  -- said of what was pushed
-  pub made_pushed : (more : List (List (List ℕ))) (more_flows more_lows : List ℕ) → more ≡ rows ++ set ∷ [] → more_flows ≡ flows ++ flow ∷ [] → more_lows ≡ low_flows ++ low_flow ∷ [] → AreMade g k label lows counts favoured (n + 1) more more_flows more_lows
-  made_pushed more more_flows more_lows e ef el =
-      let next : suc n ≡ n + 1 = omega arith in
-      subst (λ (r : List (List (List ℕ))). AreMade g k label lows counts favoured (n + 1) r more_flows more_lows) (sym e)
-      (subst (λ (f : List ℕ). AreMade g k label lows counts favoured (n + 1) (rows ++ set ∷ []) f more_lows) (sym ef)
-      (subst (λ (f : List ℕ). AreMade g k label lows counts favoured (n + 1) (rows ++ set ∷ []) (flows ++ flow ∷ []) f) (sym el)
-      (subst (λ (i : ℕ). AreMade g k label lows counts favoured i (rows ++ set ∷ []) (flows ++ flow ∷ []) (low_flows ++ low_flow ∷ [])) next made_next)))
-
-module _ (g : Aig) (k : ℕ) (label : ℕ → ℕ) (n : ℕ) (rows : List (List (List ℕ))) (count : length rows ≡ n) (serve : ServeBelow g k label n rows) (set : List (List ℕ)) (source : n < first_and g → set ≡ []) (cuts : (c : List ℕ) → IsAnd g n → In set c → IsCut g k n c) (low : IsAnd g n → (c : List ℕ) × In set c × (height label c ≡ label n)) (few : length set ≤ places k) where
-  room_next : sum_by length (rows ++ set ∷ []) ≤ places k * (suc n - first_and g)
-  room_next =
-      let s : sum_by length (rows ++ set ∷ []) ≡ sum_by length rows + length set = sum_by_push length rows set in
-      elim (cases_lt n (first_and g)) [
-        | inl l ↦ as_before s (ap (λ (c : List (List ℕ)). length c) (source l)) serve.room (ap (λ (x : ℕ). places k * x) (omega arith))
-        | inr l ↦ one_more s serve.room few (ap (λ (x : ℕ). places k * x) (omega arith) ∙ mul-suc (places k) (n - first_and g))
+  -- the table has room for one set more
+  pub room_for : (set : List (List ℕ)) → n < node_count w.graph.now → (n < first_and w.graph.now → set ≡ []) → length set ≤ places w.k → sum_by length rows + length set ≤ MOST_CUTS
+  room_for set inside source few =
+      let first = first_and w.graph.now in
+      let p = places w.k in
+      let s : sum_by length rows ≤ p * (n - first) = sum_rows p rows first (n - first) (omega (arith, made.count)) (row_few (omega arith)) made.sources in
+      elim (cases_lt n first) [
+        | inl l ↦ (let z : p * (n - first) ≡ 0 = ap (λ (x : ℕ). p * x) (omega arith) ∙ mul-zero p in
+            let e : length set ≡ 0 = ap length (source l) in omega arith)
+        | inr l ↦ (let a : p * suc (n - first) ≤ p * length w.graph.now.pairs = mul-le-mul_left p (omega arith) in
+            let b : p * suc (n - first) ≡ p * (n - first) + p = mul-suc p (n - first) in
+            let m : p * length w.graph.now.pairs ≤ MOST_CUTS = can.most in
+            sum_le s few b a m)
       ]
     where
-      as_before : {s a b x y : ℕ} → s ≡ a + b → b ≡ 0 → a ≤ x → x ≡ y → s ≤ y
-      as_before e z l q = omega arith
+      sum_le : {a b c d e f m : ℕ} → a ≤ c → b ≤ d → e ≡ c + d → e ≤ f → f ≤ m → a + b ≤ m
+      sum_le p q r t u = omega arith
 
-      one_more : {s a b x y p : ℕ} → s ≡ a + b → a ≤ x → b ≤ p → y ≡ x + p → s ≤ y
-      one_more e l f q = omega arith
+  -- the set of node n with its flows and its worth
+  module _ (set : List (List ℕ)) (flow low_flow : ℕ) (worth : Worth) (is_worth : IsWorth w.labels.now w.favoured.now n flow low_flow worth)
+      (flow_is : flow ≡ (if nat_lt n (first_and w.graph.now) then 0 else least_flow (flows_of worths) set / max 1 (count_in w.counts.now n)))
+      (low_flow_is : low_flow ≡ (if nat_lt n (first_and w.graph.now) then 0 else least_flow (low_flows_of worths) (cuts_within (label_at w.labels.now) (label_at w.labels.now n) set) / max 1 (count_in w.counts.now n)))
+      (source : n < first_and w.graph.now → set ≡ [])
+      (chosen : IsAnd w.graph.now n → (cs : List (List ℕ)) × AreCandidates w.graph.now w.k (label_at w.labels.now) (low_in w.lows.now n) rows n cs × IsTaken w.k (label_at w.labels.now) (label_at w.labels.now n) (flows_of worths) (low_flows_of worths) (favoured_in w.favoured.now) cs set) where
+    same : AgreeBelow rows (rows ++ set ∷ []) n
+    same = rows_before rows set n made.count
 
-  low_new : (m : ℕ) → m ≡ n → IsAnd g m → (c : List ℕ) × In (row_at (rows ++ set ∷ []) m) c × (height label c ≡ label m)
-  low_new m e and =
-      let has = low (subst (IsAnd g) e and) in
-      (has.0, subst (λ (s : List (List ℕ)). In s has.0) (sym (ap (row_at (rows ++ set ∷ [])) e ∙ row_new rows set n count)) has.1, has.2 ∙ ap label (sym e))
+    at : row_at (rows ++ set ∷ []) n ≡ set
+    at = row_new rows set n made.count
 
-  serve_next : ServeBelow g k label (suc n) (rows ++ set ∷ [])
-  serve_next = record {
-    cuts = λ m c and l i. elim (cases_lt m n) [
-      | inl b ↦ serve.cuts m c and b (subst (λ (s : List (List ℕ)). In s c) (rows_before rows set n count m b) i)
-      | inr b ↦ (let e : m ≡ n = omega arith in
-          subst (λ (j : ℕ). IsCut g k j c) (sym e) (cuts c (subst (IsAnd g) e and) (subst (λ (s : List (List ℕ)). In s c) (ap (row_at (rows ++ set ∷ [])) e ∙ row_new rows set n count) i)))
-    ];
-    low = λ m and l. elim (cases_lt m n) [
-      | inl b ↦ (let has = serve.low m and b in (has.0, subst (λ (s : List (List ℕ)). In s has.0) (sym (rows_before rows set n count m b)) has.1, has.2))
-      | inr b ↦ low_new m (omega arith) and
-    ];
-    few = λ m. row_each rows set n count (λ (s : List (List ℕ)). length s ≤ places k) m (serve.few m) few (omega arith);
-    room = room_next;
-  }
+    -- flows over the rows with the new one
+    agree : (scope : Scope) (m : ℕ) → m ≤ n → flows_below w.graph.now scope (label_at w.labels.now) rows (count_in w.counts.now) m ≡ flows_below w.graph.now scope (label_at w.labels.now) (rows ++ set ∷ []) (count_in w.counts.now) m
+    agree scope m l = sym (flows_agree w.graph.now scope (label_at w.labels.now) rows (rows ++ set ∷ []) (count_in w.counts.now) m (λ j i. same j (omega arith)))
 
-  pub serve_pushed : (more : List (List (List ℕ))) → more ≡ rows ++ set ∷ [] → ServeBelow g k label (n + 1) more
-  serve_pushed more e = let next : suc n ≡ n + 1 = omega arith in subst (ServeBelow g k label (n + 1)) (sym e) (subst (λ (i : ℕ). ServeBelow g k label i (rows ++ set ∷ [])) next serve_next)
+    -- a set that was taken over some flows, seen over the rows with the new one
+    set_seen : (m : ℕ) (flows lows : List ℕ) (row : List (List ℕ)) → m ≤ n → flows ≡ flows_below w.graph.now AnyHeight (label_at w.labels.now) rows (count_in w.counts.now) m → lows ≡ flows_below w.graph.now LeastHeight (label_at w.labels.now) rows (count_in w.counts.now) m → row_at (rows ++ set ∷ []) m ≡ row
+        → (cs : List (List ℕ)) × AreCandidates w.graph.now w.k (label_at w.labels.now) (low_in w.lows.now m) rows m cs × IsTaken w.k (label_at w.labels.now) (label_at w.labels.now m) flows lows (favoured_in w.favoured.now) cs row
+        → HasSet w.graph.now w.k (label_at w.labels.now) (low_in w.lows.now) (count_in w.counts.now) (favoured_in w.favoured.now) (rows ++ set ∷ []) m
+    set_seen m flows lows row l e el er has = (
+      has.0,
+      candidates_agree w.graph.now w.k (label_at w.labels.now) (low_in w.lows.now m) rows (rows ++ set ∷ []) m has.0 can.normal (λ j i. same j (omega arith)) has.1,
+      taken_as w.k (label_at w.labels.now) (label_at w.labels.now m) flows lows _ _ (favoured_in w.favoured.now) has.0 row _ (e ∙ agree AnyHeight m l) (el ∙ agree LeastHeight m l) (sym er) has.2,
+    )
 
--- the table has room for the empty set of a source
-pub room_of_none : (g : Aig) (k : ℕ) (label : ℕ → ℕ) (n most : ℕ) (rows : List (List (List ℕ))) (set : List (List ℕ)) → n < first_and g → set ≡ [] → ServeBelow g k label n rows → sum_by length rows + length set ≤ most
-room_of_none g k label n most rows set l e serve = no_more (ap (λ (c : List (List ℕ)). length c) e) serve.room (ap (λ (x : ℕ). places k * x) (omega arith) ∙ mul-zero (places k))
-  where
-    no_more : {a b x : ℕ} → b ≡ 0 → a ≤ x → x ≡ 0 → a + b ≤ most
-    no_more z q y = omega arith
+    next : n + 1 ≡ suc n
+    next = omega arith
+
+    made_next : AreMade w (suc n) (rows ++ set ∷ []) (worths ++ worth ∷ [])
+    made_next = record {
+      count = omega (arith, length-append rows (set ∷ []), made.count);
+      sources = λ m l. elim (cases_lt m n) [
+        | inl b ↦ same m b ∙ made.sources m l
+        | inr b ↦ elim (cases_eq m n) [
+          | inl e ↦ ap (row_at (rows ++ set ∷ [])) e ∙ at ∙ source (omega arith)
+          | inr d ↦ row_past rows set n made.count m (omega arith)
+        ]
+      ];
+      flows_are = flows_pushed w.labels.now w.favoured.now n worths made.worths_are flow low_flow worth is_worth (worths ++ worth ∷ []) refl
+          ∙ ap (λ (x : ℕ). flows_of worths ++ x ∷ []) (flow_is ∙ ap (λ (row : List (List ℕ)). if nat_lt n (first_and w.graph.now) then 0 else least_flow (flows_of worths) row / max 1 (count_in w.counts.now n)) (sym at))
+          ∙ ap (λ (fs : List ℕ). fs ++ node_flow w.graph.now AnyHeight (label_at w.labels.now) (rows ++ set ∷ []) (count_in w.counts.now) fs n ∷ []) (made.flows_are ∙ agree AnyHeight n (omega arith));
+      low_flows_are = low_flows_pushed w.labels.now w.favoured.now n worths made.worths_are flow low_flow worth is_worth (worths ++ worth ∷ []) refl
+          ∙ ap (λ (x : ℕ). low_flows_of worths ++ x ∷ []) (low_flow_is ∙ ap (λ (row : List (List ℕ)). if nat_lt n (first_and w.graph.now) then 0 else least_flow (low_flows_of worths) (cuts_within (label_at w.labels.now) (label_at w.labels.now n) row) / max 1 (count_in w.counts.now n)) (sym at))
+          ∙ ap (λ (fs : List ℕ). fs ++ node_flow w.graph.now LeastHeight (label_at w.labels.now) (rows ++ set ∷ []) (count_in w.counts.now) fs n ∷ []) (made.low_flows_are ∙ agree LeastHeight n (omega arith));
+      worths_are = subst (λ (i : ℕ). AreWorths w.labels.now w.favoured.now i (worths ++ worth ∷ [])) next (worths_pushed w.labels.now w.favoured.now n worths made.worths_are flow low_flow worth is_worth (worths ++ worth ∷ []) refl);
+      each = λ m and l. elim (cases_lt m n) [
+        | inl b ↦ set_seen m _ _ (row_at rows m) (omega arith) refl refl (same m b) (made.each m and b)
+        | inr b ↦ (let e : n ≡ m = omega arith in
+            subst (HasSet w.graph.now w.k (label_at w.labels.now) (low_in w.lows.now) (count_in w.counts.now) (favoured_in w.favoured.now) (rows ++ set ∷ [])) e
+            (set_seen n (flows_of worths) (low_flows_of worths) set (omega arith) made.flows_are made.low_flows_are at (chosen (subst (IsAnd w.graph.now) (sym e) and))))
+      ];
+    }
+
+    -- said of what was pushed
+    pub made_pushed : (more : List (List (List ℕ))) (more_worths : List Worth) → (more ≡ rows ++ set ∷ []) × (more_worths ≡ worths ++ worth ∷ []) → AreMade w (n + 1) more more_worths
+    made_pushed more more_worths e = subst (λ (r : List (List (List ℕ))). AreMade w (n + 1) r more_worths) (sym e.0) (subst (AreMade w (n + 1) (rows ++ set ∷ [])) (sym e.1) (subst (λ (i : ℕ). AreMade w i (rows ++ set ∷ []) (worths ++ worth ∷ [])) (sym next) made_next))
 
 -- the sets of all nodes
-pub all_sets : (g : Aig) (k : ℕ) (label : ℕ → ℕ) (lows : ℕ → List ℕ) (counts : ℕ → ℕ) (favoured : ℕ → Bool) (n : ℕ) (rows : List (List (List ℕ))) (flows low_flows : List ℕ) → n ≡ node_count g → AreMade g k label lows counts favoured n rows flows low_flows → AreSets g k label lows counts favoured rows
-all_sets g k label lows counts favoured n rows flows low_flows e made = record {
-  count = made.count ∙ e;
-  sources = made.sources;
-  each = λ m and. made.each m and (let l : m < node_count g = and.1 in omega arith);
-}
-
-pub all_serve : (g : Aig) (k : ℕ) (label : ℕ → ℕ) (n : ℕ) (rows : List (List (List ℕ))) → n ≡ node_count g → length rows ≡ n → ServeBelow g k label n rows → AreServing g k label rows
-all_serve g k label n rows e count serve = record {
-  count = count ∙ e;
-  cuts = λ m c and i. serve.cuts m c and (let l : m < node_count g = and.1 in omega arith) i;
-  low = λ m and. serve.low m and (let l : m < node_count g = and.1 in omega arith);
-}
+pub all_sets : (w : Wanted) (rows : List (List (List ℕ))) (worths : List Worth) → AreMade w (node_count w.graph.now) rows worths → AreSetsFor w rows
+all_sets w rows worths made = record { count = made.count; sources = made.sources; each = λ m and. made.each m and and.1 }
 
 -- before the first node
-pub none_made : (g : Aig) (k : ℕ) (label : ℕ → ℕ) (lows : ℕ → List ℕ) (counts : ℕ → ℕ) (favoured : ℕ → Bool) (rows : List (List (List ℕ))) (flows low_flows : List ℕ) → rows ≡ [] → flows ≡ [] → low_flows ≡ [] → AreMade g k label lows counts favoured 0 rows flows low_flows
-none_made g k label lows counts favoured rows flows low_flows e ef el = record {
-  count = ap (λ (r : List (List (List ℕ))). length r) e;
+pub none_made : (w : Wanted) (rows : List (List (List ℕ))) (worths : List Worth) → rows ≡ [] → worths ≡ [] → AreMade w 0 rows worths
+none_made w rows worths e ew = record {
+  count = ap length e;
   sources = λ m l. ap (λ (r : List (List (List ℕ))). row_at r m) e;
-  flows_are = ef;
-  low_flows_are = el;
+  flows_are = ap flows_of ew;
+  low_flows_are = ap low_flows_of ew;
+  worths_are = no_worths w.labels.now w.favoured.now worths ew;
   each = λ m and l. absurd (omega arith);
 }
-
-pub none_serve : (g : Aig) (k : ℕ) (label : ℕ → ℕ) (rows : List (List (List ℕ))) → rows ≡ [] → ServeBelow g k label 0 rows
-none_serve g k label rows e = subst (ServeBelow g k label 0) (sym e) (record {
-  cuts = λ m c and l i. absurd (omega arith);
-  low = λ m and l. absurd (omega arith);
-  few = λ m. omega arith;
-  room = omega arith;
-})

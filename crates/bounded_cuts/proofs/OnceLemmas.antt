@@ -1,20 +1,19 @@
 -- There is one set for each node: two lists of sets that are made from the same are equal.
-use Rattle.bounded_cuts.proofs.Common.{◌≡◌, ℕ, zero, suc, ◌+◌, ◌-◌, ◌/◌, ◌<◌, ◌≤◌, max, Bool, if◌then◌else◌, List, [], ◌∷◌, ◌++◌, length, map, refl, sym, ap, subst, ◌∙◌, inl, inr, arith, cases_eq, cases_lt, get_or_from_slice_get, slice_get_within, In, cut_flow, candidate_at, paid_flow, ComesBefore, by_first, by_second, by_place, AreFirst, AreInOrder, IsLeastAtHeight, IsLeft, AreTakenPlaces, places}
-use Rattle.std.proofs.Common.{nat_lt}
-use Rattle.aig_core.specs.Aig.{Aig, first_and, node_count, IsAnd, IsSource, IsNormal, AreNormal}
+use Rattle.bounded_cuts.proofs.Common.{◌≡◌, ℕ, zero, suc, ◌+◌, ◌-◌, ◌/◌, ◌<◌, ◌≤◌, Bool, List, [], ◌∷◌, ◌++◌, length, map, refl, sym, ap, subst, ◌∙◌, inl, inr, arith, cases_eq, cases_lt, get_or_from_slice_get, slice_get_within, In, cut_flow, candidate_at, paid_flow, ComesBefore, by_first, by_second, by_place, AreFirst, AreInOrder, IsLeastAtHeight, IsLeft, AreTakenPlaces, places}
+use Rattle.aig_core.specs.Aig.{Aig, first_and, node_count, IsAnd, IsSource, AreNormal}
 use Rattle.aig_core.specs.declared.lit.Kind.TheVariants.{Regular}
 use Rattle.aig_core.specs.declared.lit.Pair.{Pair}
-use Rattle.aig_core.proofs.NodeLemmas.{source_below, node_normal, same_pair}
+use Rattle.aig_core.proofs.NodeLemmas.{source_below, same_pair}
 use Rattle.list_laws.specs.Apart.{AreApart}
 use Rattle.list_laws.proofs.Apart.{apart_short}
 use Rattle.list_laws.proofs.Places.{same_list}
 use Rattle.cut_sets.specs.Rows.{row_at}
 use Rattle.cut_sets.proofs.BlockLemmas.{regular_blocked}
-use Rattle.bounded_cuts.specs.declared.scope.Scope.{Scope}
 use Rattle.bounded_cuts.specs.declared.scope.Scope.TheVariants.{AnyHeight, LeastHeight}
 use Rattle.bounded_cuts.specs.Candidates.{HandsOn, free, source, node, WithLow, there, missing, unions, AreCandidates}
-use Rattle.bounded_cuts.specs.Flow.{least_flow, allowed_row, flows_below}
-use Rattle.bounded_cuts.specs.Sets.{IsTaken, AreSets}
+use Rattle.bounded_cuts.specs.Flow.{flows_below}
+use Rattle.bounded_cuts.specs.Sets.{AreOnce, IsTaken, AreSets}
+use Rattle.bounded_cuts.proofs.GrowthLemmas.{AgreeBelow, candidates_agree, flows_agree, taken_as}
 
 -- no two places come before each other
 module _ (first second : List ℕ → ℕ) (cs : List (List ℕ)) where
@@ -96,62 +95,44 @@ module _ (g : Aig) where
   source_or_and : (m : ℕ) → IsSource g Regular m → IsAnd g m → ⊥
   source_or_and m s a = let l : m < first_and g = source_below g Regular m s in let h : first_and g ≤ m = a.0 in omega arith
 
-  same_front : (rows more : List (List (List ℕ))) (m : ℕ) (a b : List (List ℕ)) → row_at rows m ≡ row_at more m → HandsOn g rows m a → HandsOn g more m b → a ≡ b
-  same_front rows more m a b same (free h d) (free i e) = d ∙ sym e
-  same_front rows more m a b same (free h d) (source i e) = absurd (regular_blocked g [] i h)
-  same_front rows more m a b same (free h d) (node i j e) = absurd (j h)
-  same_front rows more m a b same (source h d) (free i e) = absurd (regular_blocked g [] h i)
-  same_front rows more m a b same (source h d) (source i e) = d ∙ sym e
-  same_front rows more m a b same (source h d) (node i j e) = absurd (source_or_and m h i)
-  same_front rows more m a b same (node h l d) (free i e) = absurd (l i)
-  same_front rows more m a b same (node h l d) (source i e) = absurd (source_or_and m i h)
-  same_front rows more m a b same (node h l d) (node i j e) = d ∙ ap (λ (row : List (List ℕ)). (m ∷ []) ∷ row) same ∙ sym e
+  same_front : (rows : List (List (List ℕ))) (m : ℕ) (a b : List (List ℕ)) → HandsOn g rows m a → HandsOn g rows m b → a ≡ b
+  same_front rows m a b (free h d) (free i e) = d ∙ sym e
+  same_front rows m a b (free h d) (source i e) = absurd (regular_blocked g [] i h)
+  same_front rows m a b (free h d) (node i j e) = absurd (j h)
+  same_front rows m a b (source h d) (free i e) = absurd (regular_blocked g [] h i)
+  same_front rows m a b (source h d) (source i e) = d ∙ sym e
+  same_front rows m a b (source h d) (node i j e) = absurd (source_or_and m h i)
+  same_front rows m a b (node h l d) (free i e) = absurd (l i)
+  same_front rows m a b (node h l d) (source i e) = absurd (source_or_and m i h)
+  same_front rows m a b (node h l d) (node i j e) = d ∙ sym e
 
-  module _ (normal : AreNormal (first_and g) g.pairs) (k : ℕ) (label : ℕ → ℕ) (rows more : List (List (List ℕ))) (n : ℕ) (same : (m : ℕ) → m < n → row_at rows m ≡ row_at more m) where
-    same_candidates : (low : List ℕ) (a b : List (List ℕ)) → AreCandidates g k label low rows n a → AreCandidates g k label low more n b → a ≡ b
-    same_candidates low a b are other =
-        let p : other.pair ≡ are.pair = same_pair g other.pair are.pair n other.is are.is in
-        let is_normal : IsNormal n are.pair = node_normal g n are.pair normal are.is in
-        let y_below : are.pair.y.0 / 2 < n = is_normal.below in
-        let x_below : are.pair.x.0 / 2 < n = omega (arith, is_normal.ordered) in
-        let x_front : HandsOn g more (are.pair.x.0 / 2) other.xs = subst (λ (q : Pair). HandsOn g more (q.x.0 / 2) other.xs) p other.x_front in
-        let y_front : HandsOn g more (are.pair.y.0 / 2) other.ys = subst (λ (q : Pair). HandsOn g more (q.y.0 / 2) other.ys) p other.y_front in
-        let xs : other.xs ≡ are.xs = sym (same_front rows more (are.pair.x.0 / 2) are.xs other.xs (same (are.pair.x.0 / 2) x_below) are.x_front x_front) in
-        let ys : other.ys ≡ are.ys = sym (same_front rows more (are.pair.y.0 / 2) are.ys other.ys (same (are.pair.y.0 / 2) y_below) are.y_front y_front) in
-        same_with_low label (label n) low (unions k are.xs are.ys) a b are.are
-        (subst (λ (zs : List (List ℕ)). WithLow label (label n) low (unions k are.xs zs) b) ys
-        (subst (λ (zs : List (List ℕ)). WithLow label (label n) low (unions k zs other.ys) b) xs other.are))
-
-  -- flows are over the sets of the nodes below
-  same_flows : (scope : Scope) (label counts : ℕ → ℕ) (rows more : List (List (List ℕ))) (n : ℕ) → ((m : ℕ) → m < n → row_at rows m ≡ row_at more m) → flows_below g scope label rows counts n ≡ flows_below g scope label more counts n
-  same_flows scope label counts rows more zero same = refl
-  same_flows scope label counts rows more (suc n) same =
-      let below : flows_below g scope label rows counts n ≡ flows_below g scope label more counts n = same_flows scope label counts rows more n (λ m l. same m (omega arith)) in
-      let flow_over = λ (flows : List ℕ) (row : List (List ℕ)). if nat_lt n (first_and g) then 0 else least_flow flows (allowed_row scope label (label n) row) / max 1 (counts n) in
-      ap (λ (flows : List ℕ). flows ++ flow_over flows (row_at rows n) ∷ []) below
-      ∙ ap (λ (row : List (List ℕ)). flows_below g scope label more counts n ++ flow_over (flows_below g scope label more counts n) row ∷ []) (same n (omega arith))
+  same_candidates : (k : ℕ) (label : ℕ → ℕ) (low : List ℕ) (rows : List (List (List ℕ))) (n : ℕ) (a b : List (List ℕ)) → AreCandidates g k label low rows n a → AreCandidates g k label low rows n b → a ≡ b
+  same_candidates k label low rows n a b are other =
+      let p : other.pair ≡ are.pair = same_pair g other.pair are.pair n other.is are.is in
+      let xs : other.xs ≡ are.xs = same_front rows _ other.xs are.xs (subst (λ (q : Pair). HandsOn g rows (q.x.0 / 2) other.xs) p other.x_front) are.x_front in
+      let ys : other.ys ≡ are.ys = same_front rows _ other.ys are.ys (subst (λ (q : Pair). HandsOn g rows (q.y.0 / 2) other.ys) p other.y_front) are.y_front in
+      same_with_low label (label n) low (unions k are.xs are.ys) a b are.are
+      (subst (λ (zs : List (List ℕ)). WithLow label (label n) low (unions k are.xs zs) b) ys
+      (subst (λ (zs : List (List ℕ)). WithLow label (label n) low (unions k zs other.ys) b) xs other.are))
 
   module _ (normal : AreNormal (first_and g) g.pairs) (k : ℕ) (label : ℕ → ℕ) (lows : ℕ → List ℕ) (counts : ℕ → ℕ) (favoured : ℕ → Bool) (rows more : List (List (List ℕ))) (are : AreSets g k label lows counts favoured rows) (others : AreSets g k label lows counts favoured more) where
     -- the set of a node, if those of the nodes below it are the same
-    same_set : (n : ℕ) → IsAnd g n → ((m : ℕ) → m < n → row_at rows m ≡ row_at more m) → row_at rows n ≡ row_at more n
+    same_set : (n : ℕ) → IsAnd g n → AgreeBelow more rows n → row_at rows n ≡ row_at more n
     same_set n is same =
         let a = are.each n is in
         let b = others.each n is in
-        let cs : b.0 ≡ a.0 = sym (same_candidates normal k label rows more n same (lows n) a.0 b.0 a.1 b.1) in
-        let flows : flows_below g AnyHeight label more counts n ≡ flows_below g AnyHeight label rows counts n = sym (same_flows AnyHeight label counts rows more n same) in
-        let low_flows : flows_below g LeastHeight label more counts n ≡ flows_below g LeastHeight label rows counts n = sym (same_flows LeastHeight label counts rows more n same) in
+        let cs : b.0 ≡ a.0 = same_candidates k label (lows n) rows n b.0 a.0 (candidates_agree g k label (lows n) more rows n b.0 normal same b.1) a.1 in
         same_taken k label (label n) (flows_below g AnyHeight label rows counts n) (flows_below g LeastHeight label rows counts n) favoured a.0 (row_at rows n) (row_at more n) a.2
         (subst (λ (ds : List (List ℕ)). IsTaken k label (label n) (flows_below g AnyHeight label rows counts n) (flows_below g LeastHeight label rows counts n) favoured ds (row_at more n)) cs
-        (subst (λ (f : List ℕ). IsTaken k label (label n) (flows_below g AnyHeight label rows counts n) f favoured b.0 (row_at more n)) low_flows
-        (subst (λ (f : List ℕ). IsTaken k label (label n) f (flows_below g LeastHeight label more counts n) favoured b.0 (row_at more n)) flows b.2)))
+        (taken_as k label (label n) _ _ _ _ favoured b.0 _ _ (sym (flows_agree g AnyHeight label more rows counts n same)) (sym (flows_agree g LeastHeight label more rows counts n same)) refl b.2))
 
-    same_row : (n : ℕ) → n < node_count g → ((m : ℕ) → m < n → row_at rows m ≡ row_at more m) → row_at rows n ≡ row_at more n
+    same_row : (n : ℕ) → n < node_count g → AgreeBelow more rows n → row_at rows n ≡ row_at more n
     same_row n l same = elim (cases_lt n (first_and g)) [
       | inl s ↦ are.sources n s ∙ sym (others.sources n s)
       | inr a ↦ same_set n (a, l) same
     ]
 
-    same_below : (n : ℕ) → n ≤ node_count g → (m : ℕ) → m < n → row_at rows m ≡ row_at more m
+    same_below : (n : ℕ) → n ≤ node_count g → AgreeBelow more rows n
     same_below zero l m b = absurd (omega arith)
     same_below (suc n) l m b = elim (cases_eq m n) [
       | inl e ↦ subst (λ (j : ℕ). row_at rows j ≡ row_at more j) (sym e) (same_row n (omega arith) (same_below n (omega arith)))
@@ -165,5 +146,5 @@ module _ (g : Aig) where
         sym (get_or_from_slice_get rows i x [] d) ∙ same_below (node_count g) (omega arith) i (omega arith) ∙ get_or_from_slice_get more i y [] e)
 
 -- two row lists that are the sets for the same labels, low cuts, counts and favoured nodes
-pub sets_once : (g : Aig) → AreNormal (first_and g) g.pairs → (k : ℕ) (label : ℕ → ℕ) (lows : ℕ → List ℕ) (counts : ℕ → ℕ) (favoured : ℕ → Bool) (rows more : List (List (List ℕ))) → AreSets g k label lows counts favoured rows → AreSets g k label lows counts favoured more → rows ≡ more
+pub sets_once : (g : Aig) → AreNormal (first_and g) g.pairs → (k : ℕ) (label : ℕ → ℕ) (lows : ℕ → List ℕ) → AreOnce g k label lows
 sets_once g normal k label lows counts favoured rows more are others = all_same g normal k label lows counts favoured rows more are others

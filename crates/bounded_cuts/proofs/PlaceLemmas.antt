@@ -1,5 +1,5 @@
 -- Three takings, one behind another.
-use Rattle.bounded_cuts.proofs.Common.{◌≡◌, ℕ, ◌+◌, ◌-◌, ◌*◌, ◌/◌, ◌<◌, ◌≤◌, Bool, false, List, [], ◌++◌, length, get_or, refl, sym, ap, subst, ◌∙◌, inl, inr, arith, length-append, replicate, length-replicate, get_or-replicate, get_or_past, cases_lt, false≢true, In-left, In-get_or, In, height, label_at, height_within, LeastHeight, FewestLeaves, LeastCost, cut_flow, candidate_at, paid_flow, AreFirst, IsLeastAtHeight, IsLeft, AreTakenPlaces, places, is_favoured, Pricing, AreTaking, MayTake, HasTaken, HasLowPlace, IsPlaced}
+use Rattle.bounded_cuts.proofs.Common.{◌≡◌, ℕ, ◌+◌, ◌-◌, ◌/◌, ◌≤◌, Bool, false, List, [], ◌++◌, length, sym, ap, subst, ◌∙◌, inl, inr, arith, length-append, replicate, length-replicate, get_or-replicate, get_or_past, cases_lt, false≢true, In, label_at, LeastHeight, FewestLeaves, LeastCost, cut_flow, paid_flow, AreFirst, IsLeastAtHeight, IsLeft, places, is_favoured, Pricing, AreTaking, MayTake, HasTaken, ArePlaced}
 
 -- before the first look
 pub nothing_taken : (cs : List (List ℕ)) (looked : List Bool) (taken : List ℕ) (n : ℕ) → n ≡ length cs → looked ≡ replicate n false → taken ≡ [] → AreTaking cs looked taken
@@ -22,7 +22,7 @@ first_as first second cs P Q m n taken to from e are = record {
   all = λ i q. elim (are.all i (from i q)) [ inl t ↦ inl t | inr b ↦ inr (b.0 ∙ e, b.1) ];
 }
 
-module _ (p : Pricing) (k r : ℕ) (cs : List (List ℕ)) (least : (i : ℕ) → i < length cs → r ≤ height (label_at p.labels) (candidate_at cs i)) (l1 l2 l3 : List Bool) (t1 t2 t3 : List ℕ) (m1 m2 m3 : ℕ) (e1 : m1 ≡ places k / 2) (e2 : m2 ≡ length t1 + places k / 4) (e3 : m3 ≡ places k) (low : HasTaken LeastHeight p r cs m1 [] l1 t1) (short : HasTaken FewestLeaves p r cs m2 t1 l2 t2) (rest : HasTaken LeastCost p r cs m3 t2 l3 t3) where
+module _ (p : Pricing) (k r : ℕ) (cs : List (List ℕ)) (l1 l2 l3 : List Bool) (t1 t2 t3 : List ℕ) (m1 m2 m3 : ℕ) (e1 : m1 ≡ places k / 2) (e2 : m2 ≡ length t1 + places k / 4) (e3 : m3 ≡ places k) (low : HasTaken LeastHeight p r cs m1 [] l1 t1) (short : HasTaken FewestLeaves p r cs m2 t1 l2 t2) (rest : HasTaken LeastCost p r cs m3 t2 l3 t3) where
   low_is : t1 ≡ low.now
   low_is = low.is
 
@@ -32,8 +32,8 @@ module _ (p : Pricing) (k r : ℕ) (cs : List (List ℕ)) (least : (i : ℕ) →
   two_length : length t2 ≡ length low.now + length short.now
   two_length = ap (λ (t : List ℕ). length t) two_are ∙ length-append low.now short.now
 
-  all_placed : AreTakenPlaces k (label_at p.labels) r p.flows p.lows (is_favoured p.favoured) cs t3
-  all_placed = record {
+  pub placed : ArePlaced p k r cs t3
+  placed = record {
     low = low.now;
     short = short.now;
     rest = rest.now;
@@ -45,21 +45,3 @@ module _ (p : Pricing) (k r : ℕ) (cs : List (List ℕ)) (least : (i : ℕ) →
         (λ i m. record { least = m.least; apart = λ t. m.apart (subst (λ (l : List ℕ). In l i) (sym two_are) t) }) (λ i q. record { least = q.least; qualifies = tt; apart = λ t. q.apart (subst (λ (l : List ℕ). In l i) two_are t) }) (omega (arith, two_length)) rest.first;
     is = rest.is ∙ ap (λ (t : List ℕ). t ++ rest.now) two_are;
   }
-
-  at_end : (j : ℕ) → In t1 j → In t3 j
-  at_end j m = subst (λ (t : List ℕ). In t j) (sym rest.is) (In-left t2 rest.now j (subst (λ (t : List ℕ). In t j) (sym short.is) (In-left t1 short.now j m)))
-
-  has_low : (i : ℕ) → i < length cs → height (label_at p.labels) (candidate_at cs i) ≡ r → HasLowPlace (label_at p.labels) r cs t3
-  has_low i l h = elim (low.all i l h) [
-    | inl looked ↦ (let part = low.taking.parts i looked in
-        let within : height (label_at p.labels) (candidate_at cs part.by) ≤ height (label_at p.labels) (candidate_at cs i) = height_within (label_at p.labels) (candidate_at cs part.by) (candidate_at cs i) part.part in
-        let above : r ≤ height (label_at p.labels) (candidate_at cs part.by) = least part.by (low.taking.taken_least part.by part.is_taken).inside in
-        record { place = part.by; there = at_end part.by part.is_taken; low = omega arith })
-    | inr many ↦ (let some : 0 < length t1 = (let z : places k ≡ 2 * k + 4 = refl in omega arith) in
-        let some' : 0 < length low.now = subst (λ (t : List ℕ). 0 < length t) low_is some in
-        let there : In low.now (get_or low.now 0 0) = In-get_or low.now 0 0 some' in
-        record { place = get_or low.now 0 0; there = at_end (get_or low.now 0 0) (subst (λ (t : List ℕ). In t (get_or low.now 0 0)) (sym low_is) there); low = (low.first.only (get_or low.now 0 0) there).qualifies })
-  ]
-
-  pub placed : IsPlaced p k r cs t3
-  placed = record { are = all_placed; low = has_low }

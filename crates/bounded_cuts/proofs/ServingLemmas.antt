@@ -1,106 +1,6 @@
 -- Sets serve a plan: the candidates of a node are cuts of it, and one of those that are taken is as low as the label.
-use Rattle.bounded_cuts.proofs.Common.{◌≡◌, ℕ, zero, suc, ◌+◌, ◌*◌, ◌/◌, ◌<◌, ◌≤◌, Bool, List, [], ◌∷◌, ◌++◌, length, get_or, refl, sym, subst, ◌∙◌, inl, inr, ◌⊎◌, arith, false≢true, cases_Bool, cases_lt, get_or_from_slice_get, slice_get_within, In, Within, IsAscending, In-left, In-pushed, In-append, In-push, In-get_or, In-map, from_map, place_in, height, height_within, length_within, same_length_within, subset, subset_true, subset_from, cut_flow, candidate_at, places, AreFirst, IsLeastAt, IsLeastAtHeight, AreTakenPlaces, flows_below, IsTaken, AreSets, AreServing, Aig, first_and, IsAnd, IsNode, AreNormal, Pair, node_normal, Blocks, member, fan_ins, Blocks-within, CanBeLeaf, IsCut, AreLeastHeights, row_at, union, In-union, union_left, union_right, IsAscending-union, AreCandidates, HandsOn, free, source, node, one_union, unions_with, unions, HasLow, WithLow, there, missing}
-use Rattle.std.proofs.Common.{nat_lt}
-use Rattle.std.proofs.lemmas.Bool.{ltb-false}
-use Rattle.list_laws.proofs.Choice.{choose}
-use Rattle.bounded_cuts.specs.declared.scope.Scope.TheVariants.{AnyHeight, LeastHeight}
-
--- a cut that a node hands on: it blocks the node, and has leaves up to the node alone
-record IsHanded (g : Aig) (m : ℕ) (c : List ℕ) : Type 0 where
-  ascending : IsAscending c
-  below : (x : ℕ) → In c x → (x ≤ m) × CanBeLeaf g x
-  blocks : Blocks g c m
-
-none_handed : (g : Aig) (m : ℕ) → Blocks g [] m → IsHanded g m []
-none_handed g m b = record { ascending = tt; below = λ x i. absurd i; blocks = b }
-
-itself_handed : (g : Aig) (m : ℕ) → CanBeLeaf g m → IsHanded g m (m ∷ [])
-itself_handed g m leaf = record {
-  ascending = ((λ x i. absurd i), tt);
-  below = λ x i. elim i [ inl e ↦ ((let f : x ≡ m = e in omega arith), subst (CanBeLeaf g) (sym e) leaf) | inr b ↦ absurd b ];
-  blocks = member (inl refl);
-}
-
-cut_handed : (g : Aig) (k m : ℕ) (c : List ℕ) → IsCut g k m c → IsHanded g m c
-cut_handed g k m c cut = record { ascending = cut.ascending; below = λ x i. ((let l : x < m = (cut.below x i).0 in omega arith), (cut.below x i).1); blocks = cut.blocks }
-
--- what is in a list of one element
-only_one : {A : Type 0} (P : A → Type 0) (x y : A) → P x → In (x ∷ []) y → P y
-only_one P x y p (inl e) = subst P (sym e) p
-only_one P x y p (inr b) = absurd b
-
--- all cuts that a node hands on are such
-handed : (g : Aig) (k : ℕ) (rows : List (List (List ℕ))) (m : ℕ) (front : List (List ℕ)) → (IsAnd g m → (c : List ℕ) → In (row_at rows m) c → IsCut g k m c) → HandsOn g rows m front → (c : List ℕ) → In front c → IsHanded g m c
-handed g k rows m front cuts (free b e) c i = only_one (IsHanded g m) [] c (none_handed g m b) (subst (λ (l : List (List ℕ)). In l c) e i)
-handed g k rows m front cuts (source s e) c i = only_one (IsHanded g m) (m ∷ []) c (itself_handed g m (inl s)) (subst (λ (l : List (List ℕ)). In l c) e i)
-handed g k rows m front cuts (node and live e) c i = elim (subst (λ (l : List (List ℕ)). In l c) e i) [
-  | inl f ↦ subst (IsHanded g m) (sym f) (itself_handed g m (inr and))
-  | inr j ↦ cut_handed g k m c (cuts and c j)
-]
-
--- a union of at most k nodes of a cut of each list
-record IsPaired (k : ℕ) (cs ds : List (List ℕ)) (e : List ℕ) : Type 0 where
-  left : List ℕ
-  right : List ℕ
-  left_in : In cs left
-  right_in : In ds right
-  is : e ≡ union left right
-  few : length (union left right) ≤ k
-
-in_one : (k : ℕ) (c d e : List ℕ) → In (one_union k c d) e → (e ≡ union c d) × (length (union c d) ≤ k)
-in_one k c d e i = choose (λ (l : List (List ℕ)). In l e → (e ≡ union c d) × (length (union c d) ≤ k)) (nat_lt k (length (union c d))) [] (union c d ∷ [])
-    (λ t j. absurd j)
-    (λ u j. elim j [ inl f ↦ (f, ltb-false k (length (union c d)) u) | inr b ↦ absurd b ]) i
-
-in_with : (k : ℕ) (c : List ℕ) (ds : List (List ℕ)) (e : List ℕ) → In (unions_with k c ds) e → (d : List ℕ) × In ds d × (e ≡ union c d) × (length (union c d) ≤ k)
-in_with k c [] e i = absurd i
-in_with k c (d ∷ ds) e i = elim (In-append (one_union k c d) (unions_with k c ds) e i) [
-  | inl j ↦ (let one = in_one k c d e j in (d, inl refl, one.0, one.1))
-  | inr j ↦ (let more = in_with k c ds e j in (more.0, inr more.1, more.2, more.3))
-]
-
-in_unions : (k : ℕ) (cs ds : List (List ℕ)) (e : List ℕ) → In (unions k cs ds) e → IsPaired k cs ds e
-in_unions k [] ds e i = absurd i
-in_unions k (c ∷ cs) ds e i = elim (In-append (unions_with k c ds) (unions k cs ds) e i) [
-  | inl j ↦ (let one = in_with k c ds e j in record { left = c; right = one.0; left_in = inl refl; right_in = one.1; is = one.2; few = one.3 })
-  | inr j ↦ (let more = in_unions k cs ds e j in record { left = more.left; right = more.right; left_in = inr more.left_in; right_in = more.right_in; is = more.is; few = more.few })
-]
-
--- the union of what both fan-ins hand on is a cut
-union_cut : (g : Aig) → AreNormal (first_and g) g.pairs → (k n : ℕ) (p : Pair) → IsNode g p n → (c d : List ℕ) → IsHanded g (p.x.0 / 2) c → IsHanded g (p.y.0 / 2) d → length (union c d) ≤ k → IsCut g k n (union c d)
-union_cut g normal k n p is c d x y few =
-    let a : p.y.0 / 2 < n = (node_normal g n p normal is).below in
-    let b : p.x.0 / 2 < p.y.0 / 2 = (node_normal g n p normal is).ordered in
-    record {
-      ascending = IsAscending-union c d y.ascending;
-      few = few;
-      below = λ m i. elim (In-union c d m i) [
-        | inl j ↦ ((let l : m ≤ p.x.0 / 2 = (x.below m j).0 in omega arith), (x.below m j).1)
-        | inr j ↦ ((let l : m ≤ p.y.0 / 2 = (y.below m j).0 in omega arith), (y.below m j).1)
-      ];
-      blocks = fan_ins p is (Blocks-within g c (union c d) (union_left c d) x.blocks) (Blocks-within g d (union c d) (union_right c d) y.blocks);
-    }
-
--- with the low cut behind them or not, these are the unions and the low cut
-in_candidates : (label : ℕ → ℕ) (r : ℕ) (low : List ℕ) (us cs : List (List ℕ)) → WithLow label r low us cs → (c : List ℕ) → In cs c → In us c ⊎ (c ≡ low)
-in_candidates label r low us cs (there has e) c i = inl (subst (λ (l : List (List ℕ)). In l c) e i)
-in_candidates label r low us cs (missing none e) c i = In-push us low c (subst (λ (l : List (List ℕ)). In l c) e i)
-
--- The candidates of a node are cuts of it if the rows of the nodes below it consist of cuts.
-pub candidates_are_cuts : (g : Aig) → AreNormal (first_and g) g.pairs → (k : ℕ) (label : ℕ → ℕ) (low : List ℕ) (rows : List (List (List ℕ))) (n : ℕ) (cs : List (List ℕ))
-    → ((m : ℕ) → IsAnd g m → m < n → (c : List ℕ) → In (row_at rows m) c → IsCut g k m c) → IsCut g k n low → AreCandidates g k label low rows n cs
-    → (c : List ℕ) → In cs c → IsCut g k n c
-candidates_are_cuts g normal k label low rows n cs cuts low_cut are c i =
-    let p = are.pair in
-    let a : p.y.0 / 2 < n = (node_normal g n p normal are.is).below in
-    let b : p.x.0 / 2 < p.y.0 / 2 = (node_normal g n p normal are.is).ordered in
-    elim (in_candidates label (label n) low (unions k are.xs are.ys) cs are.are c i) [
-      | inl j ↦ (let pair = in_unions k are.xs are.ys c j in
-          subst (IsCut g k n) (sym pair.is) (union_cut g normal k n p are.is pair.left pair.right
-          (handed g k rows (p.x.0 / 2) are.xs (λ and. cuts (p.x.0 / 2) and (omega arith)) are.x_front pair.left pair.left_in)
-          (handed g k rows (p.y.0 / 2) are.ys (λ and. cuts (p.y.0 / 2) and a) are.y_front pair.right pair.right_in) pair.few))
-      | inr e ↦ subst (IsCut g k n) (sym e) low_cut
-    ]
+use Rattle.bounded_cuts.proofs.Common.{◌≡◌, ℕ, zero, suc, ◌+◌, ◌-◌, ◌*◌, ◌/◌, ◌<◌, ◌≤◌, Bool, List, [], ◌++◌, length, length-append, length-map, get_or, refl, sym, ap, subst, ◌∙◌, inl, inr, ◌⊎◌, arith, false≢true, cases_Bool, cases_lt, get_or_from_slice_get, slice_get_within, In, Within, IsAscending, In-left, In-append, In-get_or, In-map, from_map, place_in, height, height_within, length_within, same_length_within, subset, subset_true, subset_from, cut_flow, candidate_at, places, AreFirst, IsLeastAt, IsLeastAtHeight, AreTakenPlaces, IsTaken, HasSet, AreOfUse, Aig, first_and, IsAnd, AreNormal, IsCut, AreLeastHeights, row_at}
+use Rattle.bounded_cuts.proofs.CutLemmas.{candidate_cut, low_candidate}
 
 -- the places that are taken are inside
 taken_inside : (k : ℕ) (label : ℕ → ℕ) (r : ℕ) (flows lows : List ℕ) (favoured : ℕ → Bool) (cs : List (List ℕ)) (taken : List ℕ) → AreTakenPlaces k label r flows lows favoured cs taken → (i : ℕ) → In taken i → i < length cs
@@ -116,16 +16,15 @@ taken_from k label r flows lows favoured cs set is c m =
     subst (In cs) (sym at.2) (In-get_or cs at.0 [] (taken_inside k label r flows lows favoured cs is.taken is.are at.0 at.1))
 
 -- Rows that are taken from candidates, up to a node, consist of cuts.
-pub rows_are_cuts : (g : Aig) → AreNormal (first_and g) g.pairs → (k : ℕ) (label : ℕ → ℕ) (lows : ℕ → List ℕ) (flows low_flows : ℕ → List ℕ) (favoured : ℕ → Bool) (rows : List (List (List ℕ))) (n : ℕ)
-    → ((m : ℕ) → IsAnd g m → IsCut g k m (lows m))
-    → ((m : ℕ) → IsAnd g m → m < n → (cs : List (List ℕ)) × AreCandidates g k label (lows m) rows m cs × IsTaken k label (label m) (flows m) (low_flows m) favoured cs (row_at rows m))
-    → (m : ℕ) → IsAnd g m → m < n → (c : List ℕ) → In (row_at rows m) c → IsCut g k m c
-rows_are_cuts g normal k label lows flows low_flows favoured rows zero low_cuts each m and l c i = absurd (omega arith)
-rows_are_cuts g normal k label lows flows low_flows favoured rows (suc n) low_cuts each m and l c i =
+pub rows_are_cuts : (g : Aig) → AreNormal (first_and g) g.pairs → (k : ℕ) (label : ℕ → ℕ) (lows : ℕ → List ℕ) → ((n : ℕ) → IsAnd g n → IsCut g k n (lows n)) → (counts : ℕ → ℕ) (favoured : ℕ → Bool) (rows : List (List (List ℕ))) (n : ℕ)
+    → ((m : ℕ) → IsAnd g m → m < n → HasSet g k label lows counts favoured rows m)
+    → (m : ℕ) (c : List ℕ) → IsAnd g m → m < n → In (row_at rows m) c → IsCut g k m c
+rows_are_cuts g normal k label lows low_cuts counts favoured rows zero each m c and l i = absurd (omega arith)
+rows_are_cuts g normal k label lows low_cuts counts favoured rows (suc n) each m c and l i =
     let made = each m and l in
-    candidates_are_cuts g normal k label (lows m) rows m made.0
-    (λ b b_and b_l. rows_are_cuts g normal k label lows flows low_flows favoured rows n low_cuts (λ a a_and a_l. each a a_and (omega arith)) b b_and (omega arith))
-    (low_cuts m and) made.1 c (taken_from k label (label m) (flows m) (low_flows m) favoured made.0 (row_at rows m) made.2 c i)
+    candidate_cut g k label (lows m) rows m made.0 normal
+    (λ b d b_and b_l. rows_are_cuts g normal k label lows low_cuts counts favoured rows n (λ a a_and a_l. each a a_and (omega arith)) b d b_and (omega arith))
+    (low_cuts m and) made.1 c (taken_from _ _ _ _ _ _ made.0 (row_at rows m) made.2 c i)
 
 -- how many leaves the candidate at a place has
 abbrev leaves : List (List ℕ) → ℕ → ℕ
@@ -212,11 +111,6 @@ least_within cs up i l = elim (shortest_of cs i (length cs)) [
       ))
 ]
 
--- a candidate that is as low as the label
-low_candidate : (label : ℕ → ℕ) (r : ℕ) (low : List ℕ) (us cs : List (List ℕ)) → height label low ≡ r → WithLow label r low us cs → HasLow label r cs
-low_candidate label r low us cs low_is (there has e) = (has.0, subst (λ (l : List (List ℕ)). In l has.0) (sym e) has.1, has.2)
-low_candidate label r low us cs low_is (missing none e) = (low, subst (λ (l : List (List ℕ)). In l low) (sym e) (In-pushed us low), omega arith)
-
 module _ (k : ℕ) (label : ℕ → ℕ) (r : ℕ) (flows lows : List ℕ) (favoured : ℕ → Bool) (cs : List (List ℕ)) where
   -- a place of the first taking
   low_place : (low : List ℕ) → AreFirst (cut_flow lows) length cs (IsLeastAtHeight label r cs) (places k / 2) low → (b : ℕ) → IsLeastAtHeight label r cs b → (i : ℕ) × In low i × (height label (candidate_at cs i) ≡ r)
@@ -228,34 +122,47 @@ module _ (k : ℕ) (label : ℕ → ℕ) (r : ℕ) (flows lows : List ℕ) (favo
   ]
 
   -- Of candidates that are no lower than the label, and one of them as low, one as low is taken.
-  pub low_taken : (set : List (List ℕ)) → ((c : List ℕ) → In cs c → IsAscending c) → ((c : List ℕ) → In cs c → r ≤ height label c) → HasLow label r cs → IsTaken k label r flows lows favoured cs set → (c : List ℕ) × In set c × (height label c ≡ r)
+  pub low_taken : (set : List (List ℕ)) → ((c : List ℕ) → In cs c → IsAscending c) → ((c : List ℕ) → In cs c → r ≤ height label c) → (c : List ℕ) × In cs c × (height label c ≡ r) → IsTaken k label r flows lows favoured cs set → (c : List ℕ) × In set c × (height label c ≡ r)
   low_taken set up above has is =
       let at = place_in cs has.0 has.1 in
       let c_is : candidate_at cs at.0 ≡ has.0 = get_or_from_slice_get cs at.0 has.0 [] at.1 in
       let b = least_within cs up at.0 (slice_get_within cs at.0 has.0 at.1) in
       let no_higher : height label (candidate_at cs b.0) ≤ height label has.0 = subst (λ (c : List ℕ). height label (candidate_at cs b.0) ≤ height label c) c_is (height_within label (candidate_at cs b.0) (candidate_at cs at.0) b.2) in
       let no_lower : r ≤ height label (candidate_at cs b.0) = above (candidate_at cs b.0) (In-get_or cs b.0 [] b.1.inside) in
-      let low : height label has.0 ≤ r = has.2 in
+      let low : height label has.0 ≡ r = has.2 in
       let place = low_place is.are.low is.are.low_are b.0 (record { least = b.1; height_is = omega arith }) in
       let in_taken : In is.taken place.0 = subst (λ (l : List ℕ). In l place.0) (sym is.are.is) (In-left (is.are.low ++ is.are.short) is.are.rest place.0 (In-left is.are.low is.are.short place.0 place.1)) in
       (candidate_at cs place.0, subst (λ (l : List (List ℕ)). In l (candidate_at cs place.0)) (sym is.is) (In-map (candidate_at cs) is.taken place.0 in_taken), place.2)
 
 -- The sets of a graph serve a plan.
-pub sets_serve : (g : Aig) → AreNormal (first_and g) g.pairs → (k : ℕ) (label : ℕ → ℕ) → AreLeastHeights g k label → (lows : ℕ → List ℕ) → ((n : ℕ) → IsAnd g n → IsCut g k n (lows n)) → ((n : ℕ) → IsAnd g n → height label (lows n) ≡ label n)
-    → (counts : ℕ → ℕ) (favoured : ℕ → Bool) (rows : List (List (List ℕ))) → AreSets g k label lows counts favoured rows → AreServing g k label rows
+pub sets_serve : (g : Aig) → AreNormal (first_and g) g.pairs → (k : ℕ) (label : ℕ → ℕ) → AreLeastHeights g k label → (lows : ℕ → List ℕ) → ((n : ℕ) → IsAnd g n → IsCut g k n (lows n)) → ((n : ℕ) → IsAnd g n → height label (lows n) ≡ label n) → AreOfUse g k label lows
 sets_serve g normal k label least lows low_cuts low_is counts favoured rows sets =
-    let flows = flows_below g AnyHeight label rows counts in
-    let low_flows = flows_below g LeastHeight label rows counts in
-    let cuts : (n : ℕ) (and : IsAnd g n) → (c : List ℕ) → In (sets.each n and).0 c → IsCut g k n c = (λ n and. candidates_are_cuts g normal k label (lows n) rows n (sets.each n and).0
-    (rows_are_cuts g normal k label lows flows low_flows favoured rows n low_cuts (λ m m_and _. sets.each m m_and))
-    (low_cuts n and) (sets.each n and).1) in
+    let below : (n m : ℕ) (c : List ℕ) → IsAnd g m → m < n → In (row_at rows m) c → IsCut g k m c =
+    (λ n. rows_are_cuts g normal k label lows low_cuts counts favoured rows n (λ m and _. sets.each m and)) in
+    let cuts : (n : ℕ) (and : IsAnd g n) → (c : List ℕ) → In (sets.each n and).0 c → IsCut g k n c =
+    (λ n and. candidate_cut g k label (lows n) rows n (sets.each n and).0 normal (below n) (low_cuts n and) (sets.each n and).1) in
     record {
       count = sets.count;
-      cuts = λ n c and i. cuts n and c (taken_from k label (label n) (flows n) (low_flows n) favoured (sets.each n and).0 (row_at rows n) (sets.each n and).2 c i);
+      cuts = λ n c and i. below (suc n) n c and (omega arith) i;
       low = λ n and.
           let made = sets.each n and in
-          low_taken k label (label n) (flows n) (low_flows n) favoured made.0 (row_at rows n)
+          low_taken k label (label n) _ _ favoured made.0 (row_at rows n)
           (λ c i. (cuts n and c i).ascending)
           (λ c i. least.least n c and (cuts n and c i))
-          (low_candidate label (label n) (lows n) (unions k made.1.xs made.1.ys) made.0 (low_is n and) made.1.are) made.2;
+          (low_candidate g k label (lows n) rows n made.0 normal (below n) (low_cuts n and) made.1 and least (low_is n and)) made.2;
     }
+
+-- a set has at most as many cuts as places
+taken_few : (k : ℕ) (label : ℕ → ℕ) (r : ℕ) (flows lows : List ℕ) (favoured : ℕ → Bool) (cs : List (List ℕ)) (taken : List ℕ) → AreTakenPlaces k label r flows lows favoured cs taken → length taken ≤ places k
+taken_few k label r flows lows favoured cs taken are =
+    let a : length are.low ≤ places k / 2 = are.low_are.few in
+    let b : length are.short ≤ places k / 4 = are.short_are.few in
+    let c : length are.rest ≤ places k - (length are.low + length are.short) = are.rest_are.few in
+    let l : length taken ≡ length are.low + length are.short + length are.rest = ap (λ (t : List ℕ). length t) are.is ∙ length-append (are.low ++ are.short) are.rest ∙ ap (λ (x : ℕ). x + length are.rest) (length-append are.low are.short) in
+    omega arith
+
+pub set_few : (k : ℕ) (label : ℕ → ℕ) (r : ℕ) (flows lows : List ℕ) (favoured : ℕ → Bool) (cs set : List (List ℕ)) → IsTaken k label r flows lows favoured cs set → length set ≤ places k
+set_few k label r flows lows favoured cs set is =
+    let f : length is.taken ≤ places k = taken_few k label r flows lows favoured cs is.taken is.are in
+    let l : length set ≡ length is.taken = ap length is.is ∙ length-map is.taken (candidate_at cs) in
+    omega arith

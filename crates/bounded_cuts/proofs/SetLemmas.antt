@@ -1,5 +1,5 @@
 -- The cuts at some places, and the least of their flows.
-use Rattle.bounded_cuts.proofs.Common.{◌≡◌, ℕ, ◌+◌, ◌<◌, ◌≤◌, min, Bool, true, false, cond, if◌then◌else◌, List, [], ◌∷◌, ◌++◌, length, map, get_or, take, ap, ◌∙◌, arith, height, MOST_FLOW, Candidate, candidate_at, cuts_of, cut_flow}
+use Rattle.bounded_cuts.proofs.Common.{◌≡◌, ℕ, ◌+◌, ◌<◌, ◌≤◌, min, Bool, true, false, cond, if◌then◌else◌, List, [], ◌∷◌, ◌++◌, length, map, get_or, take, ap, ◌∙◌, arith, height, MOST_FLOW, Candidate, candidate_at, cuts_at, cuts_of, cut_flow}
 use Rattle.std.proofs.Common.{ltb, nat_lt}
 use Rattle.std.proofs.lemmas.List.{take_more, map-append}
 use Rattle.std.proofs.lemmas.Bool.{ltb-true, ltb-false}
@@ -7,10 +7,10 @@ use Rattle.list_laws.proofs.Choice.{choose}
 use Rattle.bounded_cuts.specs.Flow.{least_flow, cuts_within}
 use Rattle.bounded_cuts.proofs.TakingLemmas.{cut_at}
 
-pub map_next : (candidates : List Candidate) (taken : List ℕ) (i : ℕ) (x : Candidate) → i < length taken → get_or taken i 0 < length candidates → map (candidate_at (cuts_of candidates)) (take (i + 1) taken) ≡ map (candidate_at (cuts_of candidates)) (take i taken) ++ (get_or candidates (get_or taken i 0) x).cut ∷ []
+pub map_next : (candidates : List Candidate) (taken : List ℕ) (i : ℕ) (x : Candidate) → i < length taken → get_or taken i 0 < length candidates → cuts_at candidates (take (i + 1) taken) ≡ cuts_at candidates (take i taken) ++ (get_or candidates (get_or taken i 0) x).cut ∷ []
 map_next candidates taken i x l inside =
     ap (map (candidate_at (cuts_of candidates))) (take_more taken i 0 l) ∙ map-append (candidate_at (cuts_of candidates)) (take i taken) (get_or taken i 0 ∷ [])
-    ∙ ap (λ (d : List ℕ). map (candidate_at (cuts_of candidates)) (take i taken) ++ d ∷ []) (cut_at candidates (get_or taken i 0) x inside)
+    ∙ ap (λ (d : List ℕ). cuts_at candidates (take i taken) ++ d ∷ []) (cut_at candidates (get_or taken i 0) x inside)
 
 -- the least flow of one cut more
 pub least_push : (flows : List ℕ) (cs : List (List ℕ)) (c : List ℕ) → least_flow flows (cs ++ c ∷ []) ≡ min (least_flow flows cs) (cut_flow flows c)

@@ -1,5 +1,5 @@
 -- What nodes count as leaves, said of their labels, their flows and which of them are favoured.
-use Rattle.bounded_cuts.proofs.Common.{◌≡◌, ℕ, zero, suc, ◌+◌, ◌^◌, ◌<◌, ◌≤◌, Bool, if◌then◌else◌, List, [], ◌∷◌, ◌++◌, length, sum_by, refl, sym, ap, subst, ◌∙◌, inl, inr, arith, length-append, get_or_push, get_or_append_left, cases_lt, choose_one, In, In-map, MOST_FLOW, TABLE_PRICE, Candidate, cuts_of, flow_at, is_favoured, AreCapped, IsPriced, ArePriced, label_at, Worth, no_worth, worth_at, label_in, flow_in, low_flow_in, paid_in, flows_of, low_flows_of, AreBounded, IsWorth, AreWorths, IsPricedBy, ArePricedBy}
+use Rattle.bounded_cuts.proofs.Common.{◌≡◌, ℕ, zero, suc, ◌+◌, ◌^◌, ◌<◌, ◌≤◌, Bool, if◌then◌else◌, List, [], ◌∷◌, ◌++◌, length, sum_by, refl, sym, ap, subst, ◌∙◌, inl, inr, arith, length-append, get_or_push, get_or_append_left, cases_lt, choose_one, In, In-map, MOST_FLOW, TABLE_PRICE, Candidate, cuts_of, flow_at, is_favoured, AreCapped, IsPriced, ArePriced, label_at, Worth, no_worth, worth_at, label_in, flow_in, low_flow_in, paid_in, flows_of, low_flows_of, pricing, AreBounded, IsWorth, AreWorths, IsPricedBy, ArePricedBy}
 use Rattle.std.proofs.Math.ListN.{get_or-map}
 use Rattle.std.proofs.Math.Path.{fun_ext}
 use Rattle.std.proofs.lemmas.List.{map-append}
@@ -27,7 +27,7 @@ module _ (labels : List ℕ) (favoured : List Bool) (n : ℕ) (ws : List Worth) 
       }
 
   -- a candidate whose leaves are below n
-  priced_as : (c : Candidate) → ((m : ℕ) → In c.cut m → m < n) → IsPricedBy ws c → IsPriced labels (flows_of ws) (low_flows_of ws) favoured c
+  priced_as : (c : Candidate) → ((m : ℕ) → In c.cut m → m < n) → IsPricedBy ws c → IsPriced (pricing labels favoured ws) c
   priced_as c below priced = record {
     height_is = priced.height_is ∙ height_same (label_in ws) (label_at labels) c.cut (λ m i. are.labels_are m (below m i));
     flow_is = priced.flow_is ∙ cost_same (flow_in ws) (flow_at (flows_of ws)) c.cut (λ m. sym (flow_same ws m));
@@ -37,7 +37,7 @@ module _ (labels : List ℕ) (favoured : List Bool) (n : ℕ) (ws : List Worth) 
     small = priced.small;
   }
 
-  pub all_priced_as : (all : List Candidate) → ((c : List ℕ) (m : ℕ) → In (cuts_of all) c → In c m → m < n) → ArePricedBy ws all → ArePriced labels (flows_of ws) (low_flows_of ws) favoured all
+  pub all_priced_as : (all : List Candidate) → ((c : List ℕ) (m : ℕ) → In (cuts_of all) c → In c m → m < n) → ArePricedBy ws all → ArePriced (pricing labels favoured ws) all
   all_priced_as all below priced c i = priced_as c (λ m j. below c.cut m (In-map (λ (d : Candidate). d.cut) all c i) j) (priced c i)
 
 -- what holds of each node's worth and of one more holds of each then

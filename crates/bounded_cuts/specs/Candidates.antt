@@ -1,5 +1,5 @@
 -- The cuts from which a node's set is chosen: unions of what its fan-ins hand on, and a low cut if no union is as low as the label.
-use Rattle.std.specs.Prelude.{◌≡◌, ℕ, ◌/◌, ◌≤◌, if◌then◌else◌, nat_lt, List, [], ◌∷◌, ◌++◌, length}
+use Rattle.std.specs.Prelude.{◌≡◌, ◌⊎◌, ℕ, ◌/◌, ◌≤◌, if◌then◌else◌, nat_lt, List, [], ◌∷◌, ◌++◌, length}
 use Rattle.aig_core.specs.Aig.{Aig, IsAnd, IsNode, IsSource}
 use Rattle.aig_core.specs.declared.lit.Kind.TheVariants.{Regular}
 use Rattle.aig_core.specs.declared.lit.Pair.{Pair}
@@ -8,6 +8,10 @@ use Rattle.cut_sets.specs.Cuts.{Blocks}
 use Rattle.cut_sets.specs.Labels.{height}
 use Rattle.cut_sets.specs.Rows.{row_at}
 use Rattle.cut_sets.specs.Unions.{union}
+
+-- a node that doesn't depend on parameters alone: a regular source, or an AND node over one
+abbrev pub IsLive : Aig → ℕ → Type 0
+IsLive g m = IsSource g Regular m ⊎ (IsAnd g m × (Blocks g [] m → ⊥))
 
 -- what a node hands on to its readers: the empty cut if it depends on parameters alone, the cut of itself alone if it is a regular source, and this cut and then its set if it is another AND node
 pub data HandsOn (g : Aig) (rows : List (List (List ℕ))) (m : ℕ) (front : List (List ℕ)) : Type 0 where

@@ -1,16 +1,20 @@
 -- What sets are made from, and the sets of the first nodes.
-use Rattle.std.specs.Prelude.{◌≡◌, ℕ, ◌-◌, ◌*◌, ◌<◌, ◌≤◌, Bool, false, List, [], length, map, sum_by, slice_index_or}
-use Rattle.aig_core.specs.Aig.{Aig, first_and, IsAnd}
+use Rattle.std.specs.Prelude.{◌≡◌, ℕ, ◌*◌, ◌<◌, ◌≤◌, Bool, false, List, [], length, slice_index_or}
+use Rattle.aig_core.specs.Aig.{Aig, AreNormal, first_and, IsAnd}
 use Rattle.list_laws.specs.Members.{In}
 use Rattle.cut_sets.specs.Cuts.{IsCut}
-use Rattle.cut_sets.specs.Labels.{height, label_at}
+use Rattle.cut_sets.specs.Labels.{AreLeastHeights, height, label_at}
 use Rattle.cut_sets.specs.Rows.{row_at}
+use Rattle.cut_sets.specs.declared.limits.TheConstants.{MOST_CUTS, MOST_LEAVES}
+use Rattle.bounded_cuts.specs.declared.making.Wanted.{Wanted}
+use Rattle.bounded_cuts.specs.declared.price.Candidate.{Candidate}
 use Rattle.bounded_cuts.specs.declared.scope.Scope.TheVariants.{AnyHeight, LeastHeight}
+use Rattle.bounded_cuts.specs.declared.worths.Worth.{Worth}
 use Rattle.bounded_cuts.specs.Candidates.{AreCandidates}
 use Rattle.bounded_cuts.specs.Flow.{flows_below}
-use Rattle.bounded_cuts.specs.Sets.{IsTaken, candidate_at, places}
-use Rattle.bounded_cuts.specs.Taking.{ArePriced, IsPlaced, cuts_of}
-use Rattle.bounded_cuts.specs.declared.price.Candidate.{Candidate}
+use Rattle.bounded_cuts.specs.Sets.{AreSets, HasSet, places}
+use Rattle.bounded_cuts.specs.Taking.{ArePlaced, ArePriced, cuts_at, cuts_of}
+use Rattle.bounded_cuts.specs.Worths.{AreWorths, flows_of, low_flows_of, pricing}
 
 abbrev pub low_in : List (List ℕ) → ℕ → List ℕ
 low_in lows n = slice_index_or lows n []
@@ -26,26 +30,31 @@ pub record AreLows (g : Aig) (k : ℕ) (label : ℕ → ℕ) (lows : List (List 
   pub cut : (n : ℕ) → IsAnd g n → IsCut g k n (low_in lows n)
   pub low : (n : ℕ) → IsAnd g n → height label (low_in lows n) ≡ label n
 
--- the sets of the first n nodes and their flows
-pub record AreMade (g : Aig) (k : ℕ) (label : ℕ → ℕ) (lows : ℕ → List ℕ) (counts : ℕ → ℕ) (favoured : ℕ → Bool) (n : ℕ) (rows : List (List (List ℕ))) (flows low_flows : List ℕ) : Type 0 where
-  pub count : length rows ≡ n
-  pub sources : (m : ℕ) → m < first_and g → row_at rows m ≡ []
-  pub flows_are : flows ≡ flows_below g AnyHeight label rows counts n
-  pub low_flows_are : low_flows ≡ flows_below g LeastHeight label rows counts n
-  pub each : (m : ℕ) → IsAnd g m → m < n → (cs : List (List ℕ)) × AreCandidates g k label (lows m) rows m cs
-      × IsTaken k label (label m) (flows_below g AnyHeight label rows counts m) (flows_below g LeastHeight label rows counts m) favoured cs (row_at rows m)
+-- the sets that are wanted
+abbrev pub AreSetsFor : Wanted → List (List (List ℕ)) → Type 0
+AreSetsFor w rows = AreSets w.graph.now w.k (label_at w.labels.now) (low_in w.lows.now) (count_in w.counts.now) (favoured_in w.favoured.now) rows
 
--- what the sets of the first n nodes have for their readers: cuts of the node, one as low as its label, and few of them
-pub record ServeBelow (g : Aig) (k : ℕ) (label : ℕ → ℕ) (n : ℕ) (rows : List (List (List ℕ))) : Type 0 where
-  pub cuts : (m : ℕ) (c : List ℕ) → IsAnd g m → m < n → In (row_at rows m) c → IsCut g k m c
-  pub low : (m : ℕ) → IsAnd g m → m < n → (c : List ℕ) × In (row_at rows m) c × (height label c ≡ label m)
-  pub few : (m : ℕ) → length (row_at rows m) ≤ places k
-  pub room : sum_by length rows ≤ places k * (n - first_and g)
+-- what sets can be made from: the labels are the least heights, the low cuts have these heights, and a table has room for all sets
+pub record CanMake (w : Wanted) : Type 0 where
+  pub normal : AreNormal (first_and w.graph.now) w.graph.now.pairs
+  pub few : w.k ≤ MOST_LEAVES
+  pub labels : AreLeastHeights w.graph.now w.k (label_at w.labels.now)
+  pub lows : AreLows w.graph.now w.k (label_at w.labels.now) w.lows.now
+  pub most : places w.k * length w.graph.now.pairs ≤ MOST_CUTS
+
+-- the sets of the first n nodes, and what these nodes count as leaves
+pub record AreMade (w : Wanted) (n : ℕ) (rows : List (List (List ℕ))) (worths : List Worth) : Type 0 where
+  pub count : length rows ≡ n
+  pub sources : (m : ℕ) → m < first_and w.graph.now → row_at rows m ≡ []
+  pub flows_are : flows_of worths ≡ flows_below w.graph.now AnyHeight (label_at w.labels.now) rows (count_in w.counts.now) n
+  pub low_flows_are : low_flows_of worths ≡ flows_below w.graph.now LeastHeight (label_at w.labels.now) rows (count_in w.counts.now) n
+  pub worths_are : AreWorths w.labels.now w.favoured.now n worths
+  pub each : (m : ℕ) → IsAnd w.graph.now m → m < n → HasSet w.graph.now w.k (label_at w.labels.now) (low_in w.lows.now) (count_in w.counts.now) (favoured_in w.favoured.now) rows m
 
 -- the set of a node, with the candidates and the places that it was taken from
-pub record IsChosen (g : Aig) (k : ℕ) (labels : List ℕ) (lows : ℕ → List ℕ) (favoured : List Bool) (n : ℕ) (rows : List (List (List ℕ))) (flows low_flows : List ℕ) (candidates : List Candidate) (taken : List ℕ) (set : List (List ℕ)) : Type 0 where
-  pub are : AreCandidates g k (label_at labels) (lows n) rows n (cuts_of candidates)
-  pub priced : ArePriced labels flows low_flows favoured candidates
+pub record IsChosen (w : Wanted) (n : ℕ) (rows : List (List (List ℕ))) (worths : List Worth) (candidates : List Candidate) (taken : List ℕ) (set : List (List ℕ)) : Type 0 where
+  pub are : AreCandidates w.graph.now w.k (label_at w.labels.now) (low_in w.lows.now n) rows n (cuts_of candidates)
+  pub priced : ArePriced (pricing w.labels.now w.favoured.now worths) candidates
   pub inside : (j : ℕ) → In taken j → j < length candidates
-  pub placed : IsPlaced (record { labels = labels; flows = flows; lows = low_flows; favoured = favoured }) k (label_at labels n) (cuts_of candidates) taken
-  pub is : set ≡ map (candidate_at (cuts_of candidates)) taken
+  pub placed : ArePlaced (pricing w.labels.now w.favoured.now worths) w.k (label_at w.labels.now n) (cuts_of candidates) taken
+  pub is : set ≡ cuts_at candidates taken

@@ -71,15 +71,29 @@ pub record IsTaken (k : ℕ) (label : ℕ → ℕ) (r : ℕ) (flows lows : List 
   pub are : AreTakenPlaces k label r flows lows favoured cs taken
   pub is : set ≡ map (candidate_at cs) taken
 
+-- an AND node has a set, which is taken from its candidates over the flows of the nodes below it
+abbrev pub HasSet : Aig → ℕ → (ℕ → ℕ) → (ℕ → List ℕ) → (ℕ → ℕ) → (ℕ → Bool) → List (List (List ℕ)) → ℕ → Type 0
+HasSet g k label lows counts favoured rows n = (cs : List (List ℕ)) × AreCandidates g k label (lows n) rows n cs
+    × IsTaken k label (label n) (flows_below g AnyHeight label rows counts n) (flows_below g LeastHeight label rows counts n) favoured cs (row_at rows n)
+
 -- The set of each AND node. Flows are over the sets of the nodes below it, for these counts of readers.
 pub record AreSets (g : Aig) (k : ℕ) (label : ℕ → ℕ) (lows : ℕ → List ℕ) (counts : ℕ → ℕ) (favoured : ℕ → Bool) (rows : List (List (List ℕ))) : Type 0 where
   pub count : length rows ≡ node_count g
   pub sources : (m : ℕ) → m < first_and g → row_at rows m ≡ []
-  pub each : (n : ℕ) → IsAnd g n → (cs : List (List ℕ)) × AreCandidates g k label (lows n) rows n cs
-      × IsTaken k label (label n) (flows_below g AnyHeight label rows counts n) (flows_below g LeastHeight label rows counts n) favoured cs (row_at rows n)
+  pub each : (n : ℕ) → IsAnd g n → HasSet g k label lows counts favoured rows n
 
 -- What a plan needs of rows of cuts: each row of an AND node has cuts of the node alone, and one that is as low as the label.
 pub record AreServing (g : Aig) (k : ℕ) (label : ℕ → ℕ) (rows : List (List (List ℕ))) : Type 0 where
   pub count : length rows ≡ node_count g
   pub cuts : (n : ℕ) (c : List ℕ) → IsAnd g n → In (row_at rows n) c → IsCut g k n c
   pub low : (n : ℕ) → IsAnd g n → (c : List ℕ) × In (row_at rows n) c × (height label c ≡ label n)
+
+-- for all counts and favoured nodes there is one set for each node
+abbrev pub AreOnce : Aig → ℕ → (ℕ → ℕ) → (ℕ → List ℕ) → Type 0
+AreOnce g k label lows = (counts : ℕ → ℕ) (favoured : ℕ → Bool) (rows more : List (List (List ℕ)))
+    → AreSets g k label lows counts favoured rows → AreSets g k label lows counts favoured more → rows ≡ more
+
+-- for all counts and favoured nodes the sets serve
+abbrev pub AreOfUse : Aig → ℕ → (ℕ → ℕ) → (ℕ → List ℕ) → Type 0
+AreOfUse g k label lows = (counts : ℕ → ℕ) (favoured : ℕ → Bool) (rows : List (List (List ℕ)))
+    → AreSets g k label lows counts favoured rows → AreServing g k label rows

@@ -1,11 +1,11 @@
 -- What nodes count as leaves, and what cuts cost by that.
-use Rattle.std.specs.Prelude.{◌≡◌, ℕ, ◌+◌, ◌^◌, ◌<◌, ◌≤◌, Bool, if◌then◌else◌, List, length, map, sum_by, slice_index_or}
+use Rattle.std.specs.Prelude.{◌≡◌, ℕ, ◌+◌, ◌^◌, ◌<◌, ◌≤◌, Bool, if◌then◌else◌, List, [], ◌∷◌, ◌++◌, length, map, sum_by, slice_index_or}
 use Rattle.list_laws.specs.Members.{In}
 use Rattle.cut_sets.specs.Labels.{height, label_at}
 use Rattle.bounded_cuts.specs.declared.limits.TheConstants.{MOST_FLOW, TABLE_PRICE}
 use Rattle.bounded_cuts.specs.declared.price.Candidate.{Candidate}
 use Rattle.bounded_cuts.specs.declared.worths.Worth.{Worth}
-use Rattle.bounded_cuts.specs.Taking.{is_favoured, HasSmallCosts}
+use Rattle.bounded_cuts.specs.Taking.{is_favoured, HasSmallCosts, Pricing, cuts_of}
 
 -- what a node past the last one counts
 abbrev pub no_worth : Worth
@@ -40,6 +40,10 @@ flows_of ws = map (λ (w : Worth). w.flow) ws
 abbrev pub low_flows_of : List Worth → List ℕ
 low_flows_of ws = map (λ (w : Worth). w.low_flow) ws
 
+-- what cuts are priced by over these
+abbrev pub pricing : List ℕ → List Bool → List Worth → Pricing
+pricing labels favoured ws = record { labels = labels; flows = flows_of ws; lows = low_flows_of ws; favoured = favoured }
+
 -- one more than each label fits a word, and no flow is greater than the most
 pub record AreBounded (ws : List Worth) : Type 0 where
   pub labels : (m : ℕ) → 1 + label_in ws m < 2 ^ 32
@@ -73,3 +77,8 @@ pub record IsPricedBy (ws : List Worth) (c : Candidate) : Type 0 where
 -- so has each of a list
 abbrev pub ArePricedBy : List Worth → List Candidate → Type 0
 ArePricedBy ws cs = (c : Candidate) → In cs c → IsPricedBy ws c
+
+-- these candidates, and the low cut behind them if none of them is as low as the label
+pub data AddsLow (r : ℕ) (low : List ℕ) (all new : List Candidate) : Type 0 where
+  as_low : (c : Candidate) → In all c → c.height ≤ r → new ≡ all → AddsLow r low all new
+  none_low : ((c : Candidate) → In all c → r < c.height) → cuts_of new ≡ cuts_of all ++ low ∷ [] → AddsLow r low all new

@@ -1,15 +1,14 @@
 //! The candidates of a node: unions of what its fan-ins hand on, and its low cut if no union is as low as its label.
-ghost use Rattle.std.specs.Prelude.{◌≡◌, ◌⊎◌, ℕ, List, ◌<◌, ◌≤◌, ◌/◌, ◌^◌, ◌++◌, ◌∷◌, [], length, true, false, Some, IfOk, OnOk};
-ghost use Rattle.aig_core.specs.Aig.{first_and, node_count, pair_of, IsAnd, IsSource};
-ghost use Rattle.aig_core.specs.declared.lit.Kind.TheVariants.{Regular};
+ghost use Rattle.std.specs.Prelude.{◌≡◌, ℕ, List, ◌+◌, ◌<◌, ◌≤◌, ◌/◌, ◌^◌, ◌++◌, ◌∷◌, [], length, true, false, Some, IfOk, OnOk};
+ghost use Rattle.aig_core.specs.Aig.{first_and, node_count, pair_of, IsAnd};
 ghost use Rattle.cut_sets.specs.Cuts.{Blocks, IsCut};
 ghost use Rattle.cut_sets.specs.Labels.{label_at, AreLeastHeights};
 ghost use Rattle.cut_sets.specs.Rows.{row_at};
 ghost use Rattle.cut_sets.specs.declared.limits.TheConstants.{MOST_LEAVES};
 ghost use Rattle.list_laws.specs.Members.{In};
-ghost use Rattle.bounded_cuts.specs.Candidates.{AreCandidates, HandsOn, one_union, unions, unions_with};
+ghost use Rattle.bounded_cuts.specs.Candidates.{AreCandidates, HandsOn, IsLive, one_union, unions, unions_with};
 ghost use Rattle.bounded_cuts.specs.Taking.{cuts_of};
-ghost use Rattle.bounded_cuts.specs.Worths.{AllCounted, AreBounded, AreCounted, ArePricedBy, label_in};
+ghost use Rattle.bounded_cuts.specs.Worths.{AddsLow, AllCounted, AreBounded, AreCounted, ArePricedBy, label_in};
 
 use crate::price::{Candidate, Prices};
 use aig_core::{Graph, Kind, Pair};
@@ -39,7 +38,7 @@ fn push_set(front: &mut Vec<FlatCut>, rows: &CutRows, m: u32) -> Result<(), Allo
 fn is_free(graph: &Graph, labels: &NodeLabels, m: u32) -> bool
     requires { m < node_count graph.now }
     ensures free { result ≡ true → (k : ℕ) → AreLeastHeights graph.now k (label_at labels.now) → Blocks graph.now [] m }
-    ensures live { result ≡ false → (k : ℕ) → AreLeastHeights graph.now k (label_at labels.now) → IsSource graph.now Regular m ⊎ (IsAnd graph.now m × (Blocks graph.now [] m → ⊥)) }
+    ensures live { result ≡ false → (k : ℕ) → AreLeastHeights graph.now k (label_at labels.now) → IsLive graph.now m }
 {
     if m == 0 {
         return true;
@@ -153,6 +152,25 @@ fn has_low(all: &[Candidate], label: u32) -> bool
     false
 }
 
+// Appends the low cut if no candidate is as low as the label.
+fn push_low(
+    all: &mut Vec<Candidate>,
+    prices: &Prices,
+    label: u32,
+    low: FlatCut,
+) -> Result<(), AllocError>
+    requires bounded { AreBounded prices.now.worths.now }
+    requires counted { AreCounted prices.now.worths.now low }
+    ensures low { OnOk result (AddsLow label low all.old.items all.new.items) }
+    ensures priced { OnOk result (ArePricedBy prices.now.worths.now all.old.items → ArePricedBy prices.now.worths.now all.new.items) }
+    ensures few { OnOk result (length all.new.items ≤ length all.old.items + 1) }
+{
+    if !has_low(all, label) {
+        all.push(prices.price(low))?;
+    }
+    Ok(())
+}
+
 impl Candidates {
     /// No candidates.
     pub fn new(alloc: Global) -> Candidates {
@@ -196,9 +214,6 @@ impl Candidates {
         fill_front(&mut self.x_front, graph, prices.labels, rows, pair.x.0 / 2)?;
         fill_front(&mut self.y_front, graph, prices.labels, rows, pair.y.0 / 2)?;
         push_unions(&mut self.all, prices, k, &self.x_front, &self.y_front)?;
-        if !has_low(&self.all, prices.labels.label(n)) {
-            self.all.push(prices.price(low))?;
-        }
-        Ok(())
+        push_low(&mut self.all, prices, prices.labels.label(n), low)
     }
 }

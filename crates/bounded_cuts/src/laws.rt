@@ -1,8 +1,7 @@
 //! The laws of bounded sets.
-ghost use Rattle.std.specs.Prelude.{◌≡◌, ℕ, Bool, List};
 ghost use Rattle.cut_sets.specs.Labels.{label_at, AreLeastHeights};
 ghost use Rattle.bounded_cuts.specs.Making.{AreLows, low_in};
-ghost use Rattle.bounded_cuts.specs.Sets.{AreServing, AreSets};
+ghost use Rattle.bounded_cuts.specs.Sets.{AreOfUse, AreOnce};
 
 use aig_core::Graph;
 use cut_sets::{FlatCut, NodeLabels};
@@ -14,8 +13,8 @@ use cut_sets::{FlatCut, NodeLabels};
 pub fn set_laws(graph: &Graph, k: u8, labels: &NodeLabels, lows: &[FlatCut])
     requires labels { AreLeastHeights graph.now k (label_at labels.now) }
     requires lows { AreLows graph.now k (label_at labels.now) lows.now }
-    ensures once { (counts : ℕ → ℕ) (favoured : ℕ → Bool) (rows more : List (List (List ℕ))) → AreSets graph.now k (label_at labels.now) (low_in lows.now) counts favoured rows → AreSets graph.now k (label_at labels.now) (low_in lows.now) counts favoured more → rows ≡ more }
-    ensures serves { (counts : ℕ → ℕ) (favoured : ℕ → Bool) (rows : List (List (List ℕ))) → AreSets graph.now k (label_at labels.now) (low_in lows.now) counts favoured rows → AreServing graph.now k (label_at labels.now) rows }
+    ensures once { AreOnce graph.now k (label_at labels.now) (low_in lows.now) }
+    ensures serves { AreOfUse graph.now k (label_at labels.now) (low_in lows.now) }
 {
     // The contract of this call says that the graph's pairs are normal.
     let _count = graph.len();

@@ -1,11 +1,11 @@
 //! A set of cuts for each AND node of a graph.
-ghost use Rattle.std.specs.Prelude.{◌≡◌, ℕ, ◌<◌, ◌≤◌, ◌+◌, ◌*◌, ◌^◌, ◌++◌, ◌∷◌, [], length, max, slice_index_or, sum_by, List, IfOk, OnOk};
-ghost use Rattle.aig_core.specs.Aig.{first_and, node_count, IsAnd, AreNormal};
+ghost use Rattle.std.specs.Prelude.{◌≡◌, ℕ, ◌<◌, ◌≤◌, ◌+◌, ◌*◌, ◌++◌, ◌∷◌, [], length, max, slice_index_or, sum_by, IfOk, OnOk};
+ghost use Rattle.aig_core.specs.Aig.{node_count, IsAnd};
 ghost use Rattle.cut_sets.specs.Labels.{label_at, AreLeastHeights};
 ghost use Rattle.cut_sets.specs.declared.limits.TheConstants.{MOST_CUTS, MOST_LEAVES};
-ghost use Rattle.bounded_cuts.specs.Making.{AreLows, AreMade, IsChosen, ServeBelow, count_in, favoured_in, low_in};
-ghost use Rattle.bounded_cuts.specs.Sets.{AreServing, AreSets, places};
-ghost use Rattle.bounded_cuts.specs.Worths.{AreWorths, IsWorth, flows_of, low_flows_of};
+ghost use Rattle.bounded_cuts.specs.Making.{AreLows, AreMade, AreSetsFor, CanMake, IsChosen, count_in, low_in};
+ghost use Rattle.bounded_cuts.specs.Sets.{AreServing, places};
+ghost use Rattle.bounded_cuts.specs.Worths.{IsWorth};
 
 use crate::candidates::Candidates;
 use crate::places::Taking;
@@ -80,15 +80,10 @@ fn worth(wanted: &Wanted, n: u32, flow: u64, low_flow: u64) -> Worth
 
 // Makes the set of an AND node.
 fn make_set(wanted: &Wanted, made: &Made, n: u32, room: &mut Room) -> Result<(), AllocError>
-    requires few { wanted.now.k ≤ MOST_LEAVES }
-    requires normal { AreNormal (first_and wanted.now.graph.now) wanted.now.graph.now.pairs }
+    requires can { CanMake wanted.now }
     requires node { IsAnd wanted.now.graph.now n }
-    requires labels { AreLeastHeights wanted.now.graph.now wanted.now.k (label_at wanted.now.labels.now) }
-    requires lows { AreLows wanted.now.graph.now wanted.now.k (label_at wanted.now.labels.now) wanted.now.lows.now }
-    requires made { AreMade wanted.now.graph.now wanted.now.k (label_at wanted.now.labels.now) (low_in wanted.now.lows.now) (count_in wanted.now.counts.now) (favoured_in wanted.now.favoured.now) n made.now.rows (flows_of made.now.worths.items) (low_flows_of made.now.worths.items) }
-    requires serving { ServeBelow wanted.now.graph.now wanted.now.k (label_at wanted.now.labels.now) n made.now.rows }
-    requires worths { AreWorths wanted.now.labels.now wanted.now.favoured.now n made.now.worths.items }
-    ensures { OnOk result (IsChosen wanted.now.graph.now wanted.now.k wanted.now.labels.now (low_in wanted.now.lows.now) wanted.now.favoured.now n made.now.rows (flows_of made.now.worths.items) (low_flows_of made.now.worths.items) room.new.candidates.all.items room.new.taking.taken.items room.new.set.items) }
+    requires made { AreMade wanted.now n made.now.rows made.now.worths.items }
+    ensures { OnOk result (IsChosen wanted.now n made.now.rows made.now.worths.items room.new.candidates.all.items room.new.taking.taken.items room.new.set.items) }
 {
     let prices = Prices {
         labels: wanted.labels,
@@ -101,29 +96,6 @@ fn make_set(wanted: &Wanted, made: &Made, n: u32, room: &mut Room) -> Result<(),
     room.taking
         .take_places(label, wanted.k, &room.candidates.all)?;
     copy_cuts(&room.candidates.all, &room.taking.taken, &mut room.set)
-}
-
-// Adds the set of an AND node and its flows.
-fn push_node(wanted: &Wanted, made: Made, n: u32, room: &mut Room) -> Result<Made, AllocError>
-    requires few { wanted.now.k ≤ MOST_LEAVES }
-    requires normal { AreNormal (first_and wanted.now.graph.now) wanted.now.graph.now.pairs }
-    requires node { IsAnd wanted.now.graph.now n }
-    requires labels { AreLeastHeights wanted.now.graph.now wanted.now.k (label_at wanted.now.labels.now) }
-    requires lows { AreLows wanted.now.graph.now wanted.now.k (label_at wanted.now.labels.now) wanted.now.lows.now }
-    requires most { places wanted.now.k * length wanted.now.graph.now.pairs ≤ MOST_CUTS }
-    requires made { AreMade wanted.now.graph.now wanted.now.k (label_at wanted.now.labels.now) (low_in wanted.now.lows.now) (count_in wanted.now.counts.now) (favoured_in wanted.now.favoured.now) n made.rows (flows_of made.worths.items) (low_flows_of made.worths.items) }
-    requires serving { ServeBelow wanted.now.graph.now wanted.now.k (label_at wanted.now.labels.now) n made.rows }
-    requires worths { AreWorths wanted.now.labels.now wanted.now.favoured.now n made.worths.items }
-    ensures made { IfOk result (λ more. AreMade wanted.now.graph.now wanted.now.k (label_at wanted.now.labels.now) (low_in wanted.now.lows.now) (count_in wanted.now.counts.now) (favoured_in wanted.now.favoured.now) (n + 1) more.rows (flows_of more.worths.items) (low_flows_of more.worths.items)) }
-    ensures serving { IfOk result (λ more. ServeBelow wanted.now.graph.now wanted.now.k (label_at wanted.now.labels.now) (n + 1) more.rows) }
-    ensures worths { IfOk result (λ more. AreWorths wanted.now.labels.now wanted.now.favoured.now (n + 1) more.worths.items) }
-{
-    make_set(wanted, &made, n, room)?;
-    let label = wanted.labels.label(n);
-    let shared = readers(wanted.counts, n);
-    let flow = least_flow(&room.candidates.all, &room.taking.taken) / shared;
-    let low_flow = least_low_flow(&room.candidates.all, &room.taking.taken, label) / shared;
-    pushed(made, &room.set, worth(wanted, n, flow, low_flow))
 }
 
 // One row and its node's worth more.
@@ -139,19 +111,27 @@ fn pushed(made: Made, set: &[FlatCut], worth: Worth) -> Result<Made, AllocError>
     })
 }
 
+// Adds the set of an AND node and its flows.
+fn push_node(wanted: &Wanted, made: Made, n: u32, room: &mut Room) -> Result<Made, AllocError>
+    requires can { CanMake wanted.now }
+    requires node { IsAnd wanted.now.graph.now n }
+    requires made { AreMade wanted.now n made.rows made.worths.items }
+    ensures { IfOk result (λ more. AreMade wanted.now (n + 1) more.rows more.worths.items) }
+{
+    make_set(wanted, &made, n, room)?;
+    let label = wanted.labels.label(n);
+    let shared = readers(wanted.counts, n);
+    let flow = least_flow(&room.candidates.all, &room.taking.taken) / shared;
+    let low_flow = least_low_flow(&room.candidates.all, &room.taking.taken, label) / shared;
+    pushed(made, &room.set, worth(wanted, n, flow, low_flow))
+}
+
 // Adds the set of a node and its flows: those of a source are empty.
 fn next_made(wanted: &Wanted, made: Made, n: u32, room: &mut Room) -> Result<Made, AllocError>
-    requires few { wanted.now.k ≤ MOST_LEAVES }
+    requires can { CanMake wanted.now }
     requires inside { n < node_count wanted.now.graph.now }
-    requires labels { AreLeastHeights wanted.now.graph.now wanted.now.k (label_at wanted.now.labels.now) }
-    requires lows { AreLows wanted.now.graph.now wanted.now.k (label_at wanted.now.labels.now) wanted.now.lows.now }
-    requires most { places wanted.now.k * length wanted.now.graph.now.pairs ≤ MOST_CUTS }
-    requires made { AreMade wanted.now.graph.now wanted.now.k (label_at wanted.now.labels.now) (low_in wanted.now.lows.now) (count_in wanted.now.counts.now) (favoured_in wanted.now.favoured.now) n made.rows (flows_of made.worths.items) (low_flows_of made.worths.items) }
-    requires serving { ServeBelow wanted.now.graph.now wanted.now.k (label_at wanted.now.labels.now) n made.rows }
-    requires worths { AreWorths wanted.now.labels.now wanted.now.favoured.now n made.worths.items }
-    ensures made { IfOk result (λ more. AreMade wanted.now.graph.now wanted.now.k (label_at wanted.now.labels.now) (low_in wanted.now.lows.now) (count_in wanted.now.counts.now) (favoured_in wanted.now.favoured.now) (n + 1) more.rows (flows_of more.worths.items) (low_flows_of more.worths.items)) }
-    ensures serving { IfOk result (λ more. ServeBelow wanted.now.graph.now wanted.now.k (label_at wanted.now.labels.now) (n + 1) more.rows) }
-    ensures worths { IfOk result (λ more. AreWorths wanted.now.labels.now wanted.now.favoured.now (n + 1) more.worths.items) }
+    requires made { AreMade wanted.now n made.rows made.worths.items }
+    ensures { IfOk result (λ more. AreMade wanted.now (n + 1) more.rows more.worths.items) }
 {
     if n <= wanted.graph.sources() {
         pushed(made, &[], worth(wanted, n, 0, 0))
@@ -162,13 +142,8 @@ fn next_made(wanted: &Wanted, made: Made, n: u32, room: &mut Room) -> Result<Mad
 
 // The sets of all nodes and their flows.
 fn all_made(alloc: Global, wanted: &Wanted) -> Result<Made, AllocError>
-    requires few { wanted.now.k ≤ MOST_LEAVES }
-    requires labels { AreLeastHeights wanted.now.graph.now wanted.now.k (label_at wanted.now.labels.now) }
-    requires lows { AreLows wanted.now.graph.now wanted.now.k (label_at wanted.now.labels.now) wanted.now.lows.now }
-    requires most { places wanted.now.k * length wanted.now.graph.now.pairs ≤ MOST_CUTS }
-    ensures made { IfOk result (λ all. AreMade wanted.now.graph.now wanted.now.k (label_at wanted.now.labels.now) (low_in wanted.now.lows.now) (count_in wanted.now.counts.now) (favoured_in wanted.now.favoured.now) (node_count wanted.now.graph.now) all.rows (flows_of all.worths.items) (low_flows_of all.worths.items)) }
-    ensures serving { IfOk result (λ all. ServeBelow wanted.now.graph.now wanted.now.k (label_at wanted.now.labels.now) (node_count wanted.now.graph.now) all.rows) }
-    ensures worths { IfOk result (λ all. AreWorths wanted.now.labels.now wanted.now.favoured.now (node_count wanted.now.graph.now) all.worths.items) }
+    requires { CanMake wanted.now }
+    ensures { IfOk result (λ all. AreMade wanted.now (node_count wanted.now.graph.now) all.rows all.worths.items) }
 {
     let mut room = Room {
         candidates: Candidates::new(alloc),
@@ -196,9 +171,11 @@ pub fn bounded_sets(alloc: Global, wanted: &Wanted) -> Result<CutRows, AllocErro
     requires labels { AreLeastHeights wanted.now.graph.now wanted.now.k (label_at wanted.now.labels.now) }
     requires lows { AreLows wanted.now.graph.now wanted.now.k (label_at wanted.now.labels.now) wanted.now.lows.now }
     requires room { places wanted.now.k * length wanted.now.graph.now.pairs ≤ MOST_CUTS }
-    ensures sets { IfOk result (AreSets wanted.now.graph.now wanted.now.k (label_at wanted.now.labels.now) (low_in wanted.now.lows.now) (count_in wanted.now.counts.now) (favoured_in wanted.now.favoured.now)) }
+    ensures sets { IfOk result (AreSetsFor wanted.now) }
     ensures serving { IfOk result (AreServing wanted.now.graph.now wanted.now.k (label_at wanted.now.labels.now)) }
 {
+    // The contract of this call says that the graph's pairs are normal.
+    let _count = wanted.graph.len();
     let made = all_made(alloc, wanted)?;
     Ok(made.rows)
 }

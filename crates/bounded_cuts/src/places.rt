@@ -2,7 +2,7 @@
 ghost use Rattle.std.specs.Prelude.{◌≡◌, ℕ, ◌<◌, ◌≤◌, [], length, replicate, false, IfOk, OnOk};
 ghost use Rattle.cut_sets.specs.declared.limits.TheConstants.{MOST_LEAVES};
 ghost use Rattle.bounded_cuts.specs.declared.limits.TheConstants.{PLACE_BOUND};
-ghost use Rattle.bounded_cuts.specs.Taking.{CanTake, HaveSmallCosts, IsPlaced, Pricing, cuts_of};
+ghost use Rattle.bounded_cuts.specs.Taking.{CanTake, HaveSmallCosts, ArePlaced, Pricing, cuts_of};
 ghost use Rattle.bounded_cuts.specs.Sets.{places};
 ghost use Rattle.list_laws.specs.Members.{In};
 
@@ -55,7 +55,7 @@ fn take_three(
     requires looked { looked.old ≡ replicate (length candidates.now) false }
     requires taken { taken.old.items ≡ [] }
     ensures inside { OnOk result ((j : ℕ) → In taken.new.items j → j < length candidates.now) }
-    ensures placed { OnOk result ((p : Pricing) → CanTake p label candidates.now → IsPlaced p k label (cuts_of candidates.now) taken.new.items) }
+    ensures placed { OnOk result ((p : Pricing) → CanTake p label candidates.now → ArePlaced p k label (cuts_of candidates.now) taken.new.items) }
 {
     let most = most_places(k);
     take(
@@ -113,7 +113,7 @@ impl Taking {
         requires count { length candidates.now ≤ PLACE_BOUND }
         requires small { HaveSmallCosts candidates.now }
         ensures inside { OnOk result ((j : ℕ) → In self.new.taken.items j → j < length candidates.now) }
-        ensures placed { OnOk result ((p : Pricing) → CanTake p label candidates.now → IsPlaced p k label (cuts_of candidates.now) self.new.taken.items) }
+        ensures placed { OnOk result ((p : Pricing) → CanTake p label candidates.now → ArePlaced p k label (cuts_of candidates.now) self.new.taken.items) }
     {
         begin(&mut self.looked, &mut self.taken, candidates.len())?;
         take_three(

@@ -2,10 +2,8 @@
 ghost use Rattle.std.specs.Prelude.{◌≡◌, ℕ, ◌<◌, ◌≤◌, ◌^◌, ◌+◌, ◌*◌, ◌++◌, ◌∷◌, [], length, map, IfOk, OnOk};
 ghost use Rattle.list_laws.specs.Members.{In};
 ghost use Rattle.bounded_cuts.specs.declared.limits.TheConstants.{MOST_FLOW};
-ghost use Rattle.bounded_cuts.specs.Flow.{cuts_within, least_flow as the_least_flow};
-ghost use Rattle.bounded_cuts.specs.Sets.{candidate_at};
-ghost use Rattle.bounded_cuts.specs.Taking.{ArePriced, Pricing, cuts_of};
-ghost use Rattle.cut_sets.specs.Labels.{label_at};
+ghost use Rattle.bounded_cuts.specs.Flow.{least_flow as the_least_flow};
+ghost use Rattle.bounded_cuts.specs.Taking.{ArePriced, Pricing, cuts_at, low_cuts_at};
 
 use crate::limits::MOST_FLOW;
 use crate::price::Candidate;
@@ -19,7 +17,7 @@ pub fn copy_cuts(
     set: &mut Vec<FlatCut>,
 ) -> Result<(), AllocError>
     requires { (j : ℕ) → In taken.now j → j < length candidates.now }
-    ensures { OnOk result (set.new.items ≡ map (candidate_at (cuts_of candidates.now)) taken.now) }
+    ensures { OnOk result (set.new.items ≡ cuts_at candidates.now taken.now) }
 {
     set.clear();
     for i in taken {
@@ -31,7 +29,7 @@ pub fn copy_cuts(
 // The least flow of the cuts at some places.
 pub fn least_flow(candidates: &[Candidate], taken: &[u32]) -> u64
     requires { (j : ℕ) → In taken.now j → j < length candidates.now }
-    ensures value { (p : Pricing) → ArePriced p.labels p.flows p.lows p.favoured candidates.now → result ≡ the_least_flow p.flows (map (candidate_at (cuts_of candidates.now)) taken.now) }
+    ensures value { (p : Pricing) → ArePriced p candidates.now → result ≡ the_least_flow p.flows (cuts_at candidates.now taken.now) }
     ensures capped { result ≤ MOST_FLOW }
 {
     let mut least = MOST_FLOW;
@@ -44,7 +42,7 @@ pub fn least_flow(candidates: &[Candidate], taken: &[u32]) -> u64
 // The least flow of those that are as low as the label, over flows through such cuts.
 pub fn least_low_flow(candidates: &[Candidate], taken: &[u32], label: u32) -> u64
     requires { (j : ℕ) → In taken.now j → j < length candidates.now }
-    ensures value { (p : Pricing) → ArePriced p.labels p.flows p.lows p.favoured candidates.now → result ≡ the_least_flow p.lows (cuts_within (label_at p.labels) label (map (candidate_at (cuts_of candidates.now)) taken.now)) }
+    ensures value { (p : Pricing) → ArePriced p candidates.now → result ≡ the_least_flow p.lows (low_cuts_at p label candidates.now taken.now) }
     ensures capped { result ≤ MOST_FLOW }
 {
     let mut least = MOST_FLOW;

@@ -1,5 +1,5 @@
 -- What the marks find is the tables by their own words.
-use Rattle.cover_pick.proofs.Common.{◌≡◌, ℕ, ◌-◌, ◌*◌, ◌/◌, ◌%◌, ◌<◌, ◌≤◌, cond, List, [], ◌∷◌, Option, Some, None, refl, sym, ap, ◌∙◌, subst, inl, inr, arith, slice_get, same_Some, cases_lt, cases_eq, eq-eqb, Aig, first_and, node_count, IsAnd, Regular, Parameter, Lit, RootsValue, roots_of, AreRoots, In, OrMemory, source_below, refusal_of, PickErr, Work, Memory, target, Supply, IsSupplied, HasPlan, cut_at, and_depths, depths_of, CanBeLeaf, once_by, IsPast, TablesWithin, AreChosen, IsTemplate, AreTimely, IsTooMuch}
+use Rattle.cover_pick.proofs.Common.{◌≡◌, ℕ, ◌-◌, ◌*◌, ◌/◌, ◌%◌, ◌<◌, ◌≤◌, cond, List, [], ◌∷◌, Option, Some, None, refl, sym, ap, ◌∙◌, subst, inl, inr, arith, slice_get, same_Some, cases_lt, cases_eq, eq-eqb, Aig, first_and, node_count, IsAnd, Regular, Parameter, Lit, RootsValue, roots_of, AreRoots, In, OrMemory, source_below, refusal_of, PickErr, Work, Memory, target, Supply, IsSupplied, HasPlan, cut_at, and_depths, depths_of, CanBeLeaf, once_by, IsPast, IsWithin, ArePicked, Result, Ok, Err, IfOk, IfErr, TablesWithin, AreChosen, IsTemplate, AreTimely, IsTooMuch}
 use Rattle.cover_pick.specs.Tables.{IsNeeded, root, leaf, IsLeaves, constant, parameter, source, node}
 use Rattle.cover_pick.specs.Marks.{IsMarked, root as marked_root, leaf as marked_leaf, leaves_of, source_leaves, Made, IsMade, tables_of, AreMade}
 use Rattle.cover_pick.proofs.TableLemmas.{tables_needed}
@@ -8,6 +8,7 @@ use Rattle.cover_pick.proofs.TemplateLemmas.{leaves_and, cut_in, in_cut, to_tabl
 use Rattle.cover_pick.proofs.RuleLemmas.{depth_from, node_of}
 use Rattle.cover_pick.proofs.RoundsOnceLemmas.{plan_once}
 use Rattle.cover_pick.proofs.FreeLemmas.{leaf_inside}
+use Rattle.cover_pick.proofs.LightLemmas.{light_is}
 
 pub marked_is : (roots : List ℕ) (cuts : List (Option (List ℕ))) (l : ℕ) → IsMarked roots cuts l → IsNeeded roots (cut_at cuts) l
 marked_is roots cuts l (marked_root i) = root i
@@ -86,7 +87,7 @@ abbrev pub tables_made : (supply : Supply) (g : Aig) (label : ℕ → ℕ) (root
 tables_made supply g label roots cuts h lits = made_of supply g label roots cuts (tables_of g roots cuts) h (tables_needed g roots cuts (λ c m i j. leaf_inside g m (plan_leaves supply g label roots cuts h c m i j)) lits)
 
 -- where their work is too much
-pub too_much : (supply : Supply) (g : Aig) (label : ℕ → ℕ) (roots : List ℕ) (cuts : List (Option (List ℕ))) → HasPlan supply g label roots cuts → AreRoots g roots → IsPast g (once_by supply g (tables_of g roots cuts).luts) (tables_of g roots cuts).luts → IsTooMuch supply g label roots
+too_much : (supply : Supply) (g : Aig) (label : ℕ → ℕ) (roots : List ℕ) (cuts : List (Option (List ℕ))) → HasPlan supply g label roots cuts → AreRoots g roots → IsPast g (once_by supply g (tables_of g roots cuts).luts) (tables_of g roots cuts).luts → IsTooMuch supply g label roots
 too_much supply g label roots cuts h lits past = record {
   luts = (tables_of g roots cuts).luts;
   bits = (tables_of g roots cuts).bits;
@@ -96,10 +97,21 @@ too_much supply g label roots cuts h lits past = record {
   past = past.past;
 }
 
-pub too_much_told : (supply : Supply) (g : Aig) (label : ℕ → ℕ) (roots : List ℕ) (cuts : List (Option (List ℕ))) → HasPlan supply g label roots cuts → AreRoots g roots
+too_much_told : (supply : Supply) (g : Aig) (label : ℕ → ℕ) (roots : List ℕ) (cuts : List (Option (List ℕ))) → HasPlan supply g label roots cuts → AreRoots g roots
     → (e : PickErr) → OrMemory refusal_of (λ _. IsPast g (once_by supply g (tables_of g roots cuts).luts) (tables_of g roots cuts).luts) e → OrMemory refusal_of (λ _. IsTooMuch supply g label roots) e
 too_much_told supply g label roots cuts h lits Work l = too_much supply g label roots cuts h lits l
 too_much_told supply g label roots cuts h lits Memory l = tt
+
+-- what is returned or refused
+pub are_picked : (supply : Supply) (g : Aig) (label : ℕ → ℕ) (roots : List ℕ) (cuts : List (Option (List ℕ))) → HasPlan supply g label roots cuts → AreRoots g roots → (r : Result Made PickErr)
+    → IfOk r (λ made. made ≡ tables_of g roots cuts) → IfOk r (λ made. IsWithin g (once_by supply g made.luts) made.luts)
+    → IfErr r (OrMemory refusal_of (λ _. IsPast g (once_by supply g (tables_of g roots cuts).luts) (tables_of g roots cuts).luts)) → ArePicked supply g label roots r
+are_picked supply g label roots cuts h lits (Ok made) e light past = record {
+  ok = subst (IsMade supply g label roots) (sym e) (tables_made supply g label roots cuts h lits);
+  light = light_is supply g made.luts light;
+  err = tt;
+}
+are_picked supply g label roots cuts h lits (Err e) ok light past = record { ok = tt; light = tt; err = too_much_told supply g label roots cuts h lits e past }
 
 pub template_is : (supply : Supply) (g : Aig) (label : ℕ → ℕ) (roots : RootsValue) (made : Made) (outputs next : List Lit) (depth : ℕ) → AreRoots g (roots_of roots) → IsMade supply g label (roots_of roots) made
     → outputs ≡ roots.outputs → next ≡ roots.next → depth ≡ target g label (roots_of roots)

@@ -1,5 +1,5 @@
 -- What the proofs of this crate cite of other crates, and its own definitions, passed on from one place.
-pub use Rattle.std.proofs.Common.{ap₂, subst₂, Bool, Err, IfOk, IsSome, List, None, Ok, Option, Result, Some, [], ap, arith, cond, drop, eqb, false, get_or, get_or-set_other, get_or-set_same, inl, inr, length, length-append, ltb, max, min, refl, replicate, rules, slice_set, subst, suc, sym, take, true, zero, ℕ, ◌%◌, ◌&&◌, ◌*◌, ◌++◌, ◌+◌, ◌-◌, ◌/◌, ◌<◌, ◌^◌, ◌∙◌, ◌∷◌, ◌≡◌, ◌≤◌, ◌⊎◌}
+pub use Rattle.std.proofs.Common.{ap₂, subst₂, Bool, Err, IfErr, IfOk, IsSome, List, None, Ok, Option, Result, Some, [], ap, arith, cond, drop, eqb, false, get_or, get_or-set_other, get_or-set_same, inl, inr, length, length-append, ltb, max, min, refl, replicate, rules, slice_set, subst, suc, sym, take, true, zero, ℕ, ◌%◌, ◌&&◌, ◌*◌, ◌++◌, ◌+◌, ◌-◌, ◌/◌, ◌<◌, ◌^◌, ◌∙◌, ◌∷◌, ◌≡◌, ◌≤◌, ◌⊎◌}
 pub use Rattle.std.proofs.Math.ListN.{get_or-append, length-set}
 pub use Rattle.std.proofs.Math.Nat.{div-le_self, mul-le-mul, mul-le-mul_left, mul-one}
 pub use Rattle.std.proofs.Math.Path.{fun_ext}
@@ -30,9 +30,11 @@ pub use Rattle.cut_sets.specs.Cuts.{CanBeLeaf}
 pub use Rattle.cover_pick.specs.Counts.{count_at, count_one, count_pair, AreCounted, AreLeaves, AreUsed, count_each}
 pub use Rattle.cover_pick.specs.Mapping.{HaveBases, bits_of, IsMapping, IsLeast, AscendByLit}
 pub use Rattle.cover_pick.specs.Marks.{IsMarked, Made, IsMade, tables_of, AreMade, mark_each, mark_leaves, mark_cut, mark_cuts, tables_from}
-pub use Rattle.cover_pick.specs.Places.{place_at, cut_of, cuts_from, cuts_of, found_for, AreBestPlaces}
+pub use Rattle.cover_pick.specs.Places.{place_at, cut_of, cuts_from, cuts_of, found_for, AreBestPlaces, ArePlacedFrom}
 pub use Rattle.cover_pick.specs.Rounds.{Supply, Rows, Sets, IsPlan, no_flow, PlanValue, IsFirst, AreRounds, NoneBelow, AreSixRounds, IsMaking, IsLeastOfMakings}
-pub use Rattle.cover_pick.specs.Planned.{and_depths, depths_of, IsPlanned, cut_at, AreFlows, FromChoice, IsLeastCover, Chooses, plan_of, IsWalked, plan_by, next_flows, cost_by, cheaper_flows, three_rounds, six_rounds}
+pub use Rattle.cover_pick.specs.Planned.{and_depths, depths_of, IsPlanned, cut_at, AreFlows, FromChoice, IsLeastCover, Chooses, plan_of, IsWalked, plan_by, next_flows, cost_by, cheaper_flows, cheaper_cuts, three_rounds, six_rounds}
+pub use Rattle.cover_pick.specs.Choices.{CanChoose, ArePlacesBy, AreCutsBy, flows_over, three_over, six_over}
+pub use Rattle.cover_pick.specs.Picked.{CanPickFewest, CanMakeSets, CanMakeTables, ArePicked, IsPicked, IsTemplateOf}
 pub use Rattle.cover_pick.specs.Refusals.{refusal_of}
 pub use Rattle.cover_pick.specs.Required.{need, chosen, cover_of, visit, walk, met_at, walk_by, roots_required, require_each, least_of, require, require_root, require_roots, required}
 pub use Rattle.cover_pick.specs.Schedule.{AtMost, IsPlanBy, HasRuled, IsRuled, FromRoot}

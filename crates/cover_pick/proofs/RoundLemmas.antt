@@ -1,5 +1,6 @@
 -- The rounds that are made are rounds by their own words, and the flows that are found are those of the first plan of the least cost.
-use Rattle.cover_pick.proofs.Common.{◌≡◌, ℕ, ◌/◌, ◌<◌, ◌≤◌, cond, ltb, Bool, true, false, List, [], ◌∷◌, ◌++◌, Option, refl, sym, ap, ◌∙◌, subst, inl, inr, arith, ltb-true, ltb-false, Aig, first_and, node_count, AreNormal, In, In-append, choose, choose_one, Rule, LeastCost, Scope, AnyHeight, LeastHeight, flow_at, flows_by, IsPlanBy, uses, cost_of, count_at, AreLeaves, AreUsed, PlanValue, AreRounds, NoneBelow, IsFirst, plan_of, AreFlows, cut_at, IsPlanned, plan_by, next_flows, cost_by, cheaper_flows, three_rounds, six_rounds, AreSixRounds, IsServing}
+use Rattle.cover_pick.proofs.Common.{◌≡◌, ℕ, ◌/◌, ◌<◌, ◌≤◌, cond, ltb, Bool, true, false, List, [], ◌∷◌, ◌++◌, length, Option, refl, sym, ap, ◌∙◌, subst, inl, inr, arith, ltb-true, ltb-false, Aig, first_and, node_count, AreNormal, In, In-append, choose, choose_one, Rule, LeastCost, Scope, AnyHeight, LeastHeight, flow_at, flows_by, IsPlanBy, uses, cost_of, count_at, AreLeaves, AreUsed, PlanValue, AreRounds, NoneBelow, IsFirst, plan_of, AreFlows, cut_at, IsPlanned, plan_by, next_flows, cost_by, cheaper_flows, three_rounds, six_rounds, AreSixRounds, IsServing, label_at, lits_of, cheaper_cuts, AreCutsBy, CanChoose, flows_over, three_over}
+use Rattle.cover_pick.specs.declared.choices.Choices.{Choices}
 use Rattle.cover_pick.proofs.UsesLemmas.{flows_same, flows_fit, uses_same, cost_same}
 use Rattle.cover_pick.proofs.RuleLemmas.{plan_all, plan_is}
 
@@ -109,7 +110,7 @@ module _ (g : Aig) (rows : List (List (List ℕ))) (label : ℕ → ℕ) (roots 
   cheaper_self : (flows : List ℕ) → cheaper_flows g rows label roots flows flows ≡ flows
   cheaper_self flows = choose_one (λ fs. fs ≡ flows) (ltb (cost_by g rows label roots flows) (cost_by g rows label roots flows)) flows flows refl refl
 
-  pub three_stop : (scope : Scope) (flows : List ℕ) → next_flows g rows label roots scope flows ≡ flows → three_rounds g rows label roots scope flows ≡ flows
+  three_stop : (scope : Scope) (flows : List ℕ) → next_flows g rows label roots scope flows ≡ flows → three_rounds g rows label roots scope flows ≡ flows
   three_stop scope flows e =
       ap (λ fs. cheaper_flows g rows label roots (cheaper_flows g rows label roots flows fs) (next_flows g rows label roots scope fs)) e
       ∙ (ap (λ fs. cheaper_flows g rows label roots fs (next_flows g rows label roots scope flows)) (cheaper_self flows)
@@ -119,19 +120,19 @@ module _ (g : Aig) (rows : List (List (List ℕ))) (label : ℕ → ℕ) (roots 
   cheaper_again a b =
       choose (λ fs. cheaper_flows g rows label roots fs b ≡ fs) (ltb (cost_by g rows label roots b) (cost_by g rows label roots a)) b a (λ _. cheaper_self b) (λ e. ap (λ t. cond t b a) e)
 
-  pub three_stop_late : (scope : Scope) (flows : List ℕ) → next_flows g rows label roots scope (next_flows g rows label roots scope flows) ≡ next_flows g rows label roots scope flows
+  three_stop_late : (scope : Scope) (flows : List ℕ) → next_flows g rows label roots scope (next_flows g rows label roots scope flows) ≡ next_flows g rows label roots scope flows
       → three_rounds g rows label roots scope flows ≡ cheaper_flows g rows label roots flows (next_flows g rows label roots scope flows)
   three_stop_late scope flows e =
       ap (λ fs. cheaper_flows g rows label roots (cheaper_flows g rows label roots flows (next_flows g rows label roots scope flows)) fs) e ∙ cheaper_again flows (next_flows g rows label roots scope flows)
 
   -- the flows over the counted uses of a cover
-  pub used_flows : (scope : Scope) (flows counts : List ℕ) (cover : ℕ → Option (List ℕ)) → IsPlanned LeastCost g rows label roots flows cover → AreUsed g cover (node_count g) counts
+  used_flows : (scope : Scope) (flows counts : List ℕ) (cover : ℕ → Option (List ℕ)) → IsPlanned LeastCost g rows label roots flows cover → AreUsed g cover (node_count g) counts
       → flows_by g rows label scope (count_at counts) ≡ next_flows g rows label roots scope flows
   used_flows scope flows counts cover p u =
       flows_same g scope label rows (count_at counts) (uses g (plan_of LeastCost g rows label roots flows)) (node_count g) (λ n l. u.each n l ∙ uses_same cover (plan_of LeastCost g rows label roots flows) n (node_count g) p.chosen)
 
   -- the cheaper of two covers is that of the cheaper flows
-  pub cheaper_planned : (a b : List ℕ) (first second best : List (Option (List ℕ))) → IsPlanned LeastCost g rows label roots a (cut_at first) → IsPlanned LeastCost g rows label roots b (cut_at second)
+  cheaper_planned : (a b : List ℕ) (first second best : List (Option (List ℕ))) → IsPlanned LeastCost g rows label roots a (cut_at first) → IsPlanned LeastCost g rows label roots b (cut_at second)
       → best ≡ cond (ltb (cost_of g (cut_at second)) (cost_of g (cut_at first))) second first → IsPlanned LeastCost g rows label roots (cheaper_flows g rows label roots a b) (cut_at best)
   cheaper_planned a b first second best p q e =
       let x : cost_of g (cut_at first) ≡ cost_by g rows label roots a = cost_same (cut_at first) (plan_of LeastCost g rows label roots a) (node_count g) p.chosen in
@@ -149,30 +150,45 @@ leaves_there rule g rows label roots flows cover t p =
       ascending = λ n c e. (is.cuts n c e).1.ascending;
     }
 
-module _ (g : Aig) (rows : List (List (List ℕ))) (label : ℕ → ℕ) (roots : List ℕ) (scope : Scope) where
-  -- the flows of the first round
-  abbrev start : List ℕ → List ℕ
-  start counts = flows_by g rows label scope (count_at counts)
+module _ (c : Choices) where
+  abbrev Cuts : List ℕ → List (Option (List ℕ)) → Type 0
+  Cuts flows cuts = AreCutsBy LeastCost c flows cuts
 
-  abbrev after : List ℕ → List ℕ
-  after flows = next_flows g rows label roots scope flows
+  -- the cheaper of two covers is that of the cheaper flows
+  pub cheaper_by : (a b : List ℕ) (first second best : List (Option (List ℕ))) → Cuts a first → Cuts b second → best ≡ cheaper_cuts c.graph.now first second
+      → Cuts (cheaper_flows c.graph.now c.rows.now (label_at c.labels.now) (lits_of c.roots.now) a b) best
+  cheaper_by a b first second best p q e =
+      let count : ℕ = node_count c.graph.now in
+      record {
+        plan = cheaper_planned c.graph.now c.rows.now (label_at c.labels.now) (lits_of c.roots.now) a b first second best p.plan q.plan e;
+        len = ap length e ∙ choose_one (λ (o : List (Option (List ℕ))). length o ≡ count) (ltb (cost_of c.graph.now (cut_at second)) (cost_of c.graph.now (cut_at first))) second first q.len p.len;
+        normal = p.normal;
+      }
 
-  abbrev Plans : List ℕ → List (Option (List ℕ)) → Type 0
-  Plans flows cuts = IsPlanned LeastCost g rows label roots flows (cut_at cuts)
+  pub leaves_by : (flows : List ℕ) (cuts : List (Option (List ℕ))) → CanChoose LeastCost c → Cuts flows cuts → AreLeaves c.graph.now (cut_at cuts)
+  leaves_by flows cuts can are = leaves_there LeastCost c.graph.now c.rows.now (label_at c.labels.now) (lits_of c.roots.now) flows (cut_at cuts) can.serving are.plan
 
-  -- a later round, over the uses of the cover before it
-  pub later_plan : (flows used seen : List ℕ) (cuts next : List (Option (List ℕ))) → Plans flows cuts → AreUsed g (cut_at cuts) (node_count g) used → seen ≡ used → Plans (flows_by g rows label scope (count_at seen)) next → Plans (after flows) next
-  later_plan flows used seen cuts next p u e q = subst (λ fs. Plans fs next) (ap (λ s. flows_by g rows label scope (count_at s)) e ∙ used_flows g rows label roots scope flows used (cut_at cuts) p u) q
+  module _ (scope : Scope) where
+    abbrev after : List ℕ → List ℕ
+    after flows = next_flows c.graph.now c.rows.now (label_at c.labels.now) (lits_of c.roots.now) scope flows
 
-  -- where the uses are the counts of the round, the next round has the same flows
-  same_after : (flows used counts : List ℕ) (cuts : List (Option (List ℕ))) → Plans flows cuts → AreUsed g (cut_at cuts) (node_count g) used → used ≡ counts → flows_by g rows label scope (count_at counts) ≡ flows → after flows ≡ flows
-  same_after flows used counts cuts p u e f = sym (used_flows g rows label roots scope flows used (cut_at cuts) p u) ∙ (ap (λ s. flows_by g rows label scope (count_at s)) e ∙ f)
+    -- the flows over the uses of a cover
+    used_by : (flows used : List ℕ) (cuts : List (Option (List ℕ))) → Cuts flows cuts → AreUsed c.graph.now (cut_at cuts) (node_count c.graph.now) used → flows_over c scope used ≡ after flows
+    used_by flows used cuts p u = used_flows c.graph.now c.rows.now (label_at c.labels.now) (lits_of c.roots.now) scope flows used (cut_at cuts) p.plan u
 
-  pub stop_first : (counts used : List ℕ) (first : List (Option (List ℕ))) → Plans (start counts) first → AreUsed g (cut_at first) (node_count g) used → used ≡ counts → Plans (three_rounds g rows label roots scope (start counts)) first
-  stop_first counts used first p u e =
-      subst (λ fs. Plans fs first) (sym (three_stop g rows label roots scope (start counts) (same_after (start counts) used counts first p u e refl))) p
+    -- a later round, over the uses of the cover before it
+    pub later_by : (flows used seen : List ℕ) (cuts next : List (Option (List ℕ))) → Cuts flows cuts → AreUsed c.graph.now (cut_at cuts) (node_count c.graph.now) used → seen ≡ used → Cuts (flows_over c scope seen) next → Cuts (after flows) next
+    later_by flows used seen cuts next p u e q = subst (λ fs. Cuts fs next) (ap (flows_over c scope) e ∙ used_by flows used cuts p u) q
 
-  pub stop_second : (counts used again : List ℕ) (first second best : List (Option (List ℕ))) → Plans (start counts) first → AreUsed g (cut_at first) (node_count g) used → Plans (after (start counts)) second → AreUsed g (cut_at second) (node_count g) again → again ≡ used
-      → Plans (cheaper_flows g rows label roots (start counts) (after (start counts))) best → Plans (three_rounds g rows label roots scope (start counts)) best
-  stop_second counts used again first second best p u q v e b =
-      subst (λ fs. Plans fs best) (sym (three_stop_late g rows label roots scope (start counts) (same_after (after (start counts)) again used second q v e (used_flows g rows label roots scope (start counts) used (cut_at first) p u)))) b
+    -- where the uses are the counts of the round, the next round has the same flows
+    same_after : (flows used counts : List ℕ) (cuts : List (Option (List ℕ))) → Cuts flows cuts → AreUsed c.graph.now (cut_at cuts) (node_count c.graph.now) used → used ≡ counts → flows_over c scope counts ≡ flows → after flows ≡ flows
+    same_after flows used counts cuts p u e f = sym (used_by flows used cuts p u) ∙ (ap (flows_over c scope) e ∙ f)
+
+    pub stop_first : (counts used : List ℕ) (first : List (Option (List ℕ))) → Cuts (flows_over c scope counts) first → AreUsed c.graph.now (cut_at first) (node_count c.graph.now) used → used ≡ counts → Cuts (three_over c scope counts) first
+    stop_first counts used first p u e =
+        subst (λ fs. Cuts fs first) (sym (three_stop c.graph.now c.rows.now (label_at c.labels.now) (lits_of c.roots.now) scope (flows_over c scope counts) (same_after (flows_over c scope counts) used counts first p u e refl))) p
+
+    pub stop_second : (counts used again : List ℕ) (first second best : List (Option (List ℕ))) → Cuts (flows_over c scope counts) first → AreUsed c.graph.now (cut_at first) (node_count c.graph.now) used → Cuts (after (flows_over c scope counts)) second → AreUsed c.graph.now (cut_at second) (node_count c.graph.now) again → again ≡ used
+        → Cuts (cheaper_flows c.graph.now c.rows.now (label_at c.labels.now) (lits_of c.roots.now) (flows_over c scope counts) (after (flows_over c scope counts))) best → Cuts (three_over c scope counts) best
+    stop_second counts used again first second best p u q v e b =
+        subst (λ fs. Cuts fs best) (sym (three_stop_late c.graph.now c.rows.now (label_at c.labels.now) (lits_of c.roots.now) scope (flows_over c scope counts) (same_after (after (flows_over c scope counts)) again used second q v e (used_by (flows_over c scope counts) used first p u)))) b

@@ -1,6 +1,7 @@
 -- The depth of the chosen LUTs is the depth of the chosen cuts.
-use Rattle.cover_pick.proofs.Common.{◌≡◌, ℕ, suc, ◌*◌, ◌/◌, ◌<◌, ◌≤◌, List, [], ◌∷◌, length, Option, Some, None, refl, sym, ◌∙◌, subst, inl, inr, ◌⊎◌, arith, get_or_past, none-some, cases_lt, Aig, first_and, node_count, IsAnd, In, IsCover, HasDepth, source, no_leaves, table, In-get_or, Rule, Supply, IsServing, CanBeLeaf, target, cut_at, IsPlanned, HasTable}
+use Rattle.cover_pick.proofs.Common.{◌≡◌, ℕ, suc, ◌*◌, ◌/◌, ◌<◌, ◌≤◌, List, [], ◌∷◌, length, Option, Some, None, refl, sym, ◌∙◌, subst, inl, inr, ◌⊎◌, arith, get_or_past, none-some, cases_lt, Aig, first_and, node_count, IsAnd, In, IsCover, HasDepth, source, no_leaves, table, In-get_or, Rule, Supply, IsServing, CanBeLeaf, choose_one, ltb, cost_of, label_at, lits_of, cheaper_cuts, AreCutsBy, CanChoose, CanMakeTables, target, cut_at, IsPlanned, HasTable}
 use Rattle.cover_pick.specs.Marks.{leaves_of, Made, AreMade, IsMarked, root, leaf, IsMade}
+use Rattle.cover_pick.specs.declared.choices.Choices.{Choices}
 use Rattle.cover_pick.specs.Template.{TableDepth, free, over, TablesWithin}
 
 pub leaves_and : (g : Aig) (cuts : List (Option (List ℕ))) (l : ℕ) → IsAnd g (l / 2) → leaves_of g cuts l ≡ cut_at cuts (l / 2)
@@ -62,3 +63,10 @@ tables_exact supply g label roots made a d w =
 -- a chosen cut's leaves are AND nodes and regular sources
 pub cut_leaves : (rule : Rule) (g : Aig) (rows : List (List (List ℕ))) (label : ℕ → ℕ) (roots flows : List ℕ) (cuts : List (Option (List ℕ))) → IsServing rule g label rows → IsPlanned rule g rows label roots flows (cut_at cuts) → (c : List ℕ) (m : ℕ) → In cuts (Some c) → In c m → CanBeLeaf g m
 cut_leaves rule g rows label roots flows cuts t plan c m i j = let r = in_cut cuts c i in (((plan.least t.k t.served).is.cuts r.0 c r.1).1.below m j).1
+
+-- cuts that were chosen can be made tables of, and so can the cheaper of two covers
+pub can_make : (rule : Rule) (c : Choices) (flows : List ℕ) (cuts : List (Option (List ℕ))) → CanChoose rule c → AreCutsBy rule c flows cuts → CanMakeTables c.graph.now (lits_of c.roots.now) cuts
+can_make rule c flows cuts can are = record { cuts = are.len; roots = can.roots; leaves = cut_leaves rule c.graph.now c.rows.now (label_at c.labels.now) (lits_of c.roots.now) flows cuts can.serving are.plan }
+
+pub can_make_cheaper : (g : Aig) (roots : List ℕ) (xs ys cuts : List (Option (List ℕ))) → CanMakeTables g roots xs → CanMakeTables g roots ys → cuts ≡ cheaper_cuts g xs ys → CanMakeTables g roots cuts
+can_make_cheaper g roots xs ys cuts p q e = subst (CanMakeTables g roots) (sym e) (choose_one (CanMakeTables g roots) (ltb (cost_of g (cut_at ys)) (cost_of g (cut_at xs))) ys xs q p)

@@ -26,6 +26,10 @@ reach g once c stamp s n =
     else if stamp_at s.stamps n == stamp then s
     else record { stamps = slice_set s.stamps n stamp; reached = s.reached ++ n ∷ []; met = s.met }
 
+-- the same of both fan-ins of a pair
+abbrev pub reach_both : Aig → List Bool → List ℕ → ℕ → SearchValue → Pair → SearchValue
+reach_both g once c stamp s p = reach g once c stamp (reach g once c stamp s (p.x.0 / 2)) (p.y.0 / 2)
+
 -- the marked nodes
 abbrev pub once_in : List Bool → ℕ → Type 0
 once_in once n = mark_of once n ≡ true

@@ -11,6 +11,7 @@ pub mod Rounds
 pub mod Tables
 pub mod Work
 pub mod Template
+pub mod Laws
 pub mod Refusals
 -- What only bodies are compared with.
 pub mod Served
@@ -20,7 +21,9 @@ pub mod Required
 pub mod Planned
 pub mod Supplied
 pub mod Places
+pub mod Choices
 pub mod Free
 pub mod Cone
 pub mod Counted
 pub mod Marks
+pub mod Picked

@@ -1,9 +1,10 @@
 -- The chosen cuts, each by its place among the cuts of its node.
 use Rattle.std.specs.Prelude.{◌≡◌, ℕ, ◌+◌, ◌<◌, ◌≤◌, List, [], ◌∷◌, length, Option, Some, None, slice_index_or}
-use Rattle.cover_pick.specs.Words.{Aig, node_count, row_at}
+use Rattle.cover_pick.specs.Words.{Aig, Rule, label_at, node_count, row_at}
 -- the place of a node's cut, none where it has no cut, stands in a list as a required depth does
 pub use Rattle.cover_pick.specs.Required.{need as place_at}
 use Rattle.cover_pick.specs.Required.{need}
+use Rattle.cover_pick.specs.Ruled.{found_from}
 
 -- the cut at a place of a row
 abbrev pub cut_of : List (List ℕ) → Option ℕ → Option (List ℕ)
@@ -33,3 +34,7 @@ pub record AreBestPlaces (g : Aig) (rows : List (List (List ℕ))) (found : ℕ 
   pub inside : ArePlaces rows places
   pub below : (n : ℕ) → n < from → place_at places n ≡ None
   pub best : (n : ℕ) → from ≤ n → n < node_count g → cut_of (row_at rows n) (place_at places n) ≡ found_for (found n) (need depths n)
+
+-- the same, where they are found from the required depths `start` on
+abbrev pub ArePlacedFrom : Rule → Aig → List (List (List ℕ)) → List ℕ → List ℕ → List (Option ℕ) → List (Option ℕ) → ℕ → List (Option ℕ) → Type 0
+ArePlacedFrom rule g rows labels flows start depths from places = AreBestPlaces g rows (found_from rule g rows (label_at labels) flows start) depths from places

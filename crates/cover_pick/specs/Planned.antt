@@ -84,6 +84,10 @@ cost_by g rows label roots flows = cost_of g (plan_of LeastCost g rows label roo
 abbrev pub cheaper_flows : Aig → List (List (List ℕ)) → (ℕ → ℕ) → List ℕ → List ℕ → List ℕ → List ℕ
 cheaper_flows g rows label roots first second = if nat_lt (cost_by g rows label roots second) (cost_by g rows label roots first) then second else first
 
+-- the same of two lists of chosen cuts
+abbrev pub cheaper_cuts : Aig → List (Option (List ℕ)) → List (Option (List ℕ)) → List (Option (List ℕ))
+cheaper_cuts g first second = if nat_lt (cost_of g (cut_at second)) (cost_of g (cut_at first)) then second else first
+
 -- of the first three rounds that begin with these flows
 abbrev pub three_rounds : Aig → List (List (List ℕ)) → (ℕ → ℕ) → List ℕ → Scope → List ℕ → List ℕ
 three_rounds g rows label roots scope flows =

@@ -1,5 +1,5 @@
 -- How the cut of a node is found by a rule, in the walk of the required depths.
-use Rattle.std.specs.Prelude.{ℕ, List, length, Option, None, ◌≡◌, ◌<◌, ◌&&◌, if◌then◌else◌, ◌==◌, nat_lt, [], ◌∷◌, Some, slice_index_or, ◌+◌, ◌^◌, ◌≤◌, sum_by}
+use Rattle.std.specs.Prelude.{ℕ, List, length, Option, None, ◌≡◌, ◌<◌, ◌&&◌, if◌then◌else◌, ◌==◌, nat_lt, [], ◌∷◌, Some, slice_index_or, ◌+◌, ◌^◌, ◌≤◌, sum_by, ◌⊎◌, true}
 use Rattle.cover_pick.specs.Words.{Aig, first_and, row_at, Rule, FewestLeaves, LeastCost, height, comes_before, flow_at, MOST_FLOW}
 pub use Rattle.depth_label.specs.Fold.{or_empty}
 use Rattle.cover_pick.specs.Target.{target}
@@ -43,6 +43,21 @@ IsOffer cost cs None (Some c) = ⊥
 IsOffer cost cs (Some b) None = ⊥
 IsOffer cost cs (Some b) (Some c) = (b.place < length cs) × (slice_index_or cs b.place [] ≡ c) × (b.cost ≡ cost c)
 
+-- what an offer becomes by the cut at a place of a row: by its cost alone, and where the cut is ignored that is too high
+abbrev pub TakesCheaper : (List ℕ → ℕ) → List (List ℕ) → ℕ → Option Offer → Option Offer → Type 0
+TakesCheaper cost row i best next = (o : Option (List ℕ)) → IsOffer cost row best o → IsOffer cost row next (cheaper cost o (slice_index_or row i []))
+
+abbrev pub TakesCheaperLow : (List ℕ → ℕ) → (ℕ → ℕ) → ℕ → List (List ℕ) → ℕ → Option Offer → Option Offer → Type 0
+TakesCheaperLow cost label r row i best next = (o : Option (List ℕ)) → IsOffer cost row best o → IsOffer cost row next (cheaper_low cost label r o (slice_index_or row i []))
+
+-- the offer of the cheapest cut of a row for a required depth
+abbrev pub IsCheapestOffer : (List ℕ → ℕ) → (ℕ → ℕ) → ℕ → List (List ℕ) → Option Offer → Type 0
+IsCheapestOffer cost label r row best = IsOffer cost row best (cheapest cost label r None row)
+
+-- the cut at a place costs less than an offer, or as much and comes before it in the order of cuts
+abbrev pub IsFirstOf : List (List ℕ) → ℕ → ℕ → Offer → Type 0
+IsFirstOf row i cost best = (cost < best.cost) ⊎ ((cost ≡ best.cost) × (comes_before (slice_index_or row i []) (slice_index_or row best.place []) ≡ true))
+
 -- the better of two cuts, where the second has no fewer leaves and comes later: it is taken where it is the first one low enough, or has as few leaves and a lower height
 abbrev pub better : (ℕ → ℕ) → ℕ → Option (List ℕ) → List ℕ → Option (List ℕ)
 better label r None c = if nat_lt r (height label c) then None else Some c
@@ -59,6 +74,10 @@ IsAt label cs None None = Unit {0}
 IsAt label cs None (Some c) = ⊥
 IsAt label cs (Some b) None = ⊥
 IsAt label cs (Some b) (Some c) = (b.place < length cs) × (slice_index_or cs b.place [] ≡ c) × (b.len ≡ length c) × (b.height ≡ height label c)
+
+-- what a place becomes by a later cut of the row, which has no fewer leaves
+abbrev pub TakesBetter : (ℕ → ℕ) → ℕ → List (List ℕ) → ℕ → Option Candidate → Option Candidate → Type 0
+TakesBetter label r row i best next = (o : Option (List ℕ)) → IsAt label row best o → IsAt label row next (better label r o (slice_index_or row i []))
 
 -- there is one of fewer leaves
 abbrev pub IsShorter : Option Candidate → ℕ → Type 0

@@ -4,7 +4,7 @@ ghost use Rattle.cut_sets.specs.Sets.{IsOrdered};
 ghost use Rattle.cut_sets.specs.Rows.{row_at};
 ghost use Rattle.cut_sets.specs.Labels.{height, label_at};
 ghost use Rattle.cover_pick.specs.declared.rule.Rule.TheVariants.{FewestLeaves};
-ghost use Rattle.cover_pick.specs.Ruled.{IsAt, IsShorter, better as the_better, fewest as the_fewest, found_in, AreCapped};
+ghost use Rattle.cover_pick.specs.Ruled.{IsAt, IsShorter, TakesBetter, fewest as the_fewest, found_in, AreCapped};
 ghost use Rattle.cover_pick.specs.Places.{cut_of};
 
 use crate::cost::cheapest;
@@ -45,7 +45,7 @@ fn better(
     i: u32,
 ) -> Option<Candidate>
     requires { i < length (row_at rows.now n) }
-    ensures { (o : Option (List ℕ)) → IsAt (label_at labels.now) (row_at rows.now n) best o → IsAt (label_at labels.now) (row_at rows.now n) result (the_better (label_at labels.now) r o (slice_index_or (row_at rows.now n) i [])) }
+    ensures { TakesBetter (label_at labels.now) r (row_at rows.now n) i best result }
 {
     let candidate = candidate_at(labels, rows, n, i);
     match best {

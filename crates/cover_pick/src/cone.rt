@@ -1,7 +1,7 @@
 //! The own nodes of a LUT, and the nodes that are counted once which its cone meets.
 ghost use Rattle.std.specs.Prelude.{◌≡◌, ℕ, ◌+◌, ◌/◌, ◌<◌, ◌≤◌, ◌^◌, length, OnOk, IfOk};
 ghost use Rattle.aig_core.specs.Aig.{first_and, node_count, AreNormal};
-ghost use Rattle.cover_pick.specs.Cone.{is_stop as ends_way, stamp_at, once_in, reach as reached_by, AreClosed, MeetsCone, HasOwn};
+ghost use Rattle.cover_pick.specs.Cone.{is_stop as ends_way, stamp_at, once_in, reach as reached_by, reach_both as reached_both, AreClosed, MeetsCone, HasOwn};
 
 use crate::free::is_marked;
 use aig_core::{Graph, Pair};
@@ -113,7 +113,7 @@ impl Search {
         requires x { pair.x.0 / 2 < length self.old.stamps }
         requires y { pair.y.0 / 2 < length self.old.stamps }
         requires met { length self.old.met ≡ length self.old.stamps }
-        ensures { OnOk result (self.new ≡ reached_by graph.now once.now leaves.now stamp (reached_by graph.now once.now leaves.now stamp self.old (pair.x.0 / 2)) (pair.y.0 / 2)) }
+        ensures { OnOk result (self.new ≡ reached_both graph.now once.now leaves.now stamp self.old pair) }
     {
         self.reach(graph, once, leaves, stamp, pair.x.0 / 2)?;
         self.reach(graph, once, leaves, stamp, pair.y.0 / 2)?;

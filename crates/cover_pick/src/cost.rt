@@ -7,7 +7,7 @@ ghost use Rattle.cut_sets.specs.Sets.{before};
 ghost use Rattle.bounded_cuts.specs.declared.limits.TheConstants.{MOST_FLOW};
 ghost use Rattle.bounded_cuts.specs.Flow.{flow_at};
 ghost use Rattle.cover_pick.specs.Required.{need as need_of};
-ghost use Rattle.cover_pick.specs.Ruled.{AreCapped, IsOffer, cost_where as the_cost_where, leaf_cost as the_leaf_cost, cut_cost as the_cut_cost, cheaper as the_cheaper, cheaper_low as the_cheaper_low, cheapest as the_cheapest};
+ghost use Rattle.cover_pick.specs.Ruled.{AreCapped, IsCheapestOffer, IsFirstOf, TakesCheaper, TakesCheaperLow, leaf_cost as the_leaf_cost, cut_cost as the_cut_cost};
 
 use crate::tables::table_bits;
 use cut_sets::{CutRows, NodeLabels, comes_before};
@@ -61,7 +61,7 @@ pub fn cut_cost(rows: &CutRows, flows: &[u64], reqs: &[Option<u32>], n: u32, i: 
 fn comes_first(rows: &CutRows, n: u32, i: u32, cost: u64, best: Offer) -> bool
     requires inside { i < length (row_at rows.now n) }
     requires best { best.place < length (row_at rows.now n) }
-    ensures { result ≡ true ↔ (cost < best.cost) ⊎ ((cost ≡ best.cost) × (before (slice_index_or (row_at rows.now n) i []) (slice_index_or (row_at rows.now n) best.place []) ≡ true)) }
+    ensures { result ≡ true ↔ IsFirstOf (row_at rows.now n) i cost best }
 {
     if cost == best.cost {
         return comes_before(rows.leaves(n, i), rows.leaves(n, best.place));
@@ -81,7 +81,7 @@ fn cheaper(
     requires inside { i < length (row_at rows.now n) }
     requires best { IfSome best (λ b. b.place < length (row_at rows.now n)) }
     requires capped { AreCapped flows.now }
-    ensures { (o : Option (List ℕ)) → IsOffer (the_cut_cost flows.now reqs.now) (row_at rows.now n) best o → IsOffer (the_cut_cost flows.now reqs.now) (row_at rows.now n) result (the_cheaper (the_cut_cost flows.now reqs.now) o (slice_index_or (row_at rows.now n) i [])) }
+    ensures { TakesCheaper (the_cut_cost flows.now reqs.now) (row_at rows.now n) i best result }
 {
     let cost = cut_cost(rows, flows, reqs, n, i);
     match best {
@@ -104,7 +104,7 @@ fn cheaper_low(
     requires inside { i < length (row_at rows.now n) }
     requires best { IfSome best (λ b. b.place < length (row_at rows.now n)) }
     requires capped { AreCapped flows.now }
-    ensures { (o : Option (List ℕ)) → IsOffer (the_cut_cost flows.now reqs.now) (row_at rows.now n) best o → IsOffer (the_cut_cost flows.now reqs.now) (row_at rows.now n) result (the_cheaper_low (the_cut_cost flows.now reqs.now) (label_at labels.now) r o (slice_index_or (row_at rows.now n) i [])) }
+    ensures { TakesCheaperLow (the_cut_cost flows.now reqs.now) (label_at labels.now) r (row_at rows.now n) i best result }
 {
     if labels.cut_height(rows.leaves(n, i)) > r {
         return best;
@@ -122,7 +122,7 @@ pub fn cheapest(
     r: u32,
 ) -> Option<Offer>
     requires { AreCapped flows.now }
-    ensures { IsOffer (the_cut_cost flows.now reqs.now) (row_at rows.now n) result (the_cheapest (the_cut_cost flows.now reqs.now) (label_at labels.now) r None (row_at rows.now n)) }
+    ensures { IsCheapestOffer (the_cut_cost flows.now reqs.now) (label_at labels.now) r (row_at rows.now n) result }
 {
     let mut best = None;
     for i in 0..rows.count(n) {

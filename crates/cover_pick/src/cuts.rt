@@ -1,19 +1,16 @@
 //! The chosen cuts of the needed nodes.
-ghost use Rattle.std.specs.Prelude.{◌≡◌, Option, None, List, length, IfOk, slice_index_or};
-ghost use Rattle.aig_core.specs.Aig.{first_and, node_count, AreNormal};
-ghost use Rattle.aig_core.specs.Roots.{lits_of, AreRoots};
-ghost use Rattle.cut_sets.specs.Labels.{label_at};
-ghost use Rattle.cover_pick.specs.Served.{IsServing};
+ghost use Rattle.std.specs.Prelude.{◌≡◌, Option, None, List, IfOk, slice_index_or};
+ghost use Rattle.cover_pick.specs.Choices.{AreCutsBy, CanChoose};
 ghost use Rattle.cover_pick.specs.Places.{place_at as the_place_at};
-ghost use Rattle.cover_pick.specs.Planned.{cut_at, AreFlows, IsPlanned};
+ghost use Rattle.cover_pick.specs.Planned.{AreFlows};
 
+use crate::choices::Choices;
 use crate::required::chosen_places;
 use crate::rule::Rule;
 use crate::tables::table_bits;
-use aig_core::{Graph, Lit};
 use bounded_cuts::TABLE_PRICE;
 use cut_enum::Cut;
-use cut_sets::{CutRows, NodeLabels};
+use cut_sets::CutRows;
 use std::alloc::{AllocError, Global};
 use std::marker::Model;
 
@@ -91,19 +88,16 @@ impl<'a> ChosenCuts<'a> {
 pub fn cuts_by<'a>(
     alloc: Global,
     rule: Rule,
-    graph: &Graph,
-    rows: &'a CutRows,
-    labels: &NodeLabels,
-    roots: &[Lit],
+    choices: &Choices<'a>,
     flows: &[u64],
 ) -> Result<ChosenCuts<'a>, AllocError>
-    requires serving { IsServing rule graph.now (label_at labels.now) rows.now }
-    requires roots { AreRoots graph.now (lits_of roots.now) }
-    requires flows { AreFlows graph.now flows.now }
-    ensures plan { IfOk result (λ cuts. IsPlanned rule graph.now rows.now (label_at labels.now) (lits_of roots.now) flows.now (cut_at cuts)) }
-    ensures len { IfOk result (λ cuts. length cuts ≡ node_count graph.now) }
-    ensures normal { IfOk result (λ _. AreNormal (first_and graph.now) graph.now.pairs) }
+    requires can { CanChoose rule choices.now }
+    requires flows { AreFlows choices.now.graph.now flows.now }
+    ensures { IfOk result (AreCutsBy rule choices.now flows.now) }
 {
-    let places = chosen_places(alloc, rule, graph, rows, labels, roots, flows)?;
-    Ok(ChosenCuts { rows, places })
+    let places = chosen_places(alloc, rule, choices, flows)?;
+    Ok(ChosenCuts {
+        rows: choices.rows,
+        places,
+    })
 }

@@ -57,6 +57,7 @@
 #![tactic(auto)]
 
 mod choice;
+mod choices;
 mod cone;
 mod cost;
 mod cuts;

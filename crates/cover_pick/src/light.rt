@@ -1,14 +1,12 @@
 //! The LUTs of the needed literals, within the limit on their work: one call for each rule of counting it.
-ghost use Rattle.std.specs.Prelude.{◌≡◌, ℕ, List, length, Some, IfOk, IfErr};
-ghost use Rattle.aig_core.specs.Aig.{node_count};
-ghost use Rattle.aig_core.specs.Roots.{lits_of, AreRoots};
-ghost use Rattle.list_laws.specs.Members.{In};
-ghost use Rattle.cut_sets.specs.Cuts.{CanBeLeaf};
+ghost use Rattle.std.specs.Prelude.{◌≡◌, IfOk, IfErr};
+ghost use Rattle.aig_core.specs.Roots.{lits_of};
 ghost use Rattle.tl_fault.specs.OrMemory.{OrMemory};
 ghost use Rattle.cover_pick.specs.Refusals.{refusal_of};
 ghost use Rattle.cover_pick.specs.Marks.{tables_of};
 ghost use Rattle.cover_pick.specs.Work.{IsFree};
 ghost use Rattle.cover_pick.specs.Counted.{IsWithin, IsPast};
+ghost use Rattle.cover_pick.specs.Picked.{CanMakeTables, IsPastSharing};
 
 use crate::cuts::ChosenCuts;
 use crate::free::free_nodes;
@@ -28,9 +26,7 @@ pub fn apart_tables(
     cuts: &ChosenCuts,
     roots: &[Lit],
 ) -> Result<Tables, PickErr>
-    requires cuts { length cuts.now ≡ node_count graph.now }
-    requires roots { AreRoots graph.now (lits_of roots.now) }
-    requires leaves { (c : List ℕ) (m : ℕ) → In cuts.now (Some c) → In c m → CanBeLeaf graph.now m }
+    requires { CanMakeTables graph.now (lits_of roots.now) cuts.now }
     ensures ok { IfOk result (λ made. made ≡ tables_of graph.now (lits_of roots.now) cuts.now) }
     ensures light { IfOk result (λ made. IsWithin graph.now (λ n. ⊥) made.luts) }
     ensures err { IfErr result (OrMemory refusal_of (λ _. IsPast graph.now (λ n. ⊥) (tables_of graph.now (lits_of roots.now) cuts.now).luts)) }
@@ -51,12 +47,10 @@ pub fn sharing_tables(
     cuts: &ChosenCuts,
     roots: &[Lit],
 ) -> Result<Tables, PickErr>
-    requires cuts { length cuts.now ≡ node_count graph.now }
-    requires roots { AreRoots graph.now (lits_of roots.now) }
-    requires leaves { (c : List ℕ) (m : ℕ) → In cuts.now (Some c) → In c m → CanBeLeaf graph.now m }
+    requires { CanMakeTables graph.now (lits_of roots.now) cuts.now }
     ensures ok { IfOk result (λ made. made ≡ tables_of graph.now (lits_of roots.now) cuts.now) }
     ensures light { IfOk result (λ made. IsWithin graph.now (IsFree graph.now made.luts) made.luts) }
-    ensures err { IfErr result (OrMemory refusal_of (λ _. IsPast graph.now (IsFree graph.now (tables_of graph.now (lits_of roots.now) cuts.now).luts) (tables_of graph.now (lits_of roots.now) cuts.now).luts)) }
+    ensures err { IfErr result (OrMemory refusal_of (λ _. IsPastSharing graph.now (tables_of graph.now (lits_of roots.now) cuts.now).luts)) }
 {
     let _count = graph.len();
     let made = make_tables(alloc, graph, cuts, roots)?;

@@ -1,19 +1,15 @@
 //! LUTs by the least cost: two makings of bounded sets, with six covers each.
-ghost use Rattle.std.specs.Prelude.{◌≡◌, ℕ, ◌*◌, ◌≤◌, length, IfOk, IfErr};
+ghost use Rattle.std.specs.Prelude.{◌≡◌, ℕ, IfOk};
 ghost use Rattle.aig_core.specs.Roots.{lits_of, AreRoots};
-ghost use Rattle.cut_sets.specs.Labels.{label_at, AreLeastHeights};
-ghost use Rattle.cut_sets.specs.declared.limits.TheConstants.{MOST_CUTS, MOST_LEAVES};
-ghost use Rattle.bounded_cuts.specs.Making.{AreLows, low_in, count_in, favoured_in};
-ghost use Rattle.bounded_cuts.specs.Sets.{AreSets, places};
-ghost use Rattle.tl_fault.specs.OrMemory.{OrMemory};
-ghost use Rattle.cover_pick.specs.Refusals.{refusal_of};
+ghost use Rattle.cut_sets.specs.Labels.{label_at};
+ghost use Rattle.bounded_cuts.specs.Making.{low_in, count_in, favoured_in};
+ghost use Rattle.bounded_cuts.specs.Sets.{AreSets};
 ghost use Rattle.cover_pick.specs.declared.rule.Rule.TheVariants.{LeastCost};
+ghost use Rattle.cover_pick.specs.Picked.{ArePicked, CanMakeSets};
 ghost use Rattle.cover_pick.specs.Rounds.{Sets};
 ghost use Rattle.cover_pick.specs.Served.{IsServing};
-ghost use Rattle.cover_pick.specs.Work.{IsLight};
-ghost use Rattle.cover_pick.specs.Template.{IsTooMuch};
-ghost use Rattle.cover_pick.specs.Marks.{IsMade};
 
+use crate::choices::Choices;
 use crate::flow::fan_outs;
 use crate::light::sharing_tables;
 use crate::lut::PickErr;
@@ -35,11 +31,7 @@ fn sets_for(
     counts: &[u32],
     favoured: &[bool],
 ) -> Result<CutRows, AllocError>
-    requires least { 2 ≤ k }
-    requires few { k ≤ MOST_LEAVES }
-    requires labels { AreLeastHeights graph.now k (label_at labels.now) }
-    requires lows { AreLows graph.now k (label_at labels.now) lows.now }
-    requires room { places k * length graph.now.pairs ≤ MOST_CUTS }
+    requires { CanMakeSets graph.now k labels.now lows.now }
     ensures sets { IfOk result (AreSets graph.now k (label_at labels.now) (low_in lows.now) (count_in counts.now) (favoured_in favoured.now)) }
     ensures serving { IfOk result (IsServing LeastCost graph.now (label_at labels.now)) }
 {
@@ -67,26 +59,31 @@ pub fn cheapest_tables(
     lows: &[FlatCut],
     roots: &[Lit],
 ) -> Result<Tables, PickErr>
-    requires least { 2 ≤ k }
-    requires few { k ≤ MOST_LEAVES }
-    requires labels { AreLeastHeights graph.now k (label_at labels.now) }
-    requires lows { AreLows graph.now k (label_at labels.now) lows.now }
-    requires room { places k * length graph.now.pairs ≤ MOST_CUTS }
+    requires sets { CanMakeSets graph.now k labels.now lows.now }
     requires roots { AreRoots graph.now (lits_of roots.now) }
-    ensures ok { IfOk result (λ made. IsMade (Sets k (low_in lows.now)) graph.now (label_at labels.now) (lits_of roots.now) made) }
-    ensures light { IfOk result (λ made. IsLight (Sets k (low_in lows.now)) graph.now made.luts) }
-    ensures err { IfErr result (OrMemory refusal_of (λ _. IsTooMuch (Sets k (low_in lows.now)) graph.now (label_at labels.now) (lits_of roots.now))) }
+    ensures { ArePicked (Sets k (low_in lows.now)) graph.now (label_at labels.now) (lits_of roots.now) result }
 {
     // The contract of this call says that the graph's pairs are normal, which the least depth needs.
     let _count = graph.len();
     let fans = fan_outs(alloc, graph)?;
     let first = sets_for(alloc, graph, k, labels, lows, &fans, &[])?;
-    let best = six_rounds(alloc, graph, &first, labels, roots, &fans)?;
+    let choices = Choices {
+        graph,
+        rows: &first,
+        labels,
+        roots,
+    };
+    let best = six_rounds(alloc, &choices, &fans)?;
     let used = uses(alloc, graph, &best)?;
     let needed = needed_nodes(alloc, graph, &best)?;
     let second = sets_for(alloc, graph, k, labels, lows, &used, &needed)?;
-    let other = six_rounds(alloc, graph, &second, labels, roots, &used)?;
+    let choices = Choices {
+        graph,
+        rows: &second,
+        labels,
+        roots,
+    };
+    let other = six_rounds(alloc, &choices, &used)?;
     let cuts = cheaper(graph, best, other);
-    let made = sharing_tables(alloc, graph, &cuts, roots)?;
-    Ok(made)
+    sharing_tables(alloc, graph, &cuts, roots)
 }

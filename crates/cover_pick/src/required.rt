@@ -5,12 +5,13 @@ ghost use Rattle.aig_core.specs.Roots.{lits_of, AreRoots};
 ghost use Rattle.cut_sets.specs.Rows.{row_at};
 ghost use Rattle.cut_sets.specs.Labels.{label_at};
 ghost use Rattle.cover_pick.specs.Served.{IsServing};
-ghost use Rattle.cover_pick.specs.Ruled.{AreCapped, found_in, found_from, found_of, choice_by};
+ghost use Rattle.cover_pick.specs.Choices.{ArePlacesBy, CanChoose};
+ghost use Rattle.cover_pick.specs.Ruled.{AreCapped, found_in, choice_by};
 ghost use Rattle.cover_pick.specs.Required.{need, least_of as the_least, require as with_required, require_each as with_each_required, visit as visited, walk_by as walked, require_root as with_root, require_roots as with_roots};
-ghost use Rattle.cover_pick.specs.Planned.{depths_of};
-ghost use Rattle.cover_pick.specs.Places.{cut_of, found_for, AreBestPlaces};
+ghost use Rattle.cover_pick.specs.Places.{cut_of, found_for, ArePlacedFrom};
 
 use crate::choice::choose;
+use crate::choices::Choices;
 use crate::rule::Rule;
 use crate::target::target;
 use aig_core::{Graph, Lit};
@@ -83,9 +84,9 @@ fn walk(
     requires serving { IsServing rule graph.now (label_at labels.now) rows.now }
     requires capped { AreCapped flows.now }
     requires len { length reqs.old ≡ node_count graph.now }
-    requires places { AreBestPlaces graph.now rows.now (found_from rule graph.now rows.now (label_at labels.now) flows.now reqs.old) reqs.old (node_count graph.now) places.old }
+    requires places { ArePlacedFrom rule graph.now rows.now labels.now flows.now reqs.old reqs.old (node_count graph.now) places.old }
     ensures reqs { reqs.new ≡ walked (choice_by rule rows.now (label_at labels.now) flows.now) (first_and graph.now) (length graph.now.pairs) reqs.old }
-    ensures places { AreBestPlaces graph.now rows.now (found_from rule graph.now rows.now (label_at labels.now) flows.now reqs.old) reqs.new (first_and graph.now) places.new }
+    ensures places { ArePlacedFrom rule graph.now rows.now labels.now flows.now reqs.old reqs.new (first_and graph.now) places.new }
 {
     let first = graph.sources() + 1;
     let count = graph.len() - first;
@@ -121,22 +122,27 @@ fn require_roots(graph: &Graph, roots: &[Lit], t: u32, reqs: &mut [Option<u32>])
 pub fn chosen_places(
     alloc: Global,
     rule: Rule,
-    graph: &Graph,
-    rows: &CutRows,
-    labels: &NodeLabels,
-    roots: &[Lit],
+    choices: &Choices,
     flows: &[u64],
 ) -> Result<Vec<Option<u32>>, AllocError>
-    requires serving { IsServing rule graph.now (label_at labels.now) rows.now }
-    requires roots { AreRoots graph.now (lits_of roots.now) }
+    requires can { CanChoose rule choices.now }
     requires capped { AreCapped flows.now }
-    ensures places { IfOk result (λ places. AreBestPlaces graph.now rows.now (found_of rule graph.now rows.now (label_at labels.now) (lits_of roots.now) flows.now) (depths_of rule graph.now rows.now (label_at labels.now) (lits_of roots.now) flows.now) (first_and graph.now) places.items) }
-    ensures normal { IfOk result (λ _. AreNormal (first_and graph.now) graph.now.pairs) }
+    ensures places { IfOk result (λ places. ArePlacesBy rule choices.now flows.now places.items) }
+    ensures normal { IfOk result (λ _. AreNormal (first_and choices.now.graph.now) choices.now.graph.now.pairs) }
 {
-    let t = target(graph, labels, roots);
+    let graph = choices.graph;
+    let t = target(graph, choices.labels, choices.roots);
     let mut depths = vec![in alloc; None; graph.len() as usize]?;
     let mut places = vec![in alloc; None; graph.len() as usize]?;
-    require_roots(graph, roots, t, &mut depths);
-    walk(rule, graph, rows, labels, flows, &mut depths, &mut places);
+    require_roots(graph, choices.roots, t, &mut depths);
+    walk(
+        rule,
+        graph,
+        choices.rows,
+        choices.labels,
+        flows,
+        &mut depths,
+        &mut places,
+    );
     Ok(places)
 }

@@ -1,48 +1,42 @@
 //! Six rounds over rows of cuts: the first of six covers of the least cost.
-ghost use Rattle.std.specs.Prelude.{◌≡◌, ℕ, ◌<◌, true, if◌then◌else◌, nat_lt, length, IfOk};
-ghost use Rattle.aig_core.specs.Aig.{first_and, node_count, AreNormal};
-ghost use Rattle.aig_core.specs.Roots.{lits_of, AreRoots};
-ghost use Rattle.cut_sets.specs.Labels.{label_at};
+ghost use Rattle.std.specs.Prelude.{◌≡◌, ℕ, true, length, IfOk};
 ghost use Rattle.cover_pick.specs.declared.rule.Rule.TheVariants.{LeastCost};
-ghost use Rattle.cover_pick.specs.Flow.{flows_by as the_flows_by};
-ghost use Rattle.cover_pick.specs.Counts.{count_at};
-ghost use Rattle.cover_pick.specs.Uses.{cost_of as the_cost_of};
-ghost use Rattle.cover_pick.specs.Served.{IsServing};
-ghost use Rattle.cover_pick.specs.Planned.{cut_at, IsPlanned, three_rounds as the_three_rounds, six_rounds as the_six_rounds};
+ghost use Rattle.cover_pick.specs.Choices.{AreCutsBy, CanChoose, flows_over, three_over, six_over};
+ghost use Rattle.cover_pick.specs.Planned.{cheaper_cuts};
 
+use crate::choices::Choices;
 use crate::cuts::{ChosenCuts, cuts_by};
 use crate::flow::flows_by;
 use crate::rule::Rule;
 use crate::uses::{cost_of, uses};
-use aig_core::{Graph, Lit};
+use aig_core::Graph;
 use bounded_cuts::Scope;
-use cut_sets::{CutRows, NodeLabels};
 use std::alloc::{AllocError, Global};
 
 // A round: the cuts that are chosen by the flows over some counts.
 fn round<'a>(
     alloc: Global,
-    graph: &Graph,
-    rows: &'a CutRows,
-    labels: &NodeLabels,
-    roots: &[Lit],
+    choices: &Choices<'a>,
     scope: Scope,
     counts: &[u32],
 ) -> Result<ChosenCuts<'a>, AllocError>
-    requires serving { IsServing LeastCost graph.now (label_at labels.now) rows.now }
-    requires roots { AreRoots graph.now (lits_of roots.now) }
-    ensures plan { IfOk result (λ cuts. IsPlanned LeastCost graph.now rows.now (label_at labels.now) (lits_of roots.now) (the_flows_by graph.now rows.now (label_at labels.now) scope (count_at counts.now)) (cut_at cuts)) }
-    ensures len { IfOk result (λ cuts. length cuts ≡ node_count graph.now) }
-    ensures normal { IfOk result (λ _. AreNormal (first_and graph.now) graph.now.pairs) }
+    requires { CanChoose LeastCost choices.now }
+    ensures { IfOk result (AreCutsBy LeastCost choices.now (flows_over choices.now scope counts.now)) }
 {
-    let flows = flows_by(alloc, graph, rows, labels, scope, counts)?;
-    let cuts = cuts_by(alloc, Rule::LeastCost, graph, rows, labels, roots, &flows)?;
-    Ok(cuts)
+    let flows = flows_by(
+        alloc,
+        choices.graph,
+        choices.rows,
+        choices.labels,
+        scope,
+        counts,
+    )?;
+    cuts_by(alloc, Rule::LeastCost, choices, &flows)
 }
 
 // The cheaper of two covers, the first one where both cost the same.
 pub fn cheaper<'a>(graph: &Graph, first: ChosenCuts<'a>, second: ChosenCuts<'a>) -> ChosenCuts<'a>
-    ensures value { result ≡ (if nat_lt (the_cost_of graph.now (cut_at second.entry)) (the_cost_of graph.now (cut_at first.entry)) then second.entry else first.entry) }
+    ensures value { result ≡ cheaper_cuts graph.now first.entry second.entry }
     ensures len { (k : ℕ) → length first.entry ≡ k → length second.entry ≡ k → length result ≡ k }
 {
     if cost_of(graph, &second) < cost_of(graph, &first) {
@@ -63,31 +57,26 @@ fn are_same(counts: &[u32], others: &[u32]) -> bool
 // the same cover again, which comes later and costs no less, and they are not made.
 fn three_rounds<'a>(
     alloc: Global,
-    graph: &Graph,
-    rows: &'a CutRows,
-    labels: &NodeLabels,
-    roots: &[Lit],
+    choices: &Choices<'a>,
     scope: Scope,
     counts: &[u32],
 ) -> Result<ChosenCuts<'a>, AllocError>
-    requires serving { IsServing LeastCost graph.now (label_at labels.now) rows.now }
-    requires roots { AreRoots graph.now (lits_of roots.now) }
-    ensures plan { IfOk result (λ cuts. IsPlanned LeastCost graph.now rows.now (label_at labels.now) (lits_of roots.now) (the_three_rounds graph.now rows.now (label_at labels.now) (lits_of roots.now) scope (the_flows_by graph.now rows.now (label_at labels.now) scope (count_at counts.now))) (cut_at cuts)) }
-    ensures len { IfOk result (λ cuts. length cuts ≡ node_count graph.now) }
-    ensures normal { IfOk result (λ _. AreNormal (first_and graph.now) graph.now.pairs) }
+    requires { CanChoose LeastCost choices.now }
+    ensures { IfOk result (AreCutsBy LeastCost choices.now (three_over choices.now scope counts.now)) }
 {
-    let first = round(alloc, graph, rows, labels, roots, scope, counts)?;
+    let graph = choices.graph;
+    let first = round(alloc, choices, scope, counts)?;
     let used = uses(alloc, graph, &first)?;
     if are_same(&used, counts) {
         return Ok(first);
     }
-    let second = round(alloc, graph, rows, labels, roots, scope, &used)?;
+    let second = round(alloc, choices, scope, &used)?;
     let used_next = uses(alloc, graph, &second)?;
     let best = cheaper(graph, first, second);
     if are_same(&used_next, &used) {
         return Ok(best);
     }
-    let third = round(alloc, graph, rows, labels, roots, scope, &used_next)?;
+    let third = round(alloc, choices, scope, &used_next)?;
     Ok(cheaper(graph, best, third))
 }
 
@@ -98,27 +87,13 @@ fn three_rounds<'a>(
 /// Only if memory runs out.
 pub fn six_rounds<'a>(
     alloc: Global,
-    graph: &Graph,
-    rows: &'a CutRows,
-    labels: &NodeLabels,
-    roots: &[Lit],
+    choices: &Choices<'a>,
     counts: &[u32],
 ) -> Result<ChosenCuts<'a>, AllocError>
-    requires serving { IsServing LeastCost graph.now (label_at labels.now) rows.now }
-    requires roots { AreRoots graph.now (lits_of roots.now) }
-    ensures plan { IfOk result (λ cuts. IsPlanned LeastCost graph.now rows.now (label_at labels.now) (lits_of roots.now) (the_six_rounds graph.now rows.now (label_at labels.now) (lits_of roots.now) (count_at counts.now)) (cut_at cuts)) }
-    ensures len { IfOk result (λ cuts. length cuts ≡ node_count graph.now) }
-    ensures normal { IfOk result (λ _. AreNormal (first_and graph.now) graph.now.pairs) }
+    requires { CanChoose LeastCost choices.now }
+    ensures { IfOk result (AreCutsBy LeastCost choices.now (six_over choices.now counts.now)) }
 {
-    let any = three_rounds(alloc, graph, rows, labels, roots, Scope::AnyHeight, counts)?;
-    let low = three_rounds(
-        alloc,
-        graph,
-        rows,
-        labels,
-        roots,
-        Scope::LeastHeight,
-        counts,
-    )?;
-    Ok(cheaper(graph, any, low))
+    let any = three_rounds(alloc, choices, Scope::AnyHeight, counts)?;
+    let low = three_rounds(alloc, choices, Scope::LeastHeight, counts)?;
+    Ok(cheaper(choices.graph, any, low))
 }

@@ -1,8 +1,6 @@
 //! The chosen template, and the public calls.
-ghost use Rattle.std.specs.Prelude.{◌≡◌, ◌⊎◌, ◌*◌, ◌≤◌, ℕ, length, IfOk, IfErr};
-ghost use Rattle.aig_core.specs.Aig.{node_count};
+ghost use Rattle.std.specs.Prelude.{◌≡◌, ◌*◌, ◌≤◌, ℕ, length, IfOk, IfErr};
 ghost use Rattle.aig_core.specs.Roots.{lits_of, roots_of, AreRoots};
-ghost use Rattle.cut_enum.specs.Table.{AreRows};
 ghost use Rattle.depth_label.specs.Label.{label_of, IsCutTable, AreLabelled};
 ghost use Rattle.tl_fault.specs.OrMemory.{OrMemory};
 ghost use Rattle.cover_pick.specs.Refusals.{refusal_of};
@@ -10,13 +8,13 @@ ghost use Rattle.cut_sets.specs.Labels.{label_at, AreLeastHeights};
 ghost use Rattle.cut_sets.specs.declared.limits.TheConstants.{MOST_CUTS, MOST_LEAVES};
 ghost use Rattle.bounded_cuts.specs.Making.{AreLows, low_in};
 ghost use Rattle.bounded_cuts.specs.Sets.{places};
-ghost use Rattle.cover_pick.specs.Rounds.{Supply, Rows, Sets};
-ghost use Rattle.cover_pick.specs.Mapping.{IsMapping, IsLeast};
+ghost use Rattle.cover_pick.specs.Rounds.{Rows, Sets};
 ghost use Rattle.cover_pick.specs.Work.{IsLight};
-ghost use Rattle.cover_pick.specs.Template.{TemplateValue, IsTemplate, AreTimely, IsTooMuch};
-ghost use Rattle.cover_pick.specs.Marks.{IsMade};
-ghost use Rattle.cover_pick.specs.Supplied.{IsSupplied};
+ghost use Rattle.cover_pick.specs.Template.{IsTemplate, AreTimely, IsTooMuch};
+ghost use Rattle.cover_pick.specs.Laws.{EachHasLeast, EachMaps, EachTemplate, HasLeast, IsLightOrNot, IsOne, IsRefused, Maps};
+ghost use Rattle.cover_pick.specs.Picked.{ArePicked, CanMakeSets, CanPickFewest, GivesPicked, GivesTemplate, IsPicked};
 
+use crate::choices::Choices;
 use crate::cuts::cuts_by;
 use crate::light::apart_tables;
 use crate::lut::{Lut, PickErr};
@@ -68,20 +66,21 @@ fn fewest_tables(
     labels: &Labels,
     roots: &[Lit],
 ) -> Result<Tables, PickErr>
-    requires table { IsCutTable graph.now table.now }
-    requires labels { AreLabelled graph.now table.now labels.now }
-    requires roots { AreRoots graph.now (lits_of roots.now) }
-    ensures ok { IfOk result (λ made. IsMade (Rows table.now) graph.now (label_of labels.now) (lits_of roots.now) made) }
-    ensures light { IfOk result (λ made. IsLight (Rows table.now) graph.now made.luts) }
-    ensures err { IfErr result (OrMemory refusal_of (λ _. IsTooMuch (Rows table.now) graph.now (label_of labels.now) (lits_of roots.now))) }
+    requires { CanPickFewest graph.now table.now labels.now (lits_of roots.now) }
+    ensures { ArePicked (Rows table.now) graph.now (label_of labels.now) (lits_of roots.now) result }
 {
     // The contract of this call says that the graph's pairs are normal, which the least depth needs.
     let _count = graph.len();
     let labels = labels.node_labels();
     let rule = Rule::FewestLeaves;
-    let cuts = cuts_by(alloc, rule, graph, table.rows(), labels, roots, &[])?;
-    let made = apart_tables(alloc, graph, &cuts, roots)?;
-    Ok(made)
+    let choices = Choices {
+        graph,
+        rows: table.rows(),
+        labels,
+        roots,
+    };
+    let cuts = cuts_by(alloc, rule, &choices, &[])?;
+    apart_tables(alloc, graph, &cuts, roots)
 }
 
 // The template of these LUTs.
@@ -95,8 +94,7 @@ fn template_of(
 ) -> Result<Template, AllocError>
     requires all { lits_of all.now ≡ roots_of roots.now }
     requires roots { AreRoots graph.now (roots_of roots.now) }
-    ensures template { IfOk result (λ t. (supply : Supply) → IsMade supply graph.now (label_at labels.now) (roots_of roots.now) made → IsTemplate supply graph.now (label_at labels.now) roots.now t) }
-    ensures timely { IfOk result (λ t. (supply : Supply) → IsMade supply graph.now (label_at labels.now) (roots_of roots.now) made → IsSupplied supply graph.now (label_at labels.now) → AreTimely supply graph.now (label_at labels.now) (roots_of roots.now) t.luts) }
+    ensures template { IfOk result (GivesTemplate graph.now (label_at labels.now) roots.now made) }
     ensures luts { IfOk result (λ t. t.luts ≡ made.luts) }
 {
     let depth = target(graph, labels, all);
@@ -111,6 +109,24 @@ fn template_of(
     })
 }
 
+// The template of the LUTs that were picked.
+fn template_for(
+    alloc: Global,
+    graph: &Graph,
+    labels: &NodeLabels,
+    roots: &Roots,
+    all: &[Lit],
+    picked: Result<Tables, PickErr>,
+) -> Result<Template, PickErr>
+    requires all { lits_of all.now ≡ roots_of roots.now }
+    requires roots { AreRoots graph.now (roots_of roots.now) }
+    ensures { GivesPicked graph.now (label_at labels.now) roots.now picked result }
+{
+    let made = picked?;
+    let template = template_of(alloc, graph, labels, roots, all, made)?;
+    Ok(template)
+}
+
 // The template over the cuts of the fewest leaves.
 fn fewest_template(
     alloc: Global,
@@ -119,18 +135,12 @@ fn fewest_template(
     table: &CutTable,
     labels: &Labels,
 ) -> Result<Template, PickErr>
-    requires table { IsCutTable graph.now table.now }
-    requires labels { AreLabelled graph.now table.now labels.now }
-    requires roots { AreRoots graph.now (roots_of roots.now) }
-    ensures template { IfOk result (λ t. IsTemplate (Rows table.now) graph.now (label_of labels.now) roots.now t) }
-    ensures timely { IfOk result (λ t. IsSupplied (Rows table.now) graph.now (label_of labels.now) → AreTimely (Rows table.now) graph.now (label_of labels.now) (roots_of roots.now) t.luts) }
-    ensures light { IfOk result (λ t. IsLight (Rows table.now) graph.now t.luts) }
-    ensures work { IfErr result (OrMemory refusal_of (λ _. IsTooMuch (Rows table.now) graph.now (label_of labels.now) (roots_of roots.now))) }
+    requires { CanPickFewest graph.now table.now labels.now (roots_of roots.now) }
+    ensures { IsPicked (Rows table.now) graph.now (label_of labels.now) roots.now result }
 {
     let all = all_roots(alloc, roots)?;
-    let made = fewest_tables(alloc, graph, table, labels, &all)?;
-    let template = template_of(alloc, graph, labels.node_labels(), roots, &all, made)?;
-    Ok(template)
+    let picked = fewest_tables(alloc, graph, table, labels, &all);
+    template_for(alloc, graph, labels.node_labels(), roots, &all, picked)
 }
 
 // The template over the cuts of the least cost.
@@ -142,21 +152,13 @@ fn compact_template(
     labels: &NodeLabels,
     lows: &[FlatCut],
 ) -> Result<Template, PickErr>
-    requires least { 2 ≤ k }
-    requires few { k ≤ MOST_LEAVES }
-    requires labels { AreLeastHeights graph.now k (label_at labels.now) }
-    requires lows { AreLows graph.now k (label_at labels.now) lows.now }
-    requires room { places k * length graph.now.pairs ≤ MOST_CUTS }
+    requires sets { CanMakeSets graph.now k labels.now lows.now }
     requires roots { AreRoots graph.now (roots_of roots.now) }
-    ensures template { IfOk result (λ t. IsTemplate (Sets k (low_in lows.now)) graph.now (label_at labels.now) roots.now t) }
-    ensures timely { IfOk result (λ t. IsSupplied (Sets k (low_in lows.now)) graph.now (label_at labels.now) → AreTimely (Sets k (low_in lows.now)) graph.now (label_at labels.now) (roots_of roots.now) t.luts) }
-    ensures light { IfOk result (λ t. IsLight (Sets k (low_in lows.now)) graph.now t.luts) }
-    ensures work { IfErr result (OrMemory refusal_of (λ _. IsTooMuch (Sets k (low_in lows.now)) graph.now (label_at labels.now) (roots_of roots.now))) }
+    ensures { IsPicked (Sets k (low_in lows.now)) graph.now (label_at labels.now) roots.now result }
 {
     let all = all_roots(alloc, roots)?;
-    let made = cheapest_tables(alloc, graph, k, labels, lows, &all)?;
-    let template = template_of(alloc, graph, labels, roots, &all, made)?;
-    Ok(template)
+    let picked = cheapest_tables(alloc, graph, k, labels, lows, &all);
+    template_for(alloc, graph, labels, roots, &all, picked)
 }
 
 /// The template of a graph for the roots by the rule of the fewest leaves, with the least depth that the cuts of the graph allow.
@@ -194,15 +196,15 @@ pub fn pick(
     ensures timely { IfOk result (λ t. AreTimely (Rows table.now) graph.now (label_of labels.now) (roots_of roots.now) t.luts) }
 
     // Exactly one template exists. It maps the graph with the least depth over all covers, whatever the call returns.
-    ensures mapping { (t : TemplateValue) → IsTemplate (Rows table.now) graph.now (label_of labels.now) roots.now t → (k : ℕ) → AreRows graph.now k (node_count graph.now) table.now → IsMapping graph.now k (roots_of roots.now) t.luts t.bits }
-    ensures least { (t : TemplateValue) → IsTemplate (Rows table.now) graph.now (label_of labels.now) roots.now t → (k : ℕ) → AreRows graph.now k (node_count graph.now) table.now → IsLeast graph.now k (roots_of roots.now) t.luts t.depth }
-    ensures once { (t u : TemplateValue) → IsTemplate (Rows table.now) graph.now (label_of labels.now) roots.now t → IsTemplate (Rows table.now) graph.now (label_of labels.now) roots.now u → t ≡ u }
+    ensures mapping { EachMaps table.now graph.now (label_of labels.now) roots.now }
+    ensures least { EachHasLeast table.now graph.now (label_of labels.now) roots.now }
+    ensures once { IsOne (Rows table.now) graph.now (label_of labels.now) roots.now }
 
     // The limit on the work, in both directions.
     ensures light { IfOk result (λ t. IsLight (Rows table.now) graph.now t.luts) }
     ensures work { IfErr result (OrMemory refusal_of (λ _. IsTooMuch (Rows table.now) graph.now (label_of labels.now) (roots_of roots.now))) }
-    ensures excluded { (t : TemplateValue) → IsTemplate (Rows table.now) graph.now (label_of labels.now) roots.now t → IsLight (Rows table.now) graph.now t.luts → IsTooMuch (Rows table.now) graph.now (label_of labels.now) (roots_of roots.now) → ⊥ }
-    ensures too_much { IsTooMuch (Rows table.now) graph.now (label_of labels.now) (roots_of roots.now) → (result ≡ Err PickErr.Work) ⊎ (result ≡ Err PickErr.Memory) }
+    ensures excluded { IsLightOrNot (Rows table.now) graph.now (label_of labels.now) roots.now }
+    ensures too_much { IsTooMuch (Rows table.now) graph.now (label_of labels.now) (roots_of roots.now) → IsRefused result }
 {
     // The contract of this call says that the graph's pairs are normal, which the least depth needs.
     let _count = graph.len();
@@ -254,15 +256,15 @@ pub fn pick_compact(
     ensures timely { IfOk result (λ t. AreTimely (Sets k (low_in lows.now)) graph.now (label_at labels.now) (roots_of roots.now) t.luts) }
 
     // Exactly one template exists. It maps the graph with the least depth over all covers, whatever the call returns.
-    ensures mapping { (t : TemplateValue) → IsTemplate (Sets k (low_in lows.now)) graph.now (label_at labels.now) roots.now t → IsMapping graph.now k (roots_of roots.now) t.luts t.bits }
-    ensures least { (t : TemplateValue) → IsTemplate (Sets k (low_in lows.now)) graph.now (label_at labels.now) roots.now t → IsLeast graph.now k (roots_of roots.now) t.luts t.depth }
-    ensures once { (t u : TemplateValue) → IsTemplate (Sets k (low_in lows.now)) graph.now (label_at labels.now) roots.now t → IsTemplate (Sets k (low_in lows.now)) graph.now (label_at labels.now) roots.now u → t ≡ u }
+    ensures mapping { EachTemplate (Sets k (low_in lows.now)) graph.now (label_at labels.now) roots.now (Maps graph.now k roots.now) }
+    ensures least { EachTemplate (Sets k (low_in lows.now)) graph.now (label_at labels.now) roots.now (HasLeast graph.now k roots.now) }
+    ensures once { IsOne (Sets k (low_in lows.now)) graph.now (label_at labels.now) roots.now }
 
     // The limit on the work, in both directions.
     ensures light { IfOk result (λ t. IsLight (Sets k (low_in lows.now)) graph.now t.luts) }
     ensures work { IfErr result (OrMemory refusal_of (λ _. IsTooMuch (Sets k (low_in lows.now)) graph.now (label_at labels.now) (roots_of roots.now))) }
-    ensures excluded { (t : TemplateValue) → IsTemplate (Sets k (low_in lows.now)) graph.now (label_at labels.now) roots.now t → IsLight (Sets k (low_in lows.now)) graph.now t.luts → IsTooMuch (Sets k (low_in lows.now)) graph.now (label_at labels.now) (roots_of roots.now) → ⊥ }
-    ensures too_much { IsTooMuch (Sets k (low_in lows.now)) graph.now (label_at labels.now) (roots_of roots.now) → (result ≡ Err PickErr.Work) ⊎ (result ≡ Err PickErr.Memory) }
+    ensures excluded { IsLightOrNot (Sets k (low_in lows.now)) graph.now (label_at labels.now) roots.now }
+    ensures too_much { IsTooMuch (Sets k (low_in lows.now)) graph.now (label_at labels.now) (roots_of roots.now) → IsRefused result }
 {
     let _count = graph.len();
     // The contract of this call says that a graph has one set for each node, and that sets serve.

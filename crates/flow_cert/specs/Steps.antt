@@ -56,3 +56,7 @@ pub record AreSteps (g : Aig) (k : ℕ) (label : ℕ → ℕ) (begin : ℕ) (ste
   pub why : (s : StepValue) → In steps s → IsWanted begin steps s.node
   pub shares : (s : StepValue) (m : ℕ) → In steps s → IsShared s m → HasStep steps m
   pub begun : IsAnd g begin → HasStep steps begin
+
+-- one more node is done, the next one down, wherever the steps begin
+abbrev pub DoesNode : Aig → ℕ → (ℕ → ℕ) → ℕ → List Bool → List StepValue → List Bool → List StepValue → Type 0
+DoesNode g k label n marks steps marks' steps' = (begin : ℕ) → AreDoneTo g k label begin (n + 1) marks steps → AreDoneTo g k label begin n marks' steps'

@@ -3,7 +3,7 @@ ghost use Rattle.std.specs.Prelude.{◌≡◌, ℕ, ◌<◌, ◌≤◌, ◌+◌,
 ghost use Rattle.aig_core.specs.Aig.{node_count, first_and, IsAnd};
 ghost use Rattle.cut_sets.specs.Labels.{label_at, AreLeastHeights};
 ghost use Rattle.flow_label.specs.Scratch.{HasRoom};
-ghost use Rattle.flow_cert.specs.Steps.{CanBegin, AreDoneTo, AreSteps};
+ghost use Rattle.flow_cert.specs.Steps.{CanBegin, AreDoneTo, AreSteps, DoesNode};
 ghost use Rattle.flow_cert.specs.Marks.{mark};
 
 use crate::marks::mark_shared;
@@ -33,7 +33,7 @@ fn visit(
     requires high { mark marks.old.items n ≡ true → 1 ≤ label_at labels.now n }
     ensures room { OnOk result (HasRoom (node_count graph.now) memory.new.search) }
     ensures met { OnOk result (length memory.new.met ≡ node_count graph.now) }
-    ensures done { OnOk result ((begin : ℕ) → AreDoneTo graph.now k (label_at labels.now) begin (n + 1) marks.old.items steps.old.items → AreDoneTo graph.now k (label_at labels.now) begin n marks.new.items steps.new.items) }
+    ensures done { OnOk result (DoesNode graph.now k (label_at labels.now) n marks.old.items steps.old.items marks.new.items steps.new.items) }
 {
     let _count = graph.len();
     if !marks[n as usize] {

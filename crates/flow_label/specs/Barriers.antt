@@ -1,5 +1,5 @@
 -- Low cuts: what a search has met and not passed, or the ends.
-use Rattle.std.specs.Prelude.{◌≡◌, ℕ, ◌+◌, ◌<◌, ◌≤◌, ◌==◌, List, [], filter, slice_index}
+use Rattle.std.specs.Prelude.{◌≡◌, ℕ, ◌+◌, ◌<◌, ◌≤◌, ◌==◌, List, [], filter, slice_index, Option, MatchOption}
 use Rattle.aig_core.specs.Aig.{Aig}
 use Rattle.list_laws.specs.Members.{In}
 use Rattle.cut_sets.specs.Cuts.{IsCut}
@@ -32,3 +32,7 @@ pub record IsLowCut (g : Aig) (k n h : ℕ) (label : ℕ → ℕ) (c : List ℕ)
 -- each cut has this height at least
 pub record IsHigh (g : Aig) (k n h : ℕ) (label : ℕ → ℕ) : Type 0 where
   pub high : (c : List ℕ) → IsCut g k n c → h ≤ height label c
+
+-- a low cut, or none where each cut is high
+abbrev pub IsAnswer : Aig → ℕ → ℕ → ℕ → (ℕ → ℕ) → Option (List ℕ) → Type 0
+IsAnswer g k n h label answer = MatchOption answer (IsHigh g k n h label) (IsLowCut g k n h label)

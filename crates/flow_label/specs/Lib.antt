@@ -9,6 +9,7 @@ pub mod Net
 pub mod Links
 pub mod Search
 pub mod Outcome
+pub mod Memory
 pub mod Walks
 pub mod Barriers
 pub mod Parts

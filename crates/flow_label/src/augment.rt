@@ -1,7 +1,8 @@
 //! Adding one more path, given what the search met.
-ghost use Rattle.std.specs.Prelude.{◌≡◌, ℕ, ◌<◌, ◌+◌, ◌-◌, length, OnOk, slice_index, slice_set};
+ghost use Rattle.std.specs.Prelude.{◌≡◌, ℕ, ◌<◌, ◌+◌, ◌-◌, length, OnOk, slice_index};
 ghost use Rattle.aig_core.specs.Aig.{node_count};
-ghost use Rattle.flow_label.specs.Links.{AreLinks, owner_in};
+ghost use Rattle.flow_label.specs.Links.{AreLinks};
+ghost use Rattle.flow_label.specs.Memory.{turned};
 ghost use Rattle.flow_label.specs.Search.{IsFound, CanTurn};
 
 use crate::links::owner;
@@ -18,7 +19,7 @@ fn turn(site: &Site, links: &mut Links, search: &Search, j: u32) -> u32
     requires more { 0 < slice_index search.now.backs.items j }
     requires range { CanTurn site.now links.old.owners search.now.queue.items search.now.backs.items j }
     ensures back { result ≡ slice_index search.now.backs.items j - 1 }
-    ensures owners { links.new.owners ≡ slice_set links.old.owners (slice_index search.now.queue.items j) (owner_in site.now links.old.owners (slice_index search.now.queue.items (slice_index search.now.backs.items j - 1))) }
+    ensures owners { links.new.owners ≡ turned site.now links.old.owners search.now j }
     ensures starts { links.new.starts.items ≡ links.old.starts.items }
 {
     let back = search.backs[j as usize] - 1;

@@ -1,8 +1,8 @@
 //! The label and the low cut of one node.
-ghost use Rattle.std.specs.Prelude.{◌≡◌, ℕ, ◌<◌, ◌≤◌, ◌+◌, ◌^◌, IfOk, IfSome, OnOk, MatchOption, length};
+ghost use Rattle.std.specs.Prelude.{◌≡◌, ℕ, ◌<◌, ◌≤◌, ◌+◌, ◌^◌, IfOk, IfSome, OnOk, length};
 ghost use Rattle.aig_core.specs.Aig.{node_count, IsAnd};
 ghost use Rattle.cut_sets.specs.Labels.{label_at};
-ghost use Rattle.flow_label.specs.Barriers.{IsLowCut, IsHigh};
+ghost use Rattle.flow_label.specs.Barriers.{IsAnswer};
 ghost use Rattle.flow_label.specs.Labelled.{IsLabelled, AreLabelledTo};
 ghost use Rattle.flow_label.specs.LowCuts.{IsLowerCut, HasLowWith};
 ghost use Rattle.flow_label.specs.Parts.{low_at, IsOwnPart, IsLowPart, IsGreatest, IsFanInCut};
@@ -65,7 +65,7 @@ fn lower_cut(
     requires greatest { IsGreatest graph.now (label_at labels.now) n p }
     requires some { 1 ≤ p }
     requires room { HasRoom (node_count graph.now) scratch.old }
-    ensures answer { IfOk result (λ answer. MatchOption answer (IsHigh graph.now k n (p + 1) (label_at labels.now)) (λ cut. IsLowCut graph.now k n (p + 1) (label_at labels.now) cut)) }
+    ensures answer { IfOk result (IsAnswer graph.now k n (p + 1) (label_at labels.now)) }
     ensures low { IfOk result (λ answer. IfSome answer (λ cut. IsLowerCut graph.now k (label_at labels.now) (low_at cuts.now) n p cut)) }
     ensures room { OnOk result (HasRoom (node_count graph.now) scratch.new) }
 {

@@ -1,15 +1,15 @@
 //! A low cut of a node, or K + 1 paths to it.
-ghost use Rattle.std.specs.Prelude.{◌≡◌, ℕ, ◌<◌, ◌≤◌, ◌+◌, ◌-◌, length, map, IfOk, IfSome, OnOk, MatchOption};
+ghost use Rattle.std.specs.Prelude.{◌≡◌, ℕ, ◌<◌, ◌≤◌, ◌+◌, ◌-◌, length, map, IfOk, IfSome, OnOk};
 ghost use Rattle.aig_core.specs.Aig.{node_count, IsAnd};
 ghost use Rattle.cut_sets.specs.Labels.{label_at};
 ghost use Rattle.cut_sets.specs.Paths.{ArePathsTo};
 ghost use Rattle.flow_label.specs.Known.{AreKnownTo};
-ghost use Rattle.flow_label.specs.Barriers.{IsLowCut, IsHigh, IsBarrier};
+ghost use Rattle.flow_label.specs.Barriers.{IsAnswer, IsHigh, IsBarrier};
 ghost use Rattle.flow_label.specs.Links.{AreLinks};
 ghost use Rattle.flow_label.specs.LowCuts.{IsFlowCut};
 ghost use Rattle.flow_label.specs.Lows.{IsNearest};
 ghost use Rattle.flow_label.specs.Scratch.{HasRoom};
-ghost use Rattle.flow_label.specs.Outcome.{AreAdded};
+ghost use Rattle.flow_label.specs.Memory.{Adds};
 
 use crate::augment::add_path;
 use crate::barrier::{cut_of, keep_unpassed};
@@ -35,7 +35,7 @@ fn add_paths(
     requires seen { length search.old.seen ≡ node_count site.now.graph }
     requires passed { length search.old.passed ≡ node_count site.now.graph }
     ensures linked { OnOk result (AreLinks site.now links.new.owners links.new.starts.items) }
-    ensures added { IfOk result (λ outcome. AreAdded site.now k links.new.owners links.new.starts.items search.new.queue.items search.new.backs.items search.new.passed outcome) }
+    ensures added { IfOk result (Adds site.now k links.new search.new) }
     ensures room { OnOk result (length search.new.seen ≡ node_count site.now.graph) }
     ensures marks { OnOk result (length search.new.passed ≡ node_count site.now.graph) }
 {
@@ -75,7 +75,7 @@ fn answer(
     requires owners { length links.old.owners ≡ node_count site.now.graph }
     requires seen { length search.old.seen ≡ node_count site.now.graph }
     requires passed { length search.old.passed ≡ node_count site.now.graph }
-    ensures answer { IfOk result (λ answer. MatchOption answer (IsHigh site.now.graph k site.now.node site.now.height (label_at site.now.labels)) (λ cut. IsLowCut site.now.graph k site.now.node site.now.height (label_at site.now.labels) cut)) }
+    ensures answer { IfOk result (IsAnswer site.now.graph k site.now.node site.now.height (label_at site.now.labels)) }
     ensures low { IfOk result (λ answer. IfSome answer (λ cut. IsFlowCut site.now.graph k (label_at site.now.labels) site.now.node (site.now.height - 1) cut)) }
     ensures owners { OnOk result (length links.new.owners ≡ node_count site.now.graph) }
     ensures room { OnOk result (length search.new.seen ≡ node_count site.now.graph) }
@@ -139,7 +139,7 @@ pub fn low_cut_of(
     requires high { 2 ≤ height }
     requires known { AreKnownTo graph.now n (label_at labels.now) }
     requires room { HasRoom (node_count graph.now) scratch.old }
-    ensures answer { IfOk result (λ answer. MatchOption answer (IsHigh graph.now k n height (label_at labels.now)) (λ cut. IsLowCut graph.now k n height (label_at labels.now) cut)) }
+    ensures answer { IfOk result (IsAnswer graph.now k n height (label_at labels.now)) }
     ensures low { IfOk result (λ answer. IfSome answer (λ cut. IsFlowCut graph.now k (label_at labels.now) n (height - 1) cut)) }
     ensures room { OnOk result (HasRoom (node_count graph.now) scratch.new) }
 {

@@ -3,8 +3,9 @@ ghost use Rattle.std.specs.Prelude.{◌≡◌, ℕ, ◌<◌, ◌≤◌, ◌+◌,
 ghost use Rattle.aig_core.specs.Aig.{node_count};
 ghost use Rattle.list_laws.specs.Members.{In};
 ghost use Rattle.flow_label.specs.Net.{net_of, IsEnd};
-ghost use Rattle.flow_label.specs.Links.{AreLinks, owner_in};
-ghost use Rattle.flow_label.specs.Search.{IsSearching, HasMet, IsFound, IsBlocked};
+ghost use Rattle.flow_label.specs.Links.{AreLinks};
+ghost use Rattle.flow_label.specs.Memory.{HasMarks, KeepsMarks, Meets, Searches, WaitForAll};
+ghost use Rattle.flow_label.specs.Search.{IsFound};
 ghost use Rattle.flow_label.specs.Outcome.{IsEnded};
 
 use crate::links::owner;
@@ -32,7 +33,7 @@ fn meet(
     requires node { m < node_count site.now.graph }
     requires room { m < length search.old.seen }
     requires small { length search.old.queue.items < 2 ^ 30 }
-    ensures met { IfOk result (λ ends. HasMet (net_of site.now) (owner_in site.now links.now.owners) m back search.old.seen search.old.queue.items search.old.backs.items search.old.stack.items search.new.seen search.new.queue.items search.new.backs.items search.new.stack.items ends) }
+    ensures met { IfOk result (Meets site.now links.now m back search.old search.new) }
     ensures passed { search.new.passed ≡ search.old.passed }
 {
     if !site.is_live(m) || search.seen.get(m) != 0 {
@@ -52,13 +53,12 @@ fn meet(
 // Meets everything that the owner of the node at this place may choose. Returns whether the search ends.
 fn hand_on(site: &Site, links: &Links, search: &mut Search, place: u32) -> Result<bool, AllocError>
     requires linked { AreLinks site.now links.now.owners links.now.starts.items }
-    requires searching { IsSearching (net_of site.now) (owner_in site.now links.now.owners) search.old.seen search.old.queue.items search.old.backs.items search.old.passed (place ∷ search.old.stack.items) }
-    ensures on { IfOk result (λ ends. ends ≡ false → IsSearching (net_of site.now) (owner_in site.now links.now.owners) search.new.seen search.new.queue.items search.new.backs.items search.new.passed search.new.stack.items) }
+    requires searching { Searches site.now links.now search.old (place ∷ search.old.stack.items) }
+    ensures on { IfOk result (λ ends. ends ≡ false → Searches site.now links.now search.new search.new.stack.items) }
     ensures ended { IfOk result (λ ends. ends ≡ true → IsFound site.now links.now.owners search.new.queue.items search.new.backs.items) }
     ensures kept { OnOk result ((u : ℕ) → In search.old.queue.items u → In search.new.queue.items u) }
-    ensures lengths { IfOk result (λ ends. ends ≡ false → length search.new.stack.items + length search.old.queue.items ≡ length search.old.stack.items + length search.new.queue.items) }
-    ensures room { OnOk result (length search.new.passed ≡ length search.old.passed) }
-    ensures size { OnOk result (length search.new.seen ≡ length search.old.seen) }
+    ensures lengths { IfOk result (λ ends. ends ≡ false → WaitForAll search.old search.new) }
+    ensures marks { OnOk result (KeepsMarks search.old search.new) }
 {
     let node = site.node();
     let a = owner(site, links, search.queue[place as usize]);
@@ -81,7 +81,7 @@ fn hand_on(site: &Site, links: &Links, search: &mut Search, place: u32) -> Resul
 fn begin(site: &Site, links: &Links, search: &mut Search)
     requires seen { length search.old.seen ≡ node_count site.now.graph }
     requires passed { length search.old.passed ≡ node_count site.now.graph }
-    ensures searching { IsSearching (net_of site.now) (owner_in site.now links.now.owners) search.new.seen search.new.queue.items search.new.backs.items search.new.passed [] }
+    ensures searching { Searches site.now links.now search.new [] }
     ensures none { search.new.stack.items ≡ [] }
 {
     let _node = site.node();
@@ -96,15 +96,14 @@ fn begin(site: &Site, links: &Links, search: &mut Search)
 fn search_from(site: &Site, links: &Links, search: &mut Search, m: u32) -> Result<bool, AllocError>
     requires linked { AreLinks site.now links.now.owners links.now.starts.items }
     requires end { IsEnd (net_of site.now) m }
-    requires searching { IsSearching (net_of site.now) (owner_in site.now links.now.owners) search.old.seen search.old.queue.items search.old.backs.items search.old.passed [] }
+    requires searching { Searches site.now links.now search.old [] }
     requires none { search.old.stack.items ≡ [] }
-    ensures on { IfOk result (λ ends. ends ≡ false → IsSearching (net_of site.now) (owner_in site.now links.now.owners) search.new.seen search.new.queue.items search.new.backs.items search.new.passed []) }
+    ensures on { IfOk result (λ ends. ends ≡ false → Searches site.now links.now search.new []) }
     ensures none { IfOk result (λ ends. ends ≡ false → search.new.stack.items ≡ []) }
     ensures there { IfOk result (λ ends. ends ≡ false → In search.new.queue.items m) }
     ensures kept { OnOk result ((u : ℕ) → In search.old.queue.items u → In search.new.queue.items u) }
     ensures ended { IfOk result (λ ends. ends ≡ true → IsFound site.now links.now.owners search.new.queue.items search.new.backs.items) }
-    ensures room { OnOk result (length search.new.passed ≡ length search.old.passed) }
-    ensures size { OnOk result (length search.new.seen ≡ length search.old.seen) }
+    ensures marks { OnOk result (KeepsMarks search.old search.new) }
 {
     let _node = site.node();
     if meet(site, links, search, m, 0)? {
@@ -129,8 +128,7 @@ pub fn find(site: &Site, links: &Links, search: &mut Search) -> Result<Outcome, 
     requires seen { length search.old.seen ≡ node_count site.now.graph }
     requires passed { length search.old.passed ≡ node_count site.now.graph }
     ensures ended { IfOk result (λ outcome. IsEnded site.now links.now.owners search.new.queue.items search.new.backs.items search.new.passed outcome) }
-    ensures room { OnOk result (length search.new.passed ≡ node_count site.now.graph) }
-    ensures size { OnOk result (length search.new.seen ≡ node_count site.now.graph) }
+    ensures marks { OnOk result (HasMarks (node_count site.now.graph) search.new) }
 {
     begin(site, links, search);
     let ends = site.ends();

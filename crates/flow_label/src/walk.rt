@@ -4,7 +4,8 @@ ghost use Rattle.aig_core.specs.Aig.{node_count, IsAnd};
 ghost use Rattle.cut_sets.specs.Labels.{label_at};
 ghost use Rattle.flow_label.specs.Known.{AreKnownTo};
 ghost use Rattle.flow_label.specs.Net.{net_at, AreReaders, AreEnds};
-ghost use Rattle.flow_label.specs.Walks.{HasRead, IsWalked};
+ghost use Rattle.flow_label.specs.Memory.{Reads};
+ghost use Rattle.flow_label.specs.Walks.{IsWalked};
 
 use crate::live::is_live;
 use crate::scratch::Walk;
@@ -23,7 +24,7 @@ fn read(
 ) -> Result<(), AllocError>
     requires inside { m < node_count graph.now }
     requires room { length walk.old.readers ≡ node_count graph.now }
-    ensures { OnOk result (HasRead graph.now (label_at labels.now) height m v walk.old.readers walk.old.uppers.items walk.old.ends.items walk.new.readers walk.new.uppers.items walk.new.ends.items) }
+    ensures { OnOk result (Reads graph.now labels.now height m v walk.old walk.new) }
 {
     if !is_live(graph, labels, m) || walk.readers.get(m) != 0 {
         return Ok(());

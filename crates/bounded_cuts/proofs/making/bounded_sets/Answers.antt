@@ -1,9 +1,9 @@
-use Rattle.bounded_cuts.proofs.Common.{refl}
-use Rattle.bounded_cuts.proofs.MakingLemmas.{all_serve, all_sets}
+use Rattle.bounded_cuts.proofs.MakingLemmas.{all_sets}
+use Rattle.bounded_cuts.proofs.ServingLemmas.{sets_serve}
 use Rattle.bounded_cuts.proofs.making.bounded_sets.Goals as goal
 
 pub returns-clause-sets : goal.returns-clause-sets
-returns-clause-sets c = all_sets _ _ _ _ _ _ _ _ _ _ refl c.in_ok-made.ensures.made
+returns-clause-sets c = all_sets c.args.wanted.now _ _ c.in_ok-made.ensures
 
 pub returns-clause-serving : goal.returns-clause-serving
-returns-clause-serving c = all_serve _ _ _ _ _ refl c.in_ok-made.ensures.made.count c.in_ok-made.ensures.serving
+returns-clause-serving c = sets_serve _ c.len-count.ensures.normal _ _ c.requires.labels _ c.requires.lows.cut c.requires.lows.low _ _ _ (all_sets c.args.wanted.now _ _ c.in_ok-made.ensures)

@@ -12,6 +12,6 @@ returns-clause-placed c p can =
     let short = c.in_ok-take-2.ensures.taken p can low.taking in
     let rest = c.in_ok-take-3.ensures.taken p can short.taking in
     let lens : c.len.result ≡ length c.take.new.taken.items = grind arith in
-    placed p c.args.k r cs (λ i l. can.label_is_least i (omega (arith, length-map cands (λ (d : Candidate). d.cut)))) c.take.new.looked c.take-2.new.looked c.take-3.new.looked c.take.new.taken.items c.take-2.new.taken.items c.take-3.new.taken.items
+    placed p c.args.k r cs c.take.new.looked c.take-2.new.looked c.take-3.new.looked c.take.new.taken.items c.take-2.new.taken.items c.take-3.new.taken.items
     (c.most_places-most.result / 2) (c.len.result + c.most_places-most.result / 4) c.most_places-most.result
     (ap (λ (n : ℕ). n / 2) c.most_places-most.ensures.value) (ap (λ (n : ℕ). n + c.most_places-most.result / 4) lens ∙ ap (λ (n : ℕ). length c.take.new.taken.items + n / 4) c.most_places-most.ensures.value) c.most_places-most.ensures.value low short rest

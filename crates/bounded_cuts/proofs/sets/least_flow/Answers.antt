@@ -1,4 +1,4 @@
-use Rattle.bounded_cuts.proofs.Common.{◌≡◌, ℕ, ◌≤◌, ◌<◌, length, min, map, take, get_or, sym, ap, ◌∙◌, arith, In-get_or, candidate_at, cuts_of, cut_flow, MOST_FLOW}
+use Rattle.bounded_cuts.proofs.Common.{◌≡◌, ℕ, ◌≤◌, ◌<◌, length, min, take, get_or, sym, ap, ◌∙◌, arith, In-get_or, cuts_at, cut_flow, MOST_FLOW}
 use Rattle.bounded_cuts.specs.Flow.{least_flow}
 use Rattle.bounded_cuts.proofs.SetLemmas.{map_next, least_push}
 use Rattle.bounded_cuts.proofs.sets.least_flow.Goals as goal
@@ -19,8 +19,8 @@ loop-i-preserved c =
     record {
       value = λ p priced. (
           let flow : x.flow ≡ cut_flow p.flows x.cut = (priced x (In-get_or cands j c.index-candidates-i.result inside)).flow_is in
-          least ∙ ap (λ (n : ℕ). min n x.flow) (c.loop-i.invariant.value p priced) ∙ ap (λ (n : ℕ). min (least_flow p.flows (map (candidate_at (cuts_of cands)) (take c.loop-i.i-index c.args.taken.now))) n) flow
-          ∙ sym (least_push p.flows (map (candidate_at (cuts_of cands)) (take c.loop-i.i-index c.args.taken.now)) x.cut)
+          least ∙ ap (λ (n : ℕ). min n x.flow) (c.loop-i.invariant.value p priced) ∙ ap (λ (n : ℕ). min (least_flow p.flows (cuts_at cands (take c.loop-i.i-index c.args.taken.now))) n) flow
+          ∙ sym (least_push p.flows (cuts_at cands (take c.loop-i.i-index c.args.taken.now)) x.cut)
           ∙ ap (least_flow p.flows) (sym (map_next cands c.args.taken.now c.loop-i.i-index c.index-candidates-i.result c.loop-i-test.true inside)));
       capped = (let m : c.loop-i.least ≤ MOST_FLOW = c.loop-i.invariant.capped in omega arith);
     }

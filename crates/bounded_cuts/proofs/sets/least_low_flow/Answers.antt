@@ -1,4 +1,4 @@
-use Rattle.bounded_cuts.proofs.Common.{◌≡◌, ℕ, ◌≤◌, ◌<◌, List, length, min, map, take, get_or, sym, ap, subst, ◌∙◌, arith, In-get_or, Candidate, candidate_at, cuts_of, MOST_FLOW, label_at, height, if◌then◌else◌}
+use Rattle.bounded_cuts.proofs.Common.{◌≡◌, ℕ, ◌≤◌, ◌<◌, List, length, min, take, get_or, sym, ap, subst, ◌∙◌, arith, In-get_or, Candidate, cuts_at, MOST_FLOW, label_at, height, if◌then◌else◌}
 use Rattle.std.proofs.Common.{nat_lt}
 use Rattle.bounded_cuts.specs.Flow.{least_flow, cuts_within}
 use Rattle.bounded_cuts.proofs.SetLemmas.{map_next, least_low_push, low_value}
@@ -18,7 +18,7 @@ loop-i-preserved c =
     record {
       value = λ p priced. (
           let is = priced x (In-get_or cands j c.index-candidates-i.result inside) in
-          let set = map (candidate_at (cuts_of cands)) (take c.loop-i.i-index c.args.taken.now) in
+          let set = cuts_at cands (take c.loop-i.i-index c.args.taken.now) in
           least ∙ ap (λ (n : ℕ). min n low) (c.loop-i.invariant.value p priced)
           ∙ ap (λ (h : ℕ). min (least_flow p.lows (cuts_within (label_at p.labels) c.args.label set)) (if nat_lt c.args.label h then MOST_FLOW else x.low_flow)) is.height_is
           ∙ ap (λ (n : ℕ). min (least_flow p.lows (cuts_within (label_at p.labels) c.args.label set)) (if nat_lt c.args.label (height (label_at p.labels) x.cut) then MOST_FLOW else n)) is.low_is

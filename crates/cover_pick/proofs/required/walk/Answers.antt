@@ -1,4 +1,4 @@
-use Rattle.cover_pick.proofs.Common.{arith, ◌∙◌, ◌+◌, ◌-◌, ◌≡◌, ℕ, suc, List, Option, length, ap, subst, sym, slice_set, first_and, node_count, row_at, label_at, choice_by, found_in, found_from, need, walk_by, met_at, found_for, AreBestPlaces}
+use Rattle.cover_pick.proofs.Common.{arith, ◌∙◌, ◌+◌, ◌-◌, ◌≡◌, ℕ, suc, List, Option, length, ap, subst, sym, slice_set, first_and, node_count, row_at, label_at, choice_by, found_in, found_from, need, walk_by, met_at, found_for, AreBestPlaces, ArePlacedFrom}
 use Rattle.cover_pick.proofs.WalkLemmas.{walk_step, met_now, met_later}
 use Rattle.cover_pick.proofs.RuleLemmas.{places_next}
 use Rattle.cover_pick.proofs.required.walk.Goals as goal
@@ -12,7 +12,7 @@ loop-i-init c =
     record {
       reqs = ap (λ j. walk_by by (first_and g) j c.args.reqs.now) all;
       met = λ j l. ap (λ k. met_at by (first_and g) k c.args.reqs.now (first_and g + j)) all;
-      places = subst (λ j. AreBestPlaces g c.args.rows.now (found_from c.args.rule g c.args.rows.now (label_at c.args.labels.now) c.args.flows.now c.args.reqs.now) c.args.reqs.now j c.args.places.now) end c.requires.places;
+      places = subst (λ j. ArePlacedFrom c.args.rule g c.args.rows.now c.args.labels.now c.args.flows.now c.args.reqs.now c.args.reqs.now j c.args.places.now) end c.requires.places;
     }
 
 pub loop-i-preserved : goal.loop-i-preserved
@@ -42,4 +42,4 @@ pub returns-clause-places : goal.returns-clause-places
 returns-clause-places c =
     let g = c.args.graph.now in
     let none : first_and g + (length g.pairs - c.loop-i.i) ≡ first_and g = omega arith in
-    subst (λ j. AreBestPlaces g c.args.rows.now (found_from c.args.rule g c.args.rows.now (label_at c.args.labels.now) c.args.flows.now c.args.reqs.now) c.loop-i.reqs j c.loop-i.places) none c.loop-i.invariant.places
+    subst (λ j. ArePlacedFrom c.args.rule g c.args.rows.now c.args.labels.now c.args.flows.now c.args.reqs.now c.loop-i.reqs j c.loop-i.places) none c.loop-i.invariant.places

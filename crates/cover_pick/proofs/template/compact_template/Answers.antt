@@ -1,22 +1,11 @@
-use Rattle.cover_pick.proofs.Common.{◌∙◌, ℕ, List, ap, subst, sym, err_from_is_err_and, lits_of, label_at, low_in, AreRoots, Sets, IsMade, IsLight, IsTooMuch, OrMemory, refusal_of, Lut}
+use Rattle.cover_pick.proofs.Common.{◌∙◌, ℕ, List, ap, subst, sym, lits_of, label_at, low_in, AreRoots, Sets, ArePicked}
 use Rattle.cover_pick.proofs.template.compact_template.Goals as goal
 
-pub cheapest_tables-requires-clause-roots : goal.cheapest_tables-requires-clause-roots
-cheapest_tables-requires-clause-roots c = subst (λ (ls : List ℕ). AreRoots c.args.graph.now ls) (sym (ap lits_of c.deref.ensures.value ∙ c.in_ok-all.ensures)) c.requires.roots
+pub cheapest_tables-picked-requires-clause-roots : goal.cheapest_tables-picked-requires-clause-roots
+cheapest_tables-picked-requires-clause-roots c = subst (AreRoots c.args.graph.now) (sym (ap lits_of c.deref.ensures.value ∙ c.in_ok-all.ensures)) c.requires.roots
 
-pub template_of-requires-clause-all : goal.template_of-requires-clause-all
-template_of-requires-clause-all c = ap lits_of c.deref-2.ensures.value ∙ c.in_ok-all.ensures
+pub template_for-requires-clause-all : goal.template_for-requires-clause-all
+template_for-requires-clause-all c = ap lits_of c.deref-2.ensures.value ∙ c.in_ok-all.ensures
 
-pub returns-clause-template : goal.returns-clause-template
-returns-clause-template c = c.in_ok-template.ensures.template (Sets c.args.k (low_in c.args.lows.now)) (subst (λ (rs : List ℕ). IsMade (Sets c.args.k (low_in c.args.lows.now)) c.args.graph.now (label_at c.args.labels.now) rs c.in_ok-made.made) (ap lits_of c.deref.ensures.value ∙ c.in_ok-all.ensures) c.in_ok-made.ensures.ok)
-
-pub returns-clause-timely : goal.returns-clause-timely
-returns-clause-timely c = c.in_ok-template.ensures.timely (Sets c.args.k (low_in c.args.lows.now)) (subst (λ (rs : List ℕ). IsMade (Sets c.args.k (low_in c.args.lows.now)) c.args.graph.now (label_at c.args.labels.now) rs c.in_ok-made.made) (ap lits_of c.deref.ensures.value ∙ c.in_ok-all.ensures) c.in_ok-made.ensures.ok)
-
-pub returns-clause-light : goal.returns-clause-light
-returns-clause-light c = subst (λ (ts : List Lut). IsLight (Sets c.args.k (low_in c.args.lows.now)) c.args.graph.now ts) (sym c.in_ok-template.ensures.luts) c.in_ok-made.ensures.light
-
-pub returns-in_err-made-clause-work : goal.returns-in_err-made-clause-work
-returns-in_err-made-clause-work c =
-    let p = err_from_is_err_and c.from_residual-in_err-made.result c.from_residual-in_err-made.ensures.1 in
-    rw (p.1, p.2) (subst (λ (ls : List ℕ). OrMemory refusal_of (λ _. IsTooMuch (Sets c.args.k (low_in c.args.lows.now)) c.args.graph.now (label_at c.args.labels.now) ls) c.in_err-made.field-0.0) (ap lits_of c.deref.ensures.value ∙ c.in_ok-all.ensures) c.in_err-made.ensures.err)
+pub returns : goal.returns
+returns c = c.template_for.ensures (Sets c.args.k (low_in c.args.lows.now)) (subst (λ (rs : List ℕ). ArePicked (Sets c.args.k (low_in c.args.lows.now)) c.args.graph.now (label_at c.args.labels.now) rs c.cheapest_tables-picked.result) (ap lits_of c.deref.ensures.value ∙ c.in_ok-all.ensures) c.cheapest_tables-picked.ensures)

@@ -8,8 +8,7 @@ loop-m-init c =
       searching = c.begin.ensures.searching;
       none = c.begin.ensures.none;
       begun = λ j l. absurd (omega arith);
-      room = c.begin.ensures.searching.passed_are.size;
-      size = c.begin.ensures.searching.size;
+      marks = record { room = c.begin.ensures.searching.passed_are.size; size = c.begin.ensures.searching.size };
     }
 
 pub search_from-requires-clause-end : goal.search_from-requires-clause-end
@@ -20,13 +19,8 @@ pub returns-then-branch-clause-ended : goal.returns-then-branch-clause-ended
 returns-then-branch-clause-ended c =
     c.in_ok-search_from.ensures.ended c.if-branch.true
 
-pub returns-then-branch-clause-room : goal.returns-then-branch-clause-room
-returns-then-branch-clause-room c =
-    c.in_ok-search_from.ensures.room ∙ c.loop-m.invariant.room
-
-pub returns-then-branch-clause-size : goal.returns-then-branch-clause-size
-returns-then-branch-clause-size c =
-    c.in_ok-search_from.ensures.size ∙ c.loop-m.invariant.size
+pub returns-then-branch-clause-marks : goal.returns-then-branch-clause-marks
+returns-then-branch-clause-marks c = record { room = c.in_ok-search_from.ensures.marks.room ∙ c.loop-m.invariant.marks.room; size = c.in_ok-search_from.ensures.marks.size ∙ c.loop-m.invariant.marks.size }
 
 pub loop-m-preserved : goal.loop-m-preserved
 loop-m-preserved c =
@@ -37,8 +31,7 @@ loop-m-preserved c =
         | inl b ↦ c.in_ok-search_from.ensures.kept _ (c.loop-m.invariant.begun j b)
         | inr b ↦ (let e : c.loop-m.m-index ≡ j = omega arith in subst (λ i. In c.search_from.new.search.queue.items (get_or c.ends-ends.result.now i 0)) e (c.in_ok-search_from.ensures.there c.if-branch.false))
       ];
-      room = c.in_ok-search_from.ensures.room ∙ c.loop-m.invariant.room;
-      size = c.in_ok-search_from.ensures.size ∙ c.loop-m.invariant.size;
+      marks = record { room = c.in_ok-search_from.ensures.marks.room ∙ c.loop-m.invariant.marks.room; size = c.in_ok-search_from.ensures.marks.size ∙ c.loop-m.invariant.marks.size };
     }
 
 pub returns-clause-ended : goal.returns-clause-ended

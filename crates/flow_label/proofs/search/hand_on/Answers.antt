@@ -107,13 +107,11 @@ pub returns-then-branch-clause-kept : goal.returns-then-branch-clause-kept
 returns-then-branch-clause-kept c =
     (extends1 c.args.site.now c.args.links.now.owners c.args.links.now.starts.items c.requires.linked c.node-node.ensures.net c.node-node.ensures.small c.args.search.now.seen c.args.search.now.queue.items c.args.search.now.backs.items c.args.search.now.passed c.args.search.now.stack.items c.args.place c.index.result.now c.owner-a.result c.requires.searching c.index.ensures c.owner-a.ensures (λ e. c.if-a-node.false (e ∙ sym c.node-node.ensures.is)) c.in_ok-meet.field-0 c.meet.new.search.seen c.meet.new.search.queue.items c.meet.new.search.backs.items c.meet.new.search.stack.items c.meet.new.search.passed c.in_ok-meet.ensures.met (c.in_ok-meet.ensures.passed ∙ c.set.ensures)).kept
 
-pub returns-then-branch-clause-room : goal.returns-then-branch-clause-room
-returns-then-branch-clause-room c =
-    ap length c.in_ok-meet.ensures.passed ∙ (ap length c.set.ensures ∙ length-set c.args.search.now.passed c.owner-a.result 1)
-
-pub returns-then-branch-clause-size : goal.returns-then-branch-clause-size
-returns-then-branch-clause-size c =
-    size1 c.args.site.now c.args.links.now.owners c.args.links.now.starts.items c.requires.linked c.node-node.ensures.net c.node-node.ensures.small c.args.search.now.seen c.args.search.now.queue.items c.args.search.now.backs.items c.args.search.now.passed c.args.search.now.stack.items c.args.place c.index.result.now c.owner-a.result c.requires.searching c.index.ensures c.owner-a.ensures (λ e. c.if-a-node.false (e ∙ sym c.node-node.ensures.is)) c.in_ok-meet.field-0 c.meet.new.search.seen c.meet.new.search.queue.items c.meet.new.search.backs.items c.meet.new.search.stack.items c.meet.new.search.passed c.in_ok-meet.ensures.met (c.in_ok-meet.ensures.passed ∙ c.set.ensures)
+pub returns-then-branch-clause-marks : goal.returns-then-branch-clause-marks
+returns-then-branch-clause-marks c = record {
+  room = ap length c.in_ok-meet.ensures.passed ∙ (ap length c.set.ensures ∙ length-set c.args.search.now.passed c.owner-a.result 1);
+  size = size1 c.args.site.now c.args.links.now.owners c.args.links.now.starts.items c.requires.linked c.node-node.ensures.net c.node-node.ensures.small c.args.search.now.seen c.args.search.now.queue.items c.args.search.now.backs.items c.args.search.now.passed c.args.search.now.stack.items c.args.place c.index.result.now c.owner-a.result c.requires.searching c.index.ensures c.owner-a.ensures (λ e. c.if-a-node.false (e ∙ sym c.node-node.ensures.is)) c.in_ok-meet.field-0 c.meet.new.search.seen c.meet.new.search.queue.items c.meet.new.search.backs.items c.meet.new.search.stack.items c.meet.new.search.passed c.in_ok-meet.ensures.met (c.in_ok-meet.ensures.passed ∙ c.set.ensures);
+}
 
 pub returns-then-branch-2-clause-ended : goal.returns-then-branch-2-clause-ended
 returns-then-branch-2-clause-ended c =
@@ -123,13 +121,11 @@ pub returns-then-branch-2-clause-kept : goal.returns-then-branch-2-clause-kept
 returns-then-branch-2-clause-kept c =
     (extends2 c.args.site.now c.args.links.now.owners c.args.links.now.starts.items c.requires.linked c.node-node.ensures.net c.node-node.ensures.small c.args.search.now.seen c.args.search.now.queue.items c.args.search.now.backs.items c.args.search.now.passed c.args.search.now.stack.items c.args.place c.index.result.now c.owner-a.result c.requires.searching c.index.ensures c.owner-a.ensures (λ e. c.if-a-node.false (e ∙ sym c.node-node.ensures.is)) c.in_ok-meet.field-0 c.meet.new.search.seen c.meet.new.search.queue.items c.meet.new.search.backs.items c.meet.new.search.stack.items c.meet.new.search.passed c.in_ok-meet.ensures.met (c.in_ok-meet.ensures.passed ∙ c.set.ensures) c.if-branch.false c.fan_ins-below.result.far c.fan_ins-below.ensures.far c.in_ok-meet-2.field-0 c.meet-2.new.search.seen c.meet-2.new.search.queue.items c.meet-2.new.search.backs.items c.meet-2.new.search.stack.items c.meet-2.new.search.passed c.in_ok-meet-2.ensures.met c.in_ok-meet-2.ensures.passed).kept
 
-pub returns-then-branch-2-clause-room : goal.returns-then-branch-2-clause-room
-returns-then-branch-2-clause-room c =
-    ap length c.in_ok-meet-2.ensures.passed ∙ (ap length c.in_ok-meet.ensures.passed ∙ (ap length c.set.ensures ∙ length-set c.args.search.now.passed c.owner-a.result 1))
-
-pub returns-then-branch-2-clause-size : goal.returns-then-branch-2-clause-size
-returns-then-branch-2-clause-size c =
-    size2 c.args.site.now c.args.links.now.owners c.args.links.now.starts.items c.requires.linked c.node-node.ensures.net c.node-node.ensures.small c.args.search.now.seen c.args.search.now.queue.items c.args.search.now.backs.items c.args.search.now.passed c.args.search.now.stack.items c.args.place c.index.result.now c.owner-a.result c.requires.searching c.index.ensures c.owner-a.ensures (λ e. c.if-a-node.false (e ∙ sym c.node-node.ensures.is)) c.in_ok-meet.field-0 c.meet.new.search.seen c.meet.new.search.queue.items c.meet.new.search.backs.items c.meet.new.search.stack.items c.meet.new.search.passed c.in_ok-meet.ensures.met (c.in_ok-meet.ensures.passed ∙ c.set.ensures) c.if-branch.false c.fan_ins-below.result.far c.fan_ins-below.ensures.far c.in_ok-meet-2.field-0 c.meet-2.new.search.seen c.meet-2.new.search.queue.items c.meet-2.new.search.backs.items c.meet-2.new.search.stack.items c.meet-2.new.search.passed c.in_ok-meet-2.ensures.met c.in_ok-meet-2.ensures.passed
+pub returns-then-branch-2-clause-marks : goal.returns-then-branch-2-clause-marks
+returns-then-branch-2-clause-marks c = record {
+  room = ap length c.in_ok-meet-2.ensures.passed ∙ (ap length c.in_ok-meet.ensures.passed ∙ (ap length c.set.ensures ∙ length-set c.args.search.now.passed c.owner-a.result 1));
+  size = size2 c.args.site.now c.args.links.now.owners c.args.links.now.starts.items c.requires.linked c.node-node.ensures.net c.node-node.ensures.small c.args.search.now.seen c.args.search.now.queue.items c.args.search.now.backs.items c.args.search.now.passed c.args.search.now.stack.items c.args.place c.index.result.now c.owner-a.result c.requires.searching c.index.ensures c.owner-a.ensures (λ e. c.if-a-node.false (e ∙ sym c.node-node.ensures.is)) c.in_ok-meet.field-0 c.meet.new.search.seen c.meet.new.search.queue.items c.meet.new.search.backs.items c.meet.new.search.stack.items c.meet.new.search.passed c.in_ok-meet.ensures.met (c.in_ok-meet.ensures.passed ∙ c.set.ensures) c.if-branch.false c.fan_ins-below.result.far c.fan_ins-below.ensures.far c.in_ok-meet-2.field-0 c.meet-2.new.search.seen c.meet-2.new.search.queue.items c.meet-2.new.search.backs.items c.meet-2.new.search.stack.items c.meet-2.new.search.passed c.in_ok-meet-2.ensures.met c.in_ok-meet-2.ensures.passed;
+}
 
 pub returns-clause-on : goal.returns-clause-on
 returns-clause-on c =
@@ -147,10 +143,8 @@ pub returns-clause-lengths : goal.returns-clause-lengths
 returns-clause-lengths c =
     lengths3 c.args.site.now c.args.links.now.owners c.args.links.now.starts.items c.requires.linked c.node-node.ensures.net c.node-node.ensures.small c.args.search.now.seen c.args.search.now.queue.items c.args.search.now.backs.items c.args.search.now.passed c.args.search.now.stack.items c.args.place c.index.result.now c.owner-a.result c.requires.searching c.index.ensures c.owner-a.ensures (λ e. c.if-a-node.false (e ∙ sym c.node-node.ensures.is)) c.in_ok-meet.field-0 c.meet.new.search.seen c.meet.new.search.queue.items c.meet.new.search.backs.items c.meet.new.search.stack.items c.meet.new.search.passed c.in_ok-meet.ensures.met (c.in_ok-meet.ensures.passed ∙ c.set.ensures) c.if-branch.false c.fan_ins-below.result.far c.fan_ins-below.ensures.far c.in_ok-meet-2.field-0 c.meet-2.new.search.seen c.meet-2.new.search.queue.items c.meet-2.new.search.backs.items c.meet-2.new.search.stack.items c.meet-2.new.search.passed c.in_ok-meet-2.ensures.met c.in_ok-meet-2.ensures.passed c.if-branch-2.false c.fan_ins-below.result.near c.fan_ins-below.ensures.near c.fan_ins-below.ensures.all c.in_ok-ends.ends c.meet-3.new.search.seen c.meet-3.new.search.queue.items c.meet-3.new.search.backs.items c.meet-3.new.search.stack.items c.meet-3.new.search.passed c.in_ok-ends.ensures.met c.in_ok-ends.ensures.passed
 
-pub returns-clause-room : goal.returns-clause-room
-returns-clause-room c =
-    ap length c.in_ok-ends.ensures.passed ∙ (ap length c.in_ok-meet-2.ensures.passed ∙ (ap length c.in_ok-meet.ensures.passed ∙ (ap length c.set.ensures ∙ length-set c.args.search.now.passed c.owner-a.result 1)))
-
-pub returns-clause-size : goal.returns-clause-size
-returns-clause-size c =
-    size3 c.args.site.now c.args.links.now.owners c.args.links.now.starts.items c.requires.linked c.node-node.ensures.net c.node-node.ensures.small c.args.search.now.seen c.args.search.now.queue.items c.args.search.now.backs.items c.args.search.now.passed c.args.search.now.stack.items c.args.place c.index.result.now c.owner-a.result c.requires.searching c.index.ensures c.owner-a.ensures (λ e. c.if-a-node.false (e ∙ sym c.node-node.ensures.is)) c.in_ok-meet.field-0 c.meet.new.search.seen c.meet.new.search.queue.items c.meet.new.search.backs.items c.meet.new.search.stack.items c.meet.new.search.passed c.in_ok-meet.ensures.met (c.in_ok-meet.ensures.passed ∙ c.set.ensures) c.if-branch.false c.fan_ins-below.result.far c.fan_ins-below.ensures.far c.in_ok-meet-2.field-0 c.meet-2.new.search.seen c.meet-2.new.search.queue.items c.meet-2.new.search.backs.items c.meet-2.new.search.stack.items c.meet-2.new.search.passed c.in_ok-meet-2.ensures.met c.in_ok-meet-2.ensures.passed c.if-branch-2.false c.fan_ins-below.result.near c.fan_ins-below.ensures.near c.fan_ins-below.ensures.all c.in_ok-ends.ends c.meet-3.new.search.seen c.meet-3.new.search.queue.items c.meet-3.new.search.backs.items c.meet-3.new.search.stack.items c.meet-3.new.search.passed c.in_ok-ends.ensures.met c.in_ok-ends.ensures.passed
+pub returns-clause-marks : goal.returns-clause-marks
+returns-clause-marks c = record {
+  room = ap length c.in_ok-ends.ensures.passed ∙ (ap length c.in_ok-meet-2.ensures.passed ∙ (ap length c.in_ok-meet.ensures.passed ∙ (ap length c.set.ensures ∙ length-set c.args.search.now.passed c.owner-a.result 1)));
+  size = size3 c.args.site.now c.args.links.now.owners c.args.links.now.starts.items c.requires.linked c.node-node.ensures.net c.node-node.ensures.small c.args.search.now.seen c.args.search.now.queue.items c.args.search.now.backs.items c.args.search.now.passed c.args.search.now.stack.items c.args.place c.index.result.now c.owner-a.result c.requires.searching c.index.ensures c.owner-a.ensures (λ e. c.if-a-node.false (e ∙ sym c.node-node.ensures.is)) c.in_ok-meet.field-0 c.meet.new.search.seen c.meet.new.search.queue.items c.meet.new.search.backs.items c.meet.new.search.stack.items c.meet.new.search.passed c.in_ok-meet.ensures.met (c.in_ok-meet.ensures.passed ∙ c.set.ensures) c.if-branch.false c.fan_ins-below.result.far c.fan_ins-below.ensures.far c.in_ok-meet-2.field-0 c.meet-2.new.search.seen c.meet-2.new.search.queue.items c.meet-2.new.search.backs.items c.meet-2.new.search.stack.items c.meet-2.new.search.passed c.in_ok-meet-2.ensures.met c.in_ok-meet-2.ensures.passed c.if-branch-2.false c.fan_ins-below.result.near c.fan_ins-below.ensures.near c.fan_ins-below.ensures.all c.in_ok-ends.ends c.meet-3.new.search.seen c.meet-3.new.search.queue.items c.meet-3.new.search.backs.items c.meet-3.new.search.stack.items c.meet-3.new.search.passed c.in_ok-ends.ensures.met c.in_ok-ends.ensures.passed;
+}

@@ -29,13 +29,11 @@ pub returns-then-branch-clause-kept : goal.returns-then-branch-clause-kept
 returns-then-branch-clause-kept c =
     end_kept c.args.site.now c.args.links.now.owners c.args.links.now.starts.items c.requires.linked c.node-node.ensures.net c.args.search.now.seen c.args.search.now.queue.items c.args.search.now.backs.items c.args.search.now.passed c.args.search.now.stack.items c.args.m c.requires.searching c.requires.none c.requires.end c.in_ok-meet.field-0 c.meet.new.search.seen c.meet.new.search.queue.items c.meet.new.search.backs.items c.meet.new.search.stack.items c.in_ok-meet.ensures.met
 
-pub returns-then-branch-clause-room : goal.returns-then-branch-clause-room
-returns-then-branch-clause-room c =
-    ap length c.in_ok-meet.ensures.passed
-
-pub returns-then-branch-clause-size : goal.returns-then-branch-clause-size
-returns-then-branch-clause-size c =
-    met_size (net_of c.args.site.now) (owner_in c.args.site.now c.args.links.now.owners) c.args.m 0 c.in_ok-meet.field-0 c.args.search.now.seen c.args.search.now.queue.items c.args.search.now.backs.items c.args.search.now.stack.items c.meet.new.search.seen c.meet.new.search.queue.items c.meet.new.search.backs.items c.meet.new.search.stack.items c.in_ok-meet.ensures.met
+pub returns-then-branch-clause-marks : goal.returns-then-branch-clause-marks
+returns-then-branch-clause-marks c = record {
+  room = ap length c.in_ok-meet.ensures.passed;
+  size = met_size (net_of c.args.site.now) (owner_in c.args.site.now c.args.links.now.owners) c.args.m 0 c.in_ok-meet.field-0 c.args.search.now.seen c.args.search.now.queue.items c.args.search.now.backs.items c.args.search.now.stack.items c.meet.new.search.seen c.meet.new.search.queue.items c.meet.new.search.backs.items c.meet.new.search.stack.items c.in_ok-meet.ensures.met;
+}
 
 pub loop-place-init : goal.loop-place-init
 loop-place-init c =
@@ -43,8 +41,10 @@ loop-place-init c =
       searching = end_met c.args.site.now c.args.links.now.owners c.args.links.now.starts.items c.requires.linked c.node-node.ensures.net c.args.search.now.seen c.args.search.now.queue.items c.args.search.now.backs.items c.args.search.now.passed c.args.search.now.stack.items c.args.m c.requires.searching c.requires.none c.requires.end c.in_ok-meet.field-0 c.meet.new.search.seen c.meet.new.search.queue.items c.meet.new.search.backs.items c.meet.new.search.stack.items c.in_ok-meet.ensures.met c.meet.new.search.passed c.in_ok-meet.ensures.passed c.if-branch.false;
       there = end_there c.args.site.now c.args.links.now.owners c.args.links.now.starts.items c.requires.linked c.node-node.ensures.net c.args.search.now.seen c.args.search.now.queue.items c.args.search.now.backs.items c.args.search.now.passed c.args.search.now.stack.items c.args.m c.requires.searching c.requires.none c.requires.end c.in_ok-meet.field-0 c.meet.new.search.seen c.meet.new.search.queue.items c.meet.new.search.backs.items c.meet.new.search.stack.items c.in_ok-meet.ensures.met c.if-branch.false;
       kept = end_kept c.args.site.now c.args.links.now.owners c.args.links.now.starts.items c.requires.linked c.node-node.ensures.net c.args.search.now.seen c.args.search.now.queue.items c.args.search.now.backs.items c.args.search.now.passed c.args.search.now.stack.items c.args.m c.requires.searching c.requires.none c.requires.end c.in_ok-meet.field-0 c.meet.new.search.seen c.meet.new.search.queue.items c.meet.new.search.backs.items c.meet.new.search.stack.items c.in_ok-meet.ensures.met;
-      room = ap length c.in_ok-meet.ensures.passed;
-      size = met_size (net_of c.args.site.now) (owner_in c.args.site.now c.args.links.now.owners) c.args.m 0 c.in_ok-meet.field-0 c.args.search.now.seen c.args.search.now.queue.items c.args.search.now.backs.items c.args.search.now.stack.items c.meet.new.search.seen c.meet.new.search.queue.items c.meet.new.search.backs.items c.meet.new.search.stack.items c.in_ok-meet.ensures.met;
+      marks = record {
+        room = ap length c.in_ok-meet.ensures.passed;
+        size = met_size (net_of c.args.site.now) (owner_in c.args.site.now c.args.links.now.owners) c.args.m 0 c.in_ok-meet.field-0 c.args.search.now.seen c.args.search.now.queue.items c.args.search.now.backs.items c.args.search.now.stack.items c.meet.new.search.seen c.meet.new.search.queue.items c.meet.new.search.backs.items c.meet.new.search.stack.items c.in_ok-meet.ensures.met;
+      };
     }
 
 pub hand_on-requires-clause-searching : goal.hand_on-requires-clause-searching
@@ -59,13 +59,8 @@ pub returns-then-branch-2-clause-kept : goal.returns-then-branch-2-clause-kept
 returns-then-branch-2-clause-kept c =
     λ u i. c.in_ok-hand_on.ensures.kept u (c.loop-place.invariant.kept u i)
 
-pub returns-then-branch-2-clause-room : goal.returns-then-branch-2-clause-room
-returns-then-branch-2-clause-room c =
-    c.in_ok-hand_on.ensures.room ∙ c.loop-place.invariant.room
-
-pub returns-then-branch-2-clause-size : goal.returns-then-branch-2-clause-size
-returns-then-branch-2-clause-size c =
-    c.in_ok-hand_on.ensures.size ∙ c.loop-place.invariant.size
+pub returns-then-branch-2-clause-marks : goal.returns-then-branch-2-clause-marks
+returns-then-branch-2-clause-marks c = record { room = c.in_ok-hand_on.ensures.marks.room ∙ c.loop-place.invariant.marks.room; size = c.in_ok-hand_on.ensures.marks.size ∙ c.loop-place.invariant.marks.size }
 
 pub loop-place-preserved : goal.loop-place-preserved
 loop-place-preserved c =
@@ -73,8 +68,7 @@ loop-place-preserved c =
       searching = c.in_ok-hand_on.ensures.on c.if-branch-2.false;
       there = c.in_ok-hand_on.ensures.kept c.args.m c.loop-place.invariant.there;
       kept = λ u i. c.in_ok-hand_on.ensures.kept u (c.loop-place.invariant.kept u i);
-      room = c.in_ok-hand_on.ensures.room ∙ c.loop-place.invariant.room;
-      size = c.in_ok-hand_on.ensures.size ∙ c.loop-place.invariant.size;
+      marks = record { room = c.in_ok-hand_on.ensures.marks.room ∙ c.loop-place.invariant.marks.room; size = c.in_ok-hand_on.ensures.marks.size ∙ c.loop-place.invariant.marks.size };
     }
 
 pub loop-place-smaller : goal.loop-place-smaller
