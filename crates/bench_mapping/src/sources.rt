@@ -1,14 +1,10 @@
 //! The sources of a graph: how many are parameters, and their shape.
 ghost use Rattle.std.specs.Prelude.{◌≡◌, ℕ, ◌<◌, ◌≤◌, true, List, [], ◌∷◌, Some, length};
-ghost use Rattle.list_laws.specs.Members.{In};
 ghost use Rattle.aig_core.specs.Aig.{first_and, IsSource};
-ghost use Rattle.aig_core.specs.Roots.{lits_of};
 ghost use Rattle.bit_fun.specs.Parameters.{param_count as the_param_count};
-ghost use Rattle.cover_pick.specs.Mapping.{IsMapping};
 ghost use Rattle.cover_pick.specs.Template.{TemplateValue};
 ghost use Rattle.lut_sim.specs.declared.shape.Shape.{Shape as ShapeValue};
-ghost use Rattle.lut_sim.specs.GraphShape.{HasShape};
-ghost use Rattle.lut_sim.specs.Playable.{IsPlayable};
+ghost use Rattle.lut_sim.specs.GraphShape.{HasShape, PlaysRoots};
 
 use aig_core::{Graph, Kind};
 use lut_sim::Shape;
@@ -83,7 +79,7 @@ fn has_shape(graph: &Graph, shape: Shape) -> bool
 /// The shape of a graph whose last sources are so many latches, behind so many parameters; `None` where they are not.
 pub fn shape_of(graph: &Graph, params: u32, latches: u32) -> Option<Shape>
     // A template of the graph can be played.
-    ensures playable { (shape : ShapeValue) (k : ℕ) (roots : List ℕ) (t : TemplateValue) → result ≡ Some shape → IsMapping graph.now k roots t.luts t.bits → ((l : ℕ) → In (lits_of t.outputs) l → In roots l) → ((l : ℕ) → In (lits_of t.next) l → In roots l) → length t.next ≡ latches → IsPlayable t shape }
+    ensures playable { (shape : ShapeValue) (k : ℕ) (roots : List ℕ) (t : TemplateValue) → result ≡ Some shape → PlaysRoots graph.now k roots latches t shape }
     ensures latches { (shape : ShapeValue) → result ≡ Some shape → shape.latches ≡ latches }
 {
     let regular = graph.sources().checked_sub(params)?.checked_sub(latches)?;

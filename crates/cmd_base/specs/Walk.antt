@@ -166,3 +166,7 @@ Ends walk old new before after (outcome.Refused file refusal) = Explains walk.re
 Ends walk old new before after (outcome.ReadFault file) = Explains walk.reading old new (outcome.ReadFault file) × (after ≡ before)
 Ends walk old new before after outcome.Memory = (after ≡ before) × (walk.WritesFiles → new.is_writing ≡ false)
 Ends walk old new before after outcome.Usage = ⊥
+
+-- how a call without ports ends, whatever ports there are
+abbrev pub PortlessEnds : Walk → ShelfSeen → ShelfSeen → SinkSeen → SinkSeen → Outcome → Type 0
+PortlessEnds walk old new before after outcome = (ports : List PortSeen) → Ends walk old new (outside old before ports) (outside new after ports) outcome

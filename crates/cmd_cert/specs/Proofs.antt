@@ -1,12 +1,17 @@
 -- The certificate of a labelled source circuit, as the code makes it, and the outcome of a certificate's refusal; out of memory has none.
-use Rattle.std.specs.Prelude.{◌≡◌, ℕ, string_bytes, Option, Some, None}
+use Rattle.std.specs.Prelude.{◌≡◌, ℕ, List, [], ◌∷◌, string_bytes, Option, Some, None, Result}
+use Rattle.tl_io.specs.Port.{PortSeen}
+use Rattle.tl_io.specs.Shelf.{ShelfSeen}
+use Rattle.tl_io.specs.Sink.{SinkSeen}
 use Rattle.aig_core.specs.Roots.{roots_of}
 use Rattle.cut_sets.specs.Covers.{IsLeastDepth}
 use Rattle.cut_sets.specs.Labels.{label_at}
 use Rattle.cover_pick.specs.declared.rule.Rule.{Rule}
 use Rattle.cert_check.specs.Valid.{IsValid}
-use Rattle.cert_check.specs.WrittenText.{IsWritable}
+use Rattle.cert_check.specs.WrittenText.{IsWritable, cert_text}
 use Rattle.flow_cert.specs.Needed.{AreLabelClaims, AreNeeded}
+use Rattle.cmd_base.specs.Walk.{outside}
+use Rattle.cmd_stations.specs.FileWrites.{WritesAll}
 use Rattle.cmd_stations.specs.Mapped.{AreLabelsBy}
 use Rattle.cmd_cert.specs.declared.prove.job.Proof.{Proof}
 use Rattle.cmd_cert.specs.Certs.{proved_line}
@@ -25,6 +30,11 @@ pub record IsProof (rule : Rule) (k : ℕ) (p : Proof) : Type 0 where
   pub needed : AreNeeded p.labelled.built.graph (roots_of p.labelled.built.roots) (label_at p.labelled.labels) p.cert
   pub writable : IsWritable p.cert
   pub line : string_bytes p.line ≡ proved_line p.cert.depth
+
+-- The certificate's file is written and then the line, whatever ports there are.
+abbrev pub WritesProof : {E : Type 0} → List ℕ → Proof → ShelfSeen → ShelfSeen → SinkSeen → SinkSeen → Result Unit E → Type 0
+WritesProof name p old new before after result =
+    (ports : List PortSeen) → WritesAll (record { name = name; bytes = cert_text p.cert } ∷ []) (string_bytes p.line) (outside old before ports) (outside new after ports) result
 
 -- The outcome of a certificate's refusal; out of memory has none.
 abbrev pub outcome_by : Option RefusalValue → Outcome

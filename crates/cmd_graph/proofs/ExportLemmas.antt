@@ -90,5 +90,5 @@ module _ (b : BuiltSource) (is : IsBuiltSource b) (regular : List ℕ) where
       alike = law.alike clean;
       weight = law.weight;
       fit = law.fit;
-      runs = law.runs library is.read.netlist.cycles is.cycles;
+      runs = law.runs library is.cycles;
     }

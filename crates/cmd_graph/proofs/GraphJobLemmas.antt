@@ -1,5 +1,5 @@
 -- A job of `graph`: a source circuit that has a graph is accepted, and the circuit of its graph is the verdict's, whole or cut off.
-use Rattle.cmd_graph.proofs.Common.{◌≡◌, ◌≤◌, ℕ, List, [], ◌∷◌, Some, subst, Result, string_bytes, Files, ShelfSeen, Circuit, circuit_text, FileText, writing_outcome, WritesAll, BuiltSource, ComesToGraph, GraphWords, circuit_at, HasExport, HasGraphJob, graph_walk, writing_ends, ◌⊎◌, Option, Ok, Err, emptied, WritesFile, not_begun}
+use Rattle.cmd_graph.proofs.Common.{◌≡◌, ◌≤◌, ℕ, List, [], ◌∷◌, Some, subst, Result, string_bytes, Files, ShelfSeen, FileText, writing_outcome, WritesAll, BuiltSource, ComesToGraph, GraphWords, HasExport, HasGraphJob, graph_walk, writing_ends, ◌⊎◌, Option, Ok, Err, emptied, WritesFile, not_begun}
 use Rattle.tl_text.specs.declared.logical_lines.TheConstants.{MOST_BYTES}
 use Rattle.tl_fault.specs.RefusalValue.{RefusalValue}
 use Rattle.tl_io.specs.Port.{PortSeen}
@@ -11,7 +11,7 @@ use Rattle.cmd_stations.specs.Mapped.{ToGraph}
 use Rattle.cmd_stations.specs.Source.{IsSourceRefused, IsSourceSettled}
 use Rattle.cmd_stations.proofs.RefusedLemmas.{refused_unmade, source_refused_once}
 use Rattle.cmd_graph.specs.declared.export.Export.{Export}
-use Rattle.cmd_graph.specs.Exports.{IsExport}
+use Rattle.cmd_graph.specs.Exports.{IsExport, export_text}
 use Rattle.std.specs.Result.{IsErr}
 
 -- a source circuit whose graph was made is accepted
@@ -19,11 +19,8 @@ graph_begun : (files : Files) (words : GraphWords) (b : BuiltSource) → ComesTo
 graph_begun files words b past = record { accepted = record { source = b.source; graph = b.graph; roots = b.roots; has = past.has }; settled = past.settled }
 
 module _ (words : GraphWords) (e : Export) (is : IsExport e) where
-  abbrev circuit : Circuit
-  circuit = circuit_at e.built.source e.regular.items e.built.graph e.built.roots
-
   abbrev texts : List FileText
-  texts = record { name = words.out; bytes = circuit_text circuit } ∷ []
+  texts = export_text words.out e ∷ []
 
   -- a job that came past its graph, and wrote
   module _ (old mid new : ShelfSeen) (same : (out : SinkSeen) (ports : List PortSeen) → outside mid out ports ≡ outside old out ports) (few : mid.given ≤ MOST_BYTES) (given : new.given ≡ mid.given) (comes : Told old.files (λ files. ComesToGraph files words.source e.built))

@@ -1,13 +1,11 @@
 //! Preparing and writing the graph of a source circuit.
 ghost use Rattle.std.specs.Prelude.{◌≡◌, IfOk, string_bytes};
 ghost use Rattle.param_list.specs.RegularPlaces.{AreRegularPlaces};
-ghost use Rattle.aiger_io.specs.GraphCircuit.{IsWrittenFrom};
 ghost use Rattle.tl_io.specs.Causes.{HasCause};
-ghost use Rattle.aiger_io.specs.WrittenText.{circuit_text};
 ghost use Rattle.cmd_stations.specs.Tables.{IsBuiltSource};
 ghost use Rattle.cmd_stations.specs.FileWrites.{WritesFile};
-ghost use Rattle.cmd_graph.specs.Graph.{graph_line, circuit_at, IsExported};
-ghost use Rattle.cmd_graph.specs.Exports.{IsExport};
+ghost use Rattle.cmd_graph.specs.Graph.{graph_line, IsExported};
+ghost use Rattle.cmd_graph.specs.Exports.{circuit_of, IsWrittenAt, IsExport, export_text};
 
 use aiger_io::{graph_law, put_aag};
 use cmd_stations::BuiltSource;
@@ -27,7 +25,7 @@ pub struct Export {
 fn regular_places(alloc: Global, built: &BuiltSource) -> Result<Vec<u32>, AllocError>
     requires { IsBuiltSource built.now }
     ensures places { IfOk result (λ places. AreRegularPlaces built.now.source.netlist.flat built.now.source.params.list places.items) }
-    ensures written { IfOk result (λ places. IsWrittenFrom built.now.source.netlist.flat built.now.source.params.list places.items built.now.graph built.now.roots) }
+    ensures written { IfOk result (λ places. IsWrittenAt built.now places.items) }
 {
     let places = regular(alloc, &built.source.netlist.flat, &built.source.params)?;
     Ok(places)
@@ -35,8 +33,8 @@ fn regular_places(alloc: Global, built: &BuiltSource) -> Result<Vec<u32>, AllocE
 
 // The line with the graph's counts.
 fn counts_line(alloc: Global, built: &BuiltSource, regular: &[u32]) -> Result<String, AllocError>
-    requires { IsWrittenFrom built.now.source.netlist.flat built.now.source.params.list regular.now built.now.graph built.now.roots }
-    ensures { IfOk result (λ line. string_bytes line ≡ graph_line (circuit_at built.now.source regular.now built.now.graph built.now.roots).header) }
+    requires { IsWrittenAt built.now regular.now }
+    ensures { IfOk result (λ line. string_bytes line ≡ graph_line (circuit_of built.now regular.now).header) }
 {
     let inputs = regular.len() + built.source.params.list.len();
     let latches = built.source.netlist.flat.latches.len();
@@ -47,8 +45,8 @@ fn counts_line(alloc: Global, built: &BuiltSource, regular: &[u32]) -> Result<St
 // The law of the circuit that is written: it is that of the source circuit. The body is empty: the call is its contract.
 fn export_law(built: &BuiltSource, regular: &[u32])
     requires built { IsBuiltSource built.now }
-    requires written { IsWrittenFrom built.now.source.netlist.flat built.now.source.params.list regular.now built.now.graph built.now.roots }
-    ensures { IsExported built.now.source (circuit_at built.now.source regular.now built.now.graph built.now.roots) }
+    requires written { IsWrittenAt built.now regular.now }
+    ensures { IsExported built.now.source (circuit_of built.now regular.now) }
 {
     let source = &built.source;
     graph_law(
@@ -97,7 +95,7 @@ pub fn make_export(alloc: Global, built: BuiltSource) -> Result<Export, AllocErr
 pub fn write_export<S: Shelf>(export: &Export, name: &str, shelf: &mut S) -> Result<(), Failed>
     requires { IsExport export.now }
     ensures cause { HasCause (S.seen shelf.old).write_faults (S.seen shelf.new).write_faults result }
-    ensures written { WritesFile (record { name = name.now; bytes = circuit_text (circuit_at export.now.built.source export.now.regular.items export.now.built.graph export.now.built.roots) }) (S.seen shelf.old).files (S.seen shelf.new).files result }
+    ensures written { WritesFile (export_text name.now export.now) (S.seen shelf.old).files (S.seen shelf.new).files result }
     ensures given { (S.seen shelf.new).given ≡ (S.seen shelf.old).given }
 {
     let source = &export.built.source;

@@ -1,15 +1,12 @@
 //! The command `graph`.
-ghost use Rattle.std.specs.Prelude.{◌≡◌, ◌≤◌, List, [], ◌∷◌, false, string_bytes, IfOk, IfErr, OnOk};
+ghost use Rattle.std.specs.Prelude.{◌≡◌, ◌≤◌, false, IfOk, IfErr, OnOk};
 ghost use Rattle.tl_text.specs.declared.logical_lines.TheConstants.{MOST_BYTES};
-ghost use Rattle.tl_io.specs.Port.{PortSeen};
-ghost use Rattle.aiger_io.specs.WrittenText.{circuit_text};
-ghost use Rattle.cmd_base.specs.Walk.{outside, KeepsFiles, Ends, Explains, Told, HasLaws};
+ghost use Rattle.cmd_base.specs.Walk.{KeepsFiles, PortlessEnds, Explains, Told, HasLaws};
 ghost use Rattle.cmd_stations.specs.Mapped.{ToGraph};
 ghost use Rattle.cmd_stations.specs.Source.{source_reading};
 ghost use Rattle.cmd_stations.specs.Tables.{ComesToGraph};
-ghost use Rattle.cmd_stations.specs.FileWrites.{WritesAll};
-ghost use Rattle.cmd_graph.specs.Graph.{graph_seen, circuit_at, graph_walk};
-ghost use Rattle.cmd_graph.specs.Exports.{IsExport};
+ghost use Rattle.cmd_graph.specs.Graph.{graph_seen, graph_walk};
+ghost use Rattle.cmd_graph.specs.Exports.{IsExport, WritesExport};
 
 use crate::export::{Export, make_export, write_export};
 use crate::words::GraphWords;
@@ -49,7 +46,7 @@ fn write_out<S: Shelf, O: Sink>(
     out: &mut O,
 ) -> Result<(), Failed>
     requires { IsExport export.now }
-    ensures ends { (ports : List PortSeen) → WritesAll (record { name = name.now; bytes = circuit_text (circuit_at export.now.built.source export.now.regular.items export.now.built.graph export.now.built.roots) } ∷ []) (string_bytes export.now.line) (outside (S.seen shelf.old) (O.seen out.old) ports) (outside (S.seen shelf.new) (O.seen out.new) ports) result }
+    ensures ends { WritesExport name.now export.now (S.seen shelf.old) (S.seen shelf.new) (O.seen out.old) (O.seen out.new) result }
     ensures given { (S.seen shelf.new).given ≡ (S.seen shelf.old).given }
 {
     match write_export(export, name, shelf) {
@@ -65,7 +62,7 @@ pub fn graph_job<S: Shelf, O: Sink>(
     shelf: &mut S,
     out: &mut O,
 ) -> Outcome
-    ensures ends { (ports : List PortSeen) → Ends (graph_walk (graph_seen words.now)) (S.seen shelf.old) (S.seen shelf.new) (outside (S.seen shelf.old) (O.seen out.old) ports) (outside (S.seen shelf.new) (O.seen out.new) ports) result }
+    ensures ends { PortlessEnds (graph_walk (graph_seen words.now)) (S.seen shelf.old) (S.seen shelf.new) (O.seen out.old) (O.seen out.new) result }
     ensures laws { HasLaws (graph_walk (graph_seen words.now)) }
 {
     let export = match read_export(alloc, words, shelf) {

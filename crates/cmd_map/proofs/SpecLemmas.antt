@@ -1,5 +1,5 @@
 -- A job of `spec`: a source circuit that is mapped is accepted, and its written netlist is the verdict's, whole or cut off; and the laws of the walks of `spec` and `map`.
-use Rattle.cmd_map.proofs.Common.{◌≡◌, ◌≤◌, Bool, List, [], ◌∷◌, ℕ, length, Some, subst, Result, MOST_BYTES, PortSeen, Files, ShelfSeen, SinkSeen, Aig, param_inits, IsConf, netlist_text, outside, FileText, writing_outcome, Told, IsBegun, Ends, Outcome, WritesAll, MappedSource, template_header, AreMade, ComesPast, RunsAs, specialised_of, writing_ends, SpecWords, HasSpec, spec_walk, least_mapped, same_graph, ToTables, IsMappedFrom, MapWords, map_walk, source_or_not, source_refused_once}
+use Rattle.cmd_map.proofs.Common.{◌≡◌, ◌≤◌, Bool, List, [], ◌∷◌, ℕ, length, Some, subst, Result, MOST_BYTES, PortSeen, Files, ShelfSeen, SinkSeen, Aig, param_inits, IsConf, outside, FileText, writing_outcome, Told, IsBegun, Ends, Outcome, WritesAll, MappedSource, template_header, AreMade, ComesPast, RunsSpecialised, specialised_text, writing_ends, SpecWords, HasSpec, spec_walk, least_mapped, same_graph, ToTables, IsMappedFrom, MapWords, map_walk, source_or_not, source_refused_once}
 use Rattle.std.proofs.lemmas.List.{length-map}
 use Rattle.param_list.specs.declared.params.Param.{Param}
 use Rattle.bit_fun.specs.Configuration.{IsConfiguration}
@@ -12,7 +12,7 @@ spec_begun files words m past = record { accepted = record { source = m.source; 
 -- what is written under a configuration of the listed values
 module _ (m : MappedSource) (made : AreMade m.source m.tables) (config : List Bool) (conf : IsConf m.tables.pack (param_inits m.source.params.list) config) where
   abbrev texts : List ℕ → List FileText
-  texts name = record { name = name; bytes = netlist_text (specialised_of m.source m.tables.template config) } ∷ []
+  texts name = specialised_text m config name ∷ []
 
   -- it is the configuration specialised from scratch
   config_is : (files : Files) (words : SpecWords) (past : ComesPast files words.source m) → IsConfiguration past.has.mapped.graph m.tables.template.luts (param_inits m.source.params.list) config
@@ -22,8 +22,7 @@ module _ (m : MappedSource) (made : AreMade m.source m.tables) (config : List Bo
       (made.tunable.configurations.is (param_inits m.source.params.list) config (init_params m.source m.tables.template m.tables.pack made.tunable) conf)
 
   -- a job that came past its mapping, and wrote
-  module _ (means : (params : List Bool) → length params ≡ length m.source.params.list → IsConf m.tables.pack params config → RunsAs m.source params (specialised_of m.source m.tables.template config))
-      (words : SpecWords) (old mid new : ShelfSeen) (same : (out : SinkSeen) (ports : List PortSeen) → outside mid out ports ≡ outside old out ports) (few : mid.given ≤ MOST_BYTES) (given : new.given ≡ mid.given) (comes : Told old.files (λ files. ComesPast files words.source m))
+  module _ (means : RunsSpecialised m config) (words : SpecWords) (old mid new : ShelfSeen) (same : (out : SinkSeen) (ports : List PortSeen) → outside mid out ports ≡ outside old out ports) (few : mid.given ≤ MOST_BYTES) (given : new.given ≡ mid.given) (comes : Told old.files (λ files. ComesPast files words.source m))
       (before after : SinkSeen) (ports : List PortSeen) where
     has_spec : (files : Files) → old.files ≡ Some files → (P : List FileText → List ℕ → Type 0) → P (texts words.out) (template_header m.tables.template) → HasSpec files words P
     has_spec files told P ends =

@@ -1,4 +1,6 @@
 -- What public clauses say: of the command `spec`,
 pub mod Spec
--- and of `map`.
+-- and of `map`,
 pub mod Map
+-- and of what they write.
+pub mod Outputs

@@ -41,8 +41,8 @@ module _ (source : Source) (template : TemplateValue) (rate : ℕ) (pack : PackV
   -- are the source circuit
   step_cycle : (values : List Bool) (old new : PacerValue) (one : Shown) → length values ≡ width_of source → IsKept old → (s : IsStep values old new one) → IsSourceCycle source old.params values old.sim.states s.outputs s.states
   step_cycle values old new one fits kept s =
-      tunable.tables.cycles old.params old.config values old.sim.states s.outputs s.states (kept.steady.params ∙ param_count source template pack tunable)
-      (subst (λ (q : PackValue). IsConf q old.params old.config) kept.steady.pack_is s.right) fits kept.states (step_plays values old new one kept s)
+      (tunable.tables.refines old.params old.config (kept.steady.params ∙ param_count source template pack tunable) (subst (λ (q : PackValue). IsConf q old.params old.config) kept.steady.pack_is s.right)).cycles
+      values old.sim.states s.outputs s.states (record { inputs = fits; states = kept.states; only = step_plays values old new one kept s })
 
   shows_step : (values : List Bool) (old new : PacerValue) (one : Shown) → length values ≡ width_of source → IsKept old → IsStep values old new one → ShowsStep source tunable.graph template rate values (stage_of old) (shown_line one) (stage_of new)
   shows_step values old new one fits kept s =

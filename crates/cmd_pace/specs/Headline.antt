@@ -7,6 +7,7 @@ use Rattle.tl_io.specs.Shelf.{Files}
 use Rattle.tl_io.specs.Writes.{written}
 use Rattle.aig_core.specs.Aig.{Aig}
 use Rattle.cover_pick.specs.Template.{TemplateValue}
+use Rattle.netlist.specs.Runs.{AreInits}
 use Rattle.netlist.specs.Sound.{IsSound}
 use Rattle.lut_sim.specs.Cycle.{IsTableCycle, IsOnlyTableCycle}
 use Rattle.bit_fun.specs.Configuration.{IsConfiguration}
@@ -20,7 +21,7 @@ use Rattle.pace_core.specs.Stalls.{HasStalls}
 use Rattle.cmd_base.specs.Walk.{Outside}
 use Rattle.cmd_stations.specs.declared.source.Source.{Source}
 use Rattle.cmd_stations.specs.Mapped.{IsLeastMapping, template_header}
-use Rattle.cmd_stations.specs.SourceCircuit.{shape_of, IsSourceCycle, AreInits}
+use Rattle.cmd_stations.specs.SourceCircuit.{shape_of, IsSourceCycle}
 use Rattle.cmd_pace.specs.Job.{PaceJob, IsPaceJob, IsPaceStart, PaceWords}
 
 -- what is shown of a source circuit: the values that were asked for last, the configuration that the device has, and the latches' states
@@ -78,7 +79,7 @@ module _ (source : Source) (g : Aig) (template : TemplateValue) (rate : ℕ) whe
   pub record IsFirst (first : Stage) : Type 0 where
     pub params : first.params ≡ param_inits source.params.list
     pub config : IsConfiguration g template.luts (param_inits source.params.list) first.config
-    pub states : AreInits source first.states
+    pub states : AreInits source.netlist.library first.states
 
 -- However the machine was asked and however it ticked, the ticks that come next wait while the bits that differ then aren't written, as many a tick as the port takes, and each later tick is a cycle.
 abbrev pub StallsAnywhere : PacerValue → Type 0

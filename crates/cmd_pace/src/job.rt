@@ -1,7 +1,6 @@
 //! The command `pace`.
-ghost use Rattle.std.specs.Prelude.{◌≡◌, List};
-ghost use Rattle.tl_io.specs.Port.{PortSeen};
-ghost use Rattle.cmd_base.specs.Walk.{outside, Ends, HasLaws};
+ghost use Rattle.std.specs.Prelude.{◌≡◌};
+ghost use Rattle.cmd_base.specs.Walk.{PortlessEnds, HasLaws};
 ghost use Rattle.cmd_pace.specs.Job.{pace_seen, IsInRange};
 ghost use Rattle.cmd_pace.specs.Verdict.{pace_walk};
 
@@ -20,7 +19,7 @@ pub fn pace_job<S: Shelf, O: Sink>(
     out: &mut O,
 ) -> Outcome
     requires { IsInRange words.now }
-    ensures ends { (ports : List PortSeen) → Ends (pace_walk (pace_seen words.now)) (S.seen shelf.old) (S.seen shelf.new) (outside (S.seen shelf.old) (O.seen out.old) ports) (outside (S.seen shelf.new) (O.seen out.new) ports) result }
+    ensures ends { PortlessEnds (pace_walk (pace_seen words.now)) (S.seen shelf.old) (S.seen shelf.new) (O.seen out.old) (O.seen out.new) result }
     ensures files { (S.seen shelf.new).files ≡ (S.seen shelf.old).files }
     ensures laws { HasLaws (pace_walk (pace_seen words.now)) }
 {

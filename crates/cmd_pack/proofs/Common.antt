@@ -24,4 +24,4 @@ pub use Rattle.tl_io.specs.Port.{PortSeen}
 pub use Rattle.tl_io.specs.Shelf.{Files, ShelfSeen}
 pub use Rattle.tl_io.specs.Sink.{SinkSeen}
 pub use Rattle.cmd_pack.specs.Bits.{IsBitsRefused, IsBitsSettled, IsOfBits, bits_word, ReachesBits, bits_reading, pack_header, PutsHostStep, AreLinesPut, AreLinesCut, HasBits, bits_walk, HasBitsJob, BitsWords, bits_seen, PutTheSame, ReplaysFile}
-pub use Rattle.cmd_pack.specs.Repack.{repack_walk, HasRepack, RepackWords, repack_seen}
+pub use Rattle.cmd_pack.specs.Repack.{repack_walk, HasRepack, RepackWords, repack_seen, present_text}

@@ -1,5 +1,5 @@
 -- The job of `repack`: the pack's file, and then the line; and the laws of the walks of `bits` and of `repack`.
-use Rattle.cmd_pack.proofs.Common.{◌≡◌, ℕ, ◌≤◌, List, [], ◌∷◌, Result, Ok, Err, refl, sym, subst, Rose, PortSeen, ShelfSeen, SinkSeen, PackValue, Outside, outside, FileText, HasPrefix, AreWritten, IsCut, writing_outcome, Told, IsBegunFrom, Ends, Outcome, HasPack, IsPackSettled, present_bytes, cut_in_file, cut_cause, pack_header, RepackWords, HasRepack, repack_walk, BitsWords, bits_walk, pack_or_not, pack_refused_once}
+use Rattle.cmd_pack.proofs.Common.{◌≡◌, ℕ, ◌≤◌, List, [], ◌∷◌, Result, Ok, Err, refl, sym, subst, Rose, PortSeen, ShelfSeen, SinkSeen, PackValue, Outside, outside, FileText, HasPrefix, AreWritten, IsCut, writing_outcome, Told, IsBegunFrom, Ends, Outcome, HasPack, IsPackSettled, present_text, cut_in_file, cut_cause, pack_header, RepackWords, HasRepack, repack_walk, BitsWords, bits_walk, pack_or_not, pack_refused_once}
 use Rattle.std.specs.Prelude.{IsErrAnd}
 use Rattle.cmd_base.specs.Refusals.{most_bytes}
 use Rattle.cmd_base.specs.declared.outcome.File.TheVariants.{Pack}
@@ -23,16 +23,16 @@ module _ (words : RepackWords) (pack : PackValue) (old mid new : ShelfSeen) (sam
   }
 
   repacked_from : (P : Outside → List FileText → List ℕ → Type 0) (out : SinkSeen) (ports : List PortSeen)
-      → P (outside mid out ports) (record { name = words.new; bytes = present_bytes pack } ∷ []) (pack_header pack) → Told old.files (λ files. HasRepack files words (P (outside old out ports)))
+      → P (outside mid out ports) (present_text pack words.new ∷ []) (pack_header pack) → Told old.files (λ files. HasRepack files words (P (outside old out ports)))
   repacked_from P out ports ends files told = record {
     pack = pack;
     has = has files told;
-    ends = subst (λ w. P w (record { name = words.new; bytes = present_bytes pack } ∷ []) (pack_header pack)) (same out ports) ends;
+    ends = subst (λ w. P w (present_text pack words.new ∷ []) (pack_header pack)) (same out ports) ends;
     replays = replays_file pack;
   }
 
   pub repack_ends : {E : Type 0} → mid.given ≤ most_bytes Pack → new.given ≡ mid.given → (before after : SinkSeen) (ports : List PortSeen) (r : Result Unit E)
-      → WritesAll (record { name = words.new; bytes = present_bytes pack } ∷ []) (pack_header pack) (outside mid before ports) (outside new after ports) r → (o : Outcome) → o ≡ writing_outcome r
+      → WritesAll (present_text pack words.new ∷ []) (pack_header pack) (outside mid before ports) (outside new after ports) r → (o : Outcome) → o ≡ writing_outcome r
       → Ends (repack_walk words) old new (outside old before ports) (outside new after ports) o
   repack_ends given stays before after ports (Ok done) all o is =
       subst (λ x. Ends (repack_walk words) old new (outside old before ports) (outside new after ports) x) (sym is) (
@@ -41,13 +41,12 @@ module _ (words : RepackWords) (pack : PackValue) (old mid new : ShelfSeen) (sam
         refl,
       )
   repack_ends given stays before after ports (Err e) part o is =
-      let text : FileText = record { name = words.new; bytes = present_bytes pack } in
-      let cut = subst (λ w. IsCut (text ∷ []) (pack_header pack) w (outside new after ports)) (same before ports) part in
+      let cut = subst (λ w. IsCut (present_text pack words.new ∷ []) (pack_header pack) w (outside new after ports)) (same before ports) part in
       subst (λ x. Ends (repack_walk words) old new (outside old before ports) (outside new after ports) x) (sym is) (
         begun_from given stays,
         repacked_from (λ w texts line. IsCut texts line w (outside new after ports)) before ports part,
         refl,
-        cut_cause (repack_walk words) (text ∷ []) (pack_header pack) (outside old before ports) (outside new after ports) tt cut,
+        cut_cause (repack_walk words) (present_text pack words.new ∷ []) (pack_header pack) (outside old before ports) (outside new after ports) tt cut,
       )
 
 -- The laws of the walks of `bits` and of `repack`.

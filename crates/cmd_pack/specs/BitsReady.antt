@@ -1,12 +1,14 @@
 -- A job of `bits` that is ready to be played, and the playing of its events.
 use Rattle.std.specs.Prelude.{◌≡◌, ℕ, List, [], length, Option, Result, MatchResult}
 use Rattle.list_laws.specs.Members.{In}
-use Rattle.tl_io.specs.Shelf.{Files}
+use Rattle.tl_io.specs.Port.{PortSeen}
+use Rattle.tl_io.specs.Shelf.{Files, ShelfSeen}
+use Rattle.tl_io.specs.Sink.{SinkSeen}
 use Rattle.ppc_pack.specs.Pack.{PackValue}
 use Rattle.run_text.specs.EventValue.{EventValue, event_values}
 use Rattle.run_core.specs.Events.{FitsPack, IsOfHost}
 use Rattle.spec_core.specs.Specialiser.{SpecialiserValue}
-use Rattle.cmd_base.specs.Walk.{Outside}
+use Rattle.cmd_base.specs.Walk.{Outside, outside}
 use Rattle.cmd_pack.specs.declared.bits.prepare.ReadyScript.{ReadyScript}
 use Rattle.cmd_stations.specs.Playing.{PutsAll}
 use Rattle.cmd_pack.specs.Bits.{BitsWords, IsBitsJob, IsBitsSettled, PutsHostStep, AreLinesPut, AreLinesCut}
@@ -36,3 +38,7 @@ EventsEnd old events before after result = PutsAll (AreHostSteps old) PutsHostSt
 
 abbrev pub PlayEnd : {E : Type 0} → SpecialiserValue → List EventValue → Outside → Outside → Result Unit E → Type 0
 PlayEnd h events old new result = MatchResult result (λ _. AreLinesPut h events old new) (λ _. AreLinesCut h events old new)
+
+-- whatever files and ports there are
+abbrev pub PlayEnds : {E : Type 0} → SpecialiserValue → List EventValue → SinkSeen → SinkSeen → Result Unit E → Type 0
+PlayEnds h events before after result = (shelf : ShelfSeen) (ports : List PortSeen) → PlayEnd h events (outside shelf before ports) (outside shelf after ports) result

@@ -1,10 +1,13 @@
 -- The command `repack`: a pack is written in version 2.
-use Rattle.std.specs.Prelude.{ℕ, not, ◌&&◌, if◌then◌else◌, List, [], ◌∷◌, codes, bytes_eq, Option, Some, None}
+use Rattle.std.specs.Prelude.{ℕ, not, ◌&&◌, if◌then◌else◌, List, [], ◌∷◌, codes, bytes_eq, Option, Some, None, Result}
 use Rattle.cmd_pack.specs.declared.repack.words.RepackWords.{RepackWords as RepackWordsRead}
-use Rattle.tl_io.specs.Shelf.{Files}
+use Rattle.tl_io.specs.Port.{PortSeen}
+use Rattle.tl_io.specs.Shelf.{Files, ShelfSeen}
+use Rattle.tl_io.specs.Sink.{SinkSeen}
 use Rattle.ppc_pack.specs.Pack.{PackValue}
-use Rattle.cmd_base.specs.Walk.{Walk, portless_walk}
+use Rattle.cmd_base.specs.Walk.{Walk, portless_walk, outside}
 use Rattle.cmd_base.specs.Writing.{FileText, AreWritten, IsCut}
+use Rattle.cmd_stations.specs.FileWrites.{WritesAll}
 use Rattle.cmd_stations.specs.Packs.{HasPack, pack_reading, present_bytes}
 use Rattle.cmd_pack.specs.Bits.{pack_header, ReplaysFile}
 
@@ -22,11 +25,18 @@ repack_of words = None
 abbrev pub repack_seen : RepackWordsRead → RepackWords
 repack_seen words = record { old = words.old.now; new = words.new.now }
 
+-- the file in version 2 of a pack, and the writing of this and then of the line, whatever ports there are
+abbrev pub present_text : PackValue → List ℕ → FileText
+present_text pack name = record { name = name; bytes = present_bytes pack }
+
+abbrev pub WritesPack : {E : Type 0} → PackValue → List ℕ → ShelfSeen → ShelfSeen → SinkSeen → SinkSeen → Result Unit E → Type 0
+WritesPack pack name old new before after result = (ports : List PortSeen) → WritesAll (present_text pack name ∷ []) (pack_header pack) (outside old before ports) (outside new after ports) result
+
 -- the file OLD is that of a pack, and NEW is its file in version 2: scripts are played on it as on OLD
 pub record HasRepack (files : Files) (words : RepackWords) (Ends : List FileText → List ℕ → Type 0) : Type 0 where
   pub pack : PackValue
   pub has : HasPack files words.old pack
-  pub ends : Ends (record { name = words.new; bytes = present_bytes pack } ∷ []) (pack_header pack)
+  pub ends : Ends (present_text pack words.new ∷ []) (pack_header pack)
   pub replays : ReplaysFile pack
 
 -- the files hold an accepted job of `repack`

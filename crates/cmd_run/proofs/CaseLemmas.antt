@@ -1,5 +1,5 @@
 -- The texts of a case as files: what they are read as, and what stops their walk.
-use Rattle.cmd_run.proofs.Common.{◌≡◌, ℕ, ◌<◌, ◌≤◌, List, length, Some, Result, Ok, Err, codes, refl, sym, ap, ◌∙◌, subst, arith, same_Some, MOST_BYTES, Files, ShelfSeen, CaseValue, IsShort, text_of, NamesValue, Stops, outcome_at, Told, Explains, Outcome, GenWords, Ready, Source, IsUnmapped, script_reading, IsTextSettled, IsMappingSettled, source_reading, ToTables, ComesFrom, ComesWith, IsRefused, IsSettled, run_reading, IsReadyFor, case_words, case_files, shelf_of, HaveSource, HaveCase, gen_reading, text_settles, netlist_explains, params_explains, made_explains, script_explains, HasText, IsNetlistText, NetlistRefusal, IsParamsRefusal, IsScriptRefusal}
+use Rattle.cmd_run.proofs.Common.{◌≡◌, ℕ, ◌<◌, ◌≤◌, List, length, Some, Result, Ok, Err, codes, refl, sym, ap, ◌∙◌, subst, arith, same_Some, MOST_BYTES, Files, ShelfSeen, CaseValue, IsShort, text_of, NamesValue, Stops, outcome_at, Told, Explains, Outcome, GenWords, Ready, Source, IsUnmapped, script_reading, IsTextSettled, IsMappingSettled, ToTables, ComesFrom, ComesWith, IsRefused, IsSettled, run_reading, IsReadyFor, case_words, case_files, shelf_of, HaveSource, HaveCase, OfCase, StopsIn, StopsSource, gen_reading, text_settles, netlist_explains, params_explains, made_explains, script_explains, HasText, IsNetlistText, NetlistRefusal, IsParamsRefusal, IsScriptRefusal}
 use Rattle.gen_case.specs.Netlist.{netlist_lines}
 use Rattle.std.specs.Cmp.Lexicographic.{nat_list_cmp_total}
 use Rattle.std.specs.FinMap.{get, insert, empty, get-insert}
@@ -32,7 +32,7 @@ module _ (files : Files) where
 module _ (rule : Rule) (files : Files) where
   -- a netlist's text that stops the walk
   pub netlist_stops : (netlist params : List ℕ) (s : Stop) (o : Outcome) → o ≡ outcome_at file.Netlist s → HaveSource files netlist params → Stops (NetlistRefusal netlist) s → Stops (λ _. IsTextSettled netlist) s
-      → Explains (source_reading ToTables (case_words rule).source) (shelf_of files) (shelf_of files) o
+      → StopsSource rule files o
   netlist_stops netlist params s o at have refused settled =
       netlist_explains ToTables (case_words rule).source (shelf_of files) (shelf_of files) netlist s o at (nothing_given files (most_bytes file.Netlist)) (told_of files (λ fs. HasText fs (case_words rule).source.netlist netlist) have.has_netlist) refused settled
 
@@ -45,14 +45,14 @@ module _ (rule : Rule) (files : Files) where
 
   -- a text of its parameters that stops it
   pub params_stop : (netlist params : List ℕ) (n : NetlistValue) (s : Stop) (o : Outcome) → o ≡ outcome_at file.Params s → HaveSource files netlist params → IsNetlistText netlist n → IsTextSettled netlist → HasOneReading n.flat params → Stops (IsParamsRefusal n.flat params) s
-      → Explains (source_reading ToTables (case_words rule).source) (shelf_of files) (shelf_of files) o
+      → StopsSource rule files o
   params_stop netlist params n s o at have is settled one refused =
       params_explains ToTables (case_words rule).source (shelf_of files) (shelf_of files) n (told_of files (λ fs. ComesFrom fs (case_words rule).source n) (netlist_comes netlist params n have is settled)) params s o at
       (nothing_given files (most_bytes file.Params)) (told_of files (λ fs. HasText fs (case_words rule).source.params params) have.has_params) one refused
 
   -- a mapping that stops it
   pub mapping_stops : (source : Source) (s : Stop) (o : Outcome) → o ≡ outcome_at file.Netlist s → ComesWith files (case_words rule).source source → Stops (IsUnmapped rule source (case_words rule).source.k) s → Stops (λ _. IsMappingSettled rule source (case_words rule).source.k) s
-      → Explains (source_reading ToTables (case_words rule).source) (shelf_of files) (shelf_of files) o
+      → StopsSource rule files o
   mapping_stops source s o at comes refused settled =
       made_explains ToTables (case_words rule).source (shelf_of files) (shelf_of files) source s o at (nothing_given files (most_bytes file.Netlist)) (told_of files (λ fs. ComesWith fs (case_words rule).source source) comes) refused settled
 
@@ -113,11 +113,11 @@ module _ (words : GenWords) where
 
   -- So what is ready for these texts is the job of the case, and what stops them stops it.
   module _ (netlist params script : List ℕ) (have : HaveCase (case_files words) netlist params script) where
-    pub case_ready : (result : Result Ready Outcome) → IfOk result (λ r. (files : Files) → HaveCase files netlist params script → IsReadyFor files (case_words words.rule) r) → IfOk result (IsReadyFor (case_files words) (case_words words.rule))
+    pub case_ready : (result : Result Ready Outcome) → IfOk result (λ r. OfCase netlist params script (λ files. IsReadyFor files (case_words words.rule) r)) → IfOk result (IsReadyFor (case_files words) (case_words words.rule))
     case_ready (Ok ready) is = is (case_files words) have
     case_ready (Err o) is = tt
 
-    pub case_stopped : (result : Result Ready Outcome) → IfErr result (λ o. (files : Files) → HaveCase files netlist params script → Explains (run_reading (case_words words.rule)) (shelf_of files) (shelf_of files) o)
+    pub case_stopped : (result : Result Ready Outcome) → IfErr result (λ o. OfCase netlist params script (λ files. StopsIn (run_reading (case_words words.rule)) files o))
         → IfErr result (λ o. (old new : ShelfSeen) → Explains (gen_reading words) old new o)
     case_stopped (Ok ready) stops = tt
     case_stopped (Err o) stops = case_explains o (stops (case_files words) have)

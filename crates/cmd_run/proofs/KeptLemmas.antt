@@ -44,8 +44,8 @@ module _ (source : Source) (template : TemplateValue) (pack : PackValue) (tunabl
   pub cycle_is : (values : List Bool) (old new : Stage) → FitsShape (shape_of source) (Cycle values) → IsKept old → IsStep (Cycle values) old new
       → IsSourceCycle source old.machine.host.state.params values old.machine.sim.states new.machine.sim.outputs new.machine.sim.states
   cycle_is values old new fits kept step =
-      tunable.tables.cycles old.machine.host.state.params old.machine.host.state.config values old.machine.sim.states new.machine.sim.outputs new.machine.sim.states
-      (kept.params ∙ param_count source template pack tunable) kept.right fits kept.states (of_tables IsOnlyTableCycle values old new kept step.played.one)
+      (tunable.tables.refines old.machine.host.state.params old.machine.host.state.config (kept.params ∙ param_count source template pack tunable) kept.right).cycles
+      values old.machine.sim.states new.machine.sim.outputs new.machine.sim.states (record { inputs = fits; states = kept.states; only = of_tables IsOnlyTableCycle values old new kept step.played.one })
 
   -- what does not depend on the event
   with_rest : (event : EventValue) (old new : Stage) → IsKept old → IsStep event old new → length new.machine.host.state.params ≡ length old.machine.host.state.params → length new.machine.sim.states ≡ length old.machine.sim.states

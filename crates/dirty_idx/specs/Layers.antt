@@ -63,6 +63,10 @@ pub record IsRetold (base : ℕ) (old new : List ℕ) : Type 0 where
   pub lowest : (at : ℕ) → base ≤ at → word_at new at ≡ word_at old at
   pub told : AreTold base 0 new
 
+-- the words above a place are told of it, wherever the lowest layer begins, if this is so of the word there
+abbrev pub Retells : Type 0 → ℕ → List ℕ → List ℕ → Type 0
+Retells P at old new = (base : ℕ) → AreTold base at old → at ≤ 64 * base → P → IsRetold base old new
+
 -- the first word of a layer that has a bit, by the number of layers above it
 pub record IsFirstWord (layers at : ℕ) (words : List ℕ) : Type 0 where
   pub from : upper_words layers ≤ at

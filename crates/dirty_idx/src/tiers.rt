@@ -1,8 +1,8 @@
 //! A set of numbers below a size, as a bit set in layers.
-ghost use Rattle.std.specs.Prelude.{◌≡◌, ℕ, ◌+◌, ◌-◌, ◌*◌, ◌/◌, ◌^◌, ◌<◌, ◌≤◌, true, false, length, replicate, slice_set, IfOk, MatchOption, vec_len};
+ghost use Rattle.std.specs.Prelude.{◌≡◌, ◌+◌, ◌-◌, ◌*◌, ◌/◌, ◌^◌, ◌<◌, ◌≤◌, true, false, length, replicate, slice_set, IfOk, MatchOption, vec_len};
 ghost use Rattle.std.specs.Int.{trailing_zeros, w64};
 ghost use Rattle.dirty_idx.specs.Marks.{is_marked, IsLeast, IsEmpty, without};
-ghost use Rattle.dirty_idx.specs.Layers.{word_at, upper_words, bit_above, mark_bit, AreTold, AreNoneBefore, IsPut, IsRetold, IsFirstWord};
+ghost use Rattle.dirty_idx.specs.Layers.{word_at, upper_words, bit_above, mark_bit, AreTold, AreNoneBefore, IsPut, Retells, IsFirstWord};
 
 use std::alloc::{AllocError, Global};
 use std::marker::Model;
@@ -46,7 +46,7 @@ impl Model for Tiers {
 // Records in the words above that the word at a place has a bit, up to a word that says so already.
 fn tell_some(words: &mut Vec<u64>, at: usize)
     requires { at < vec_len words.old }
-    ensures { (base : ℕ) → AreTold base at words.old.items → at ≤ 64 * base → 0 < word_at words.old.items at → IsRetold base words.old.items words.new.items }
+    ensures { Retells (0 < word_at words.old.items at) at words.old.items words.new.items }
 {
     let mut at = at;
     while at > 0 && words[(at - 1) / 64] >> ((at - 1) % 64) & 1 == 0 {
@@ -59,7 +59,7 @@ fn tell_some(words: &mut Vec<u64>, at: usize)
 // Records in the words above whether the word at a place, which had a bit, still has one.
 fn tell_none(words: &mut Vec<u64>, at: usize)
     requires { at < vec_len words.old }
-    ensures { (base : ℕ) → AreTold base at words.old.items → at ≤ 64 * base → (0 < at → bit_above words.old.items at ≡ 1) → IsRetold base words.old.items words.new.items }
+    ensures { Retells (0 < at → bit_above words.old.items at ≡ 1) at words.old.items words.new.items }
 {
     let mut at = at;
     while at > 0 && words[at] == 0 {

@@ -2,6 +2,7 @@
 use Rattle.std.specs.Prelude.{◌≡◌, ℕ, ◌/◌, ◌==◌, if◌then◌else◌, Bool, List, [], ◌∷◌, slice_get, Option, None, Some}
 use Rattle.tl_io.specs.declared.Write.{Write}
 use Rattle.tl_io.specs.Port.{PortSeen}
+use Rattle.tl_io.specs.Writes.{written}
 use Rattle.port_bank.specs.Bank.{BankSeen, bank_width}
 
 -- the first that is there
@@ -22,3 +23,7 @@ pub record ShowsRegions (width : ℕ) (config : List Bool) (bank : BankSeen) : T
 -- the bank holds a configuration
 abbrev pub Holds : List Bool → BankSeen → Type 0
 Holds config bank = ShowsRegions (bank_width bank config) config bank
+
+-- what a bank held before some writes, it holds with them
+abbrev pub KeepsHolding : List Bool → List Write → BankSeen → BankSeen → Type 0
+KeepsHolding config writes old new = (before : List Bool) → Holds before old → config ≡ written before writes → Holds config new

@@ -1,10 +1,10 @@
 //! The ports of a configuration: those that serve its regions, the spares, and the calls made to them.
-ghost use Rattle.std.specs.Prelude.{◌≡◌, ◌+◌, ◌*◌, ◌/◌, ◌≤◌, ◌<◌, ◌^◌, vec_len, Bool, List, [], map, take, drop, length, OnOk, OnErr, IfOk, IfErr, true, false};
+ghost use Rattle.std.specs.Prelude.{◌≡◌, ◌+◌, ◌*◌, ◌/◌, ◌≤◌, ◌<◌, ◌^◌, vec_len, [], map, take, drop, length, OnOk, OnErr, IfOk, IfErr, true, false};
 ghost use Rattle.tl_io.specs.Writes.{writes_from};
 ghost use Rattle.port_bank.specs.Bank.{Called, Replaced, Retired, all_ports};
 ghost use Rattle.port_bank.specs.Send.{Plays};
-ghost use Rattle.port_bank.specs.Image.{Holds};
-ghost use Rattle.tl_io.specs.Writes.{AreAscending, AreBitsOf, written};
+ghost use Rattle.port_bank.specs.Image.{Holds, KeepsHolding};
+ghost use Rattle.tl_io.specs.Writes.{AreAscending, AreBitsOf};
 ghost use Rattle.port_bank.specs.Moves.{IsLeft, MovesWithCause, KeepsPlaces, LosesPlace};
 ghost use Rattle.port_bank.specs.Steps.{Fills, FailsToFill, Mends, FailsToMend, Steps, FailsToStep};
 
@@ -34,18 +34,13 @@ pub struct PortBank<P: Drop> {
 pub type Bank = PortBank<Box<dyn ConfigPort>>;
 
 impl<P: ConfigPort> PortBank<P> {
-    ghost use Rattle.port_bank.specs.Seen.{bank_seen};
+    ghost use Rattle.port_bank.specs.Seen.{bank_seen, made_of};
 
     /// A bank of these ports. The first `serving` ports serve the regions in order, and the next `spares` are the spares. The
     /// others are never touched.
     pub fn make(ports: Vec<P>, serving: usize, spares: usize) -> PortBank<P>
         requires { serving + spares ≤ vec_len ports }
-        ensures { bank_seen P.port_seen result ≡ record {
-          serving = take serving (map P.port_seen ports.items);
-          spares = take spares (drop serving (map P.port_seen ports.items));
-          rest = drop (serving + spares) (map P.port_seen ports.items);
-          failed = [];
-        } }
+        ensures { bank_seen P.port_seen result ≡ made_of serving spares (map P.port_seen ports.items) }
     {
         PortBank {
             ports,
@@ -137,7 +132,7 @@ impl<P: ConfigPort> PortBank<P> {
         requires small { length config.now < 2 ^ 32 }
         requires start { region * width ≤ length config.now }
         ensures ok { OnOk result (Mends width config.now region (bank_seen P.port_seen self.old) (bank_seen P.port_seen self.new)) }
-        ensures fault { IfErr result (λ fault. (fault.region ≡ region) × FailsToMend width config.now region (bank_seen P.port_seen self.old) (bank_seen P.port_seen self.new)) }
+        ensures err { IfErr result (λ f. (f.region ≡ region) × FailsToMend width config.now region (bank_seen P.port_seen self.old) (bank_seen P.port_seen self.new)) }
         ensures serving { OnOk result (self.new.serving ≡ self.old.serving) }
     {
         'spares: loop {
@@ -162,7 +157,7 @@ impl<P: ConfigPort> PortBank<P> {
         requires width { 0 < width }
         requires region { write.address / width < self.old.serving }
         ensures ok { IfOk result (λ next. Steps width config.now passed write next (bank_seen P.port_seen self.old) (bank_seen P.port_seen self.new)) }
-        ensures fault { IfErr result (λ fault. FailsToStep width config.now passed write fault.region (bank_seen P.port_seen self.old) (bank_seen P.port_seen self.new)) }
+        ensures fault { IfErr result (λ f. FailsToStep width config.now passed write f.region (bank_seen P.port_seen self.old) (bank_seen P.port_seen self.new)) }
         ensures serving { OnOk result (self.new.serving ≡ self.old.serving) }
     {
         let region = write.address as usize / width;
@@ -243,7 +238,7 @@ impl<P: ConfigPort> PortBank<P> {
         requires ascending { AreAscending writes.now }
         requires bits { AreBitsOf config.now writes.now }
         ensures plays { Plays config.now writes.now (bank_seen P.port_seen self.old) (bank_seen P.port_seen self.new) result }
-        ensures keeps { OnOk result ((before : List Bool) → Holds before (bank_seen P.port_seen self.old) → config.now ≡ written before writes.now → Holds config.now (bank_seen P.port_seen self.new)) }
+        ensures keeps { OnOk result (KeepsHolding config.now writes.now (bank_seen P.port_seen self.old) (bank_seen P.port_seen self.new)) }
         ensures none { (bank_seen P.port_seen self.old).serving ≡ [] → bank_seen P.port_seen self.new ≡ bank_seen P.port_seen self.old }
         ensures places { OnOk result (KeepsPlaces (bank_seen P.port_seen self.old) (bank_seen P.port_seen self.new)) }
         ensures lost { OnErr result (LosesPlace (bank_seen P.port_seen self.old) (bank_seen P.port_seen self.new)) }

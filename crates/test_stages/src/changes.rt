@@ -6,6 +6,7 @@ use aig_core::Steps;
 use itoa::Buffer;
 use ppc_file::decode;
 use spec_core::Specialiser;
+use std::alloc::AllocError;
 use std::marker::Brand;
 use std::sync::ledger::{Blank, Ledger};
 use tl_io::Assign;
@@ -19,13 +20,12 @@ const PARAMS: u32 = NODES + 1;
 const CHANGES: u32 = 4_000_000;
 
 // Appends a number of four bytes, the highest first.
-fn put(bytes: &mut Vec<u8>, number: u32) -> Result<(), Stop> {
-    bytes.extend_from_slice(&number.to_be_bytes())?;
-    Ok(())
+fn put(bytes: &mut Vec<u8>, number: u32) -> Result<(), AllocError> {
+    bytes.extend_from_slice(&number.to_be_bytes())
 }
 
 // Appends the parameters `p0`, `p1` and so on, all 0.
-fn put_params(bytes: &mut Vec<u8>) -> Result<(), Stop> {
+fn put_params(bytes: &mut Vec<u8>) -> Result<(), AllocError> {
     let mut buffer = Buffer::new();
     for number in 0..PARAMS {
         let digits = buffer.format(number).as_bytes();
@@ -37,7 +37,7 @@ fn put_params(bytes: &mut Vec<u8>) -> Result<(), Stop> {
 }
 
 // Appends the fan-ins of the nodes behind the first.
-fn put_nodes(bytes: &mut Vec<u8>) -> Result<(), Stop> {
+fn put_nodes(bytes: &mut Vec<u8>) -> Result<(), AllocError> {
     for number in 1..NODES {
         put(bytes, 2 * (number + 2))?;
         put(bytes, 2 * (PARAMS + number))?;
@@ -46,7 +46,7 @@ fn put_nodes(bytes: &mut Vec<u8>) -> Result<(), Stop> {
 }
 
 // The pack of the chain as a file of version 1. Its one bit is the last node.
-fn chain(rt: &HostRuntime) -> Result<Vec<u8>, Stop> {
+fn chain(rt: &HostRuntime) -> Result<Vec<u8>, AllocError> {
     let mut bytes = Vec::new(rt.alloc());
     bytes.extend_from_slice(b"TPPC\x00\x01")?;
     bytes.extend_from_slice(&(PARAMS as u16).to_be_bytes())?;

@@ -1,15 +1,22 @@
 //! Small graphs whose cuts and values were found by hand.
-ghost use Rattle.std.specs.Prelude.{◌≤◌};
+ghost use Rattle.std.specs.Prelude.{◌≡◌, ◌≤◌, IfOk, vec_len};
 
 use crate::pairs::product;
 use crate::stop::Stop;
 use aig_core::{Graph, Kind, Lit, lit_value};
 use cut_enum::{CutErr, CutTable, enumerate};
-use std::alloc::Global;
+use std::alloc::{AllocError, Global};
+
+// The kinds of three sources.
+fn three(alloc: Global, first: Kind, second: Kind, third: Kind) -> Result<Vec<Kind>, AllocError>
+    ensures { IfOk result (λ kinds. vec_len kinds ≡ 3) }
+{
+    Ok(vec![in alloc; first, second, third]?)
+}
 
 // A multiplexer: the parameter p chooses a if it is 1, else b.
 fn multiplexer(alloc: Global) -> Result<Graph, Stop> {
-    let kinds = vec![in alloc; Kind::Regular, Kind::Regular, Kind::Parameter]?;
+    let kinds = three(alloc, Kind::Regular, Kind::Regular, Kind::Parameter)?;
     let mut graph = Graph::make(alloc, kinds, 3)?;
     product(&mut graph, Lit(2), Lit(6))?;
     product(&mut graph, Lit(4), Lit(7))?;
@@ -19,7 +26,7 @@ fn multiplexer(alloc: Global) -> Result<Graph, Stop> {
 
 // The AND of an input with the exclusive or of another input and a parameter: at node 7 the cut of one leaf comes first.
 fn counter(alloc: Global) -> Result<Graph, Stop> {
-    let kinds = vec![in alloc; Kind::Regular, Kind::Parameter, Kind::Regular]?;
+    let kinds = three(alloc, Kind::Regular, Kind::Parameter, Kind::Regular)?;
     let mut graph = Graph::make(alloc, kinds, 4)?;
     product(&mut graph, Lit(2), Lit(7))?;
     product(&mut graph, Lit(3), Lit(6))?;

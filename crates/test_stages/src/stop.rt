@@ -1,5 +1,5 @@
 //! Why the program stops before its end.
-use std::alloc::{AllocError, AllocFailed};
+use std::alloc::AllocError;
 use std::io;
 
 /// Why the program stops before its end.
@@ -15,12 +15,6 @@ pub enum Stop {
 
 impl From<AllocError> for Stop {
     fn from(_: AllocError) -> Stop {
-        Stop::Memory
-    }
-}
-
-impl<T: Drop> From<AllocFailed<T>> for Stop {
-    fn from(_: AllocFailed<T>) -> Stop {
         Stop::Memory
     }
 }

@@ -3,16 +3,18 @@ pub use Rattle.std.proofs.Common.{◌≡◌, ℕ, Bool, true, false, cond, List,
 pub use Rattle.std.proofs.lemmas.List.{append_cancel_left, length-map}
 pub use Rattle.std.proofs.lemmas.Option.{none-some, same_Some}
 pub use Rattle.std.specs.List.{concat}
-pub use Rattle.cmd_base.specs.Walk.{Outside, outside, HasLaws}
+pub use Rattle.cmd_base.specs.Walk.{Outside, HasLaws}
 pub use Rattle.cmd_base.specs.declared.outcome.Outcome.{Outcome}
-pub use Rattle.cmd_map.specs.Map.{MapWords, map_seen, HasMap}
-pub use Rattle.cmd_pack.specs.Bits.{BitsWords, bits_seen, IsPlayedOn, pack_header}
-pub use Rattle.cmd_run.specs.Run.Job.{RunWords, run_seen, bank_of}
+pub use Rattle.cmd_map.specs.Map.{MapWords, HasMap}
+pub use Rattle.cmd_pack.specs.Bits.{BitsWords, IsPlayedOn, pack_header}
+pub use Rattle.cmd_run.specs.Run.Job.{RunWords, bank_of}
 pub use Rattle.cover_pick.specs.declared.rule.Rule.{Rule}
 pub use Rattle.run_text.specs.EventValue.{EventValue}
 pub use Rattle.tl_io.specs.Content.{extended}
-pub use Rattle.tl_io.specs.Shelf.{Files, ShelfSeen}
-pub use Rattle.tlut_cli.specs.Call.{IsEnd, HasCommand, HasRefusal, HasDone, HasCutOff, HasLost, HasKeptPorts, HasFault, HasPortCause, HasWriteCause, IsAnswered, IsComplete, IsFinished, HasNoFault, HasBegun}
+pub use Rattle.tl_io.specs.Shelf.{Files}
+pub use Rattle.tlut_cli.specs.Call.{World, outside_of, WalkEnds, IsEnd, HasCommand, HasRefusal, HasDone, HasCutOff, HasLost, HasKeptPorts, HasFault, HasPortCause, HasWriteCause, IsAnswered, IsComplete, IsFinished, HasNoFault, HasBegun}
 pub use Rattle.tlut_cli.specs.CommandEnds.{HasWalkLaws, HasEnded}
-pub use Rattle.tlut_cli.specs.Commands.{Command, Map, command_of, walk_of, Run, Spec, Bits, Gen, Repack, Prove, Audit, Graph, Pace, command_seen}
+pub use Rattle.tlut_cli.specs.Commands.{Command, Run, Map, Pace, command_of, command_seen, walk_of}
+pub use Rattle.tlut_cli.specs.Meaning.{HasMeaning}
 pub use Rattle.tlut_cli.specs.Replay.{ReplaysRun, PutTheSameLines, HaveTheSameSource}
+pub use Rattle.tlut_cli.specs.declared.command.Command.{Command as CommandRead}

@@ -3,8 +3,10 @@ use Rattle.std.specs.Prelude.{◌≡◌, ℕ, ◌⊎◌, true, List, [], Option,
 use Rattle.tl_fault.specs.RefusalValue.{RefusalValue}
 use Rattle.cover_pick.specs.declared.rule.Rule.{Rule}
 use Rattle.tl_io.specs.Causes.{Rose}
+use Rattle.tl_io.specs.Port.{PortSeen}
 use Rattle.tl_io.specs.Shelf.{Files, ShelfSeen}
-use Rattle.cmd_base.specs.Walk.{Outside, Walk, InFiles, Ends, IsReadFault, HasWriteFault}
+use Rattle.tl_io.specs.Sink.{SinkSeen}
+use Rattle.cmd_base.specs.Walk.{Outside, outside, Walk, InFiles, Ends, IsReadFault, HasWriteFault}
 use Rattle.tlut_cli.specs.Commands.{Command, command_of, walk_of}
 use Rattle.cmd_base.specs.Statuses.{refusal_status}
 use Rattle.cmd_base.specs.declared.outcome.File.{File}
@@ -13,21 +15,37 @@ use Rattle.cmd_base.specs.declared.outcome.Outcome.TheVariants as outcome
 use Rattle.cmd_base.specs.declared.status.Status.{Status}
 use Rattle.cmd_base.specs.declared.status.Status.TheVariants as status
 
+-- What a call has around it, before or after: the shelf, the output and the ports.
+pub record World : Type 0 where
+  pub shelf : ShelfSeen
+  pub out : SinkSeen
+  pub ports : List PortSeen
+
+abbrev pub world_of : ShelfSeen → SinkSeen → List PortSeen → World
+world_of shelf out ports = record { shelf = shelf; out = out; ports = ports }
+
+-- what a call changes of it
+abbrev pub outside_of : World → Outside
+outside_of around = outside around.shelf around.out around.ports
+
+abbrev pub WalkEnds : Walk → World → World → Outcome → Type 0
+WalkEnds walk before after o = Ends walk before.shelf after.shelf (outside_of before) (outside_of after) o
+
 -- the words are of no form, and nothing was read, put or sent
-pub record IsUsage (rule : Rule) (words : List (List ℕ)) (old new : ShelfSeen) (before after : Outside) (o : Outcome) : Type 0 where
+pub record IsUsage (rule : Rule) (words : List (List ℕ)) (before after : World) (o : Outcome) : Type 0 where
   pub is : o ≡ outcome.Usage
   pub no_command : command_of rule (length before.ports) words ≡ None
-  pub shelf : new ≡ old
-  pub same : after ≡ before
+  pub shelf : after.shelf ≡ before.shelf
+  pub same : outside_of after ≡ outside_of before
 
 -- the words are a command, and the outcome says how it ended
-pub record IsCommandEnd (rule : Rule) (words : List (List ℕ)) (old new : ShelfSeen) (before after : Outside) (o : Outcome) : Type 0 where
+pub record IsCommandEnd (rule : Rule) (words : List (List ℕ)) (before after : World) (o : Outcome) : Type 0 where
   pub command : Command
   pub is : command_of rule (length before.ports) words ≡ Some command
-  pub ends : Ends (walk_of command) old new before after o
+  pub ends : WalkEnds (walk_of command) before after o
 
-abbrev pub IsEnd : Rule → List (List ℕ) → ShelfSeen → ShelfSeen → Outside → Outside → Outcome → Type 0
-IsEnd rule words old new before after o = IsUsage rule words old new before after o ⊎ IsCommandEnd rule words old new before after o
+abbrev pub IsEnd : Rule → List (List ℕ) → World → World → Outcome → Type 0
+IsEnd rule words before after o = IsUsage rule words before after o ⊎ IsCommandEnd rule words before after o
 
 -- the file that a fault line tells
 abbrev pub fault_file : Outcome → Option File
@@ -66,60 +84,60 @@ abbrev pub HasRefusal : Rule → Option Files → ℕ → List (List ℕ) → St
 HasRefusal rule told ports words s = HasCommand rule ports words (λ walk. InFiles walk.reading told (λ files. IsRefusal files walk s))
 
 -- a job that was done, cut off, or ended by a fault of the ports
-abbrev pub HasDone : Rule → List (List ℕ) → Outside → Outside → Type 0
-HasDone rule words before after = HasCommand rule (length before.ports) words (λ walk. InFiles walk.reading before.files (λ files. walk.IsDone files before after))
+abbrev pub HasDone : Rule → List (List ℕ) → World → World → Type 0
+HasDone rule words before after = HasCommand rule (length before.ports) words (λ walk. InFiles walk.reading before.shelf.files (λ files. walk.IsDone files (outside_of before) (outside_of after)))
 
-abbrev pub HasCutOff : Rule → List (List ℕ) → Outside → Outside → Type 0
-HasCutOff rule words before after = HasCommand rule (length before.ports) words (λ walk. InFiles walk.reading before.files (λ files. walk.IsCutOff files before after))
+abbrev pub HasCutOff : Rule → List (List ℕ) → World → World → Type 0
+HasCutOff rule words before after = HasCommand rule (length before.ports) words (λ walk. InFiles walk.reading before.shelf.files (λ files. walk.IsCutOff files (outside_of before) (outside_of after)))
 
-abbrev pub HasLost : Rule → List (List ℕ) → Outside → Outside → Type 0
-HasLost rule words before after = HasCommand rule (length before.ports) words (λ walk. InFiles walk.reading before.files (λ files. walk.IsLost files before after))
+abbrev pub HasLost : Rule → List (List ℕ) → World → World → Type 0
+HasLost rule words before after = HasCommand rule (length before.ports) words (λ walk. InFiles walk.reading before.shelf.files (λ files. walk.IsLost files (outside_of before) (outside_of after)))
 
 -- what becomes of the ports, whatever the files are
-abbrev pub HasKeptPorts : Rule → List (List ℕ) → Outside → Outside → Type 0
-HasKeptPorts rule words before after = HasCommand rule (length before.ports) words (λ walk. walk.KeepsPorts before after)
+abbrev pub HasKeptPorts : Rule → List (List ℕ) → World → World → Type 0
+HasKeptPorts rule words before after = HasCommand rule (length before.ports) words (λ walk. walk.KeepsPorts (outside_of before) (outside_of after))
 
 -- a read fault at a file that the walk reaches
-pub record IsFault (walk : Walk) (old new : ShelfSeen) : Type 0 where
+pub record IsFault (walk : Walk) (before after : World) : Type 0 where
   pub file : File
   pub is_read : walk.reading.IsRead file
-  pub fault : IsReadFault old new (walk.reading.word file)
-  pub reached : InFiles walk.reading old.files (λ files. walk.reading.Reaches files file)
+  pub fault : IsReadFault before.shelf after.shelf (walk.reading.word file)
+  pub reached : InFiles walk.reading before.shelf.files (λ files. walk.reading.Reaches files file)
 
-abbrev pub HasFault : Rule → ℕ → List (List ℕ) → ShelfSeen → ShelfSeen → Type 0
-HasFault rule ports words old new = HasCommand rule ports words (λ walk. IsFault walk old new)
+abbrev pub HasFault : Rule → ℕ → List (List ℕ) → World → World → Type 0
+HasFault rule ports words before after = HasCommand rule ports words (λ walk. IsFault walk before after)
 
 -- the cause of a fault of the ports, and of a fault of writing
-abbrev pub HasPortCause : Rule → List (List ℕ) → Outside → Outside → Type 0
-HasPortCause rule words before after = HasCommand rule (length before.ports) words (λ walk. walk.HasPortFault before after)
+abbrev pub HasPortCause : Rule → List (List ℕ) → World → World → Type 0
+HasPortCause rule words before after = HasCommand rule (length before.ports) words (λ walk. walk.HasPortFault (outside_of before) (outside_of after))
 
-abbrev pub HasWriteCause : Rule → List (List ℕ) → Outside → Outside → Type 0
-HasWriteCause rule words before after = HasCommand rule (length before.ports) words (λ walk. HasWriteFault walk before after)
+abbrev pub HasWriteCause : Rule → List (List ℕ) → World → World → Type 0
+HasWriteCause rule words before after = HasCommand rule (length before.ports) words (λ walk. HasWriteFault walk (outside_of before) (outside_of after))
 
 -- the order of work of the words' command writes files
 abbrev pub WritesFiles : Rule → ℕ → List (List ℕ) → Type 0
 WritesFiles rule ports words = HasCommand rule ports words (λ walk. walk.WritesFiles)
 
 -- no read and no write of a call failed, nor more ports than stand by
-pub record HasNoFault (walk : Walk) (old new : ShelfSeen) (before after : Outside) : Type 0 where
-  pub read : ¬ (Rose old.read_faults new.read_faults)
-  pub write : ¬ (HasWriteFault walk before after)
-  pub ports : ¬ (walk.HasPortFault before after)
+pub record HasNoFault (walk : Walk) (before after : World) : Type 0 where
+  pub read : ¬ (Rose before.shelf.read_faults after.shelf.read_faults)
+  pub write : ¬ (HasWriteFault walk (outside_of before) (outside_of after))
+  pub ports : ¬ (walk.HasPortFault (outside_of before) (outside_of after))
 
 -- the output grew by a byte, or a file was begun for writing
-abbrev pub HasBegun : Walk → ShelfSeen → Outside → Outside → Type 0
-HasBegun walk new before after = ¬ (after.bytes ≡ before.bytes) ⊎ (walk.WritesFiles × (new.is_writing ≡ true))
+abbrev pub HasBegun : Walk → World → World → Type 0
+HasBegun walk before after = ¬ (after.out.bytes ≡ before.out.bytes) ⊎ (walk.WritesFiles × (after.shelf.is_writing ≡ true))
 
-module _ (rule : Rule) (words : List (List ℕ)) (old new : ShelfSeen) (before after : Outside) (s : Status) where
+module _ (rule : Rule) (words : List (List ℕ)) (before after : World) (s : Status) where
   -- Where the files hold an accepted job, and there was no fault, the job is done: want of memory alone can stop it.
   abbrev pub IsComplete : Type 0
-  IsComplete = (command : Command) → command_of rule (length before.ports) words ≡ Some command → InFiles (walk_of command).reading before.files (λ files.
-      (walk_of command).IsAccepted files → HasNoFault (walk_of command) old new before after → (s ≡ status.Done) ⊎ (s ≡ status.Memory))
+  IsComplete = (command : Command) → command_of rule (length before.ports) words ≡ Some command → InFiles (walk_of command).reading before.shelf.files (λ files.
+      (walk_of command).IsAccepted files → HasNoFault (walk_of command) before after → (s ≡ status.Done) ⊎ (s ≡ status.Memory))
 
   -- where moreover something was begun outside, it is done
   abbrev pub IsFinished : Type 0
-  IsFinished = (command : Command) → command_of rule (length before.ports) words ≡ Some command → InFiles (walk_of command).reading before.files (λ files.
-      (walk_of command).IsAccepted files → HasNoFault (walk_of command) old new before after → HasBegun (walk_of command) new before after → s ≡ status.Done)
+  IsFinished = (command : Command) → command_of rule (length before.ports) words ≡ Some command → InFiles (walk_of command).reading before.shelf.files (λ files.
+      (walk_of command).IsAccepted files → HasNoFault (walk_of command) before after → HasBegun (walk_of command) before after → s ≡ status.Done)
 
 -- nothing was put or sent
 abbrev pub IsQuiet : Status → Type 0
@@ -133,6 +151,6 @@ IsQuiet status.WriteFault = ⊥
 IsQuiet status.PortFault = ⊥
 
 -- where the files hold a refusal of the job and no read failed, its status is the answer, but for want of memory
-abbrev pub IsAnswered : Rule → List (List ℕ) → ShelfSeen → ShelfSeen → ℕ → Status → Type 0
-IsAnswered rule words old new ports s = (command : Command) → command_of rule ports words ≡ Some command → InFiles (walk_of command).reading old.files (λ files. (file : File) (refusal : RefusalValue) → (walk_of command).reading.IsRefused files file refusal
-    → ¬ (Rose old.read_faults new.read_faults) → (s ≡ refusal_status refusal) ⊎ (s ≡ status.Memory))
+abbrev pub IsAnswered : Rule → ℕ → List (List ℕ) → World → World → Status → Type 0
+IsAnswered rule ports words before after s = (command : Command) → command_of rule ports words ≡ Some command → InFiles (walk_of command).reading before.shelf.files (λ files. (file : File) (refusal : RefusalValue) → (walk_of command).reading.IsRefused files file refusal
+    → ¬ (Rose before.shelf.read_faults after.shelf.read_faults) → (s ≡ refusal_status refusal) ⊎ (s ≡ status.Memory))

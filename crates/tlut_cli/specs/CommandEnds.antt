@@ -1,15 +1,15 @@
 -- How the command that was run ended.
 use Rattle.std.specs.Prelude.{◌≡◌, ◌⊎◌, ℕ, List, Some}
 use Rattle.cover_pick.specs.declared.rule.Rule.{Rule}
-use Rattle.tl_io.specs.Shelf.{ShelfSeen}
-use Rattle.cmd_base.specs.Walk.{Outside, Ends, HasLaws}
+use Rattle.cmd_base.specs.Walk.{HasLaws}
 use Rattle.cmd_base.specs.declared.outcome.Outcome.{Outcome}
+use Rattle.tlut_cli.specs.Call.{World, WalkEnds}
 use Rattle.tlut_cli.specs.Commands.{Command, command_of, walk_of}
 
 -- what its outcome says, that the files are as before or it writes files, and the laws of its walk
-pub record HasEnded (command : Command) (old new : ShelfSeen) (before after : Outside) (o : Outcome) : Type 0 where
-  pub ends : Ends (walk_of command) old new before after o
-  pub files : (new.files ≡ old.files) ⊎ (walk_of command).WritesFiles
+pub record HasEnded (command : Command) (before after : World) (o : Outcome) : Type 0 where
+  pub ends : WalkEnds (walk_of command) before after o
+  pub files : (after.shelf.files ≡ before.shelf.files) ⊎ (walk_of command).WritesFiles
   pub laws : HasLaws (walk_of command)
 
 -- the walk of the words' command, where they are one, has its laws

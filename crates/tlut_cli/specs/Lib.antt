@@ -6,6 +6,7 @@ pub mod Outputs
 pub mod Call
 -- what one command writes and another plays,
 pub mod Replay
--- and its fault line.
+-- and what the call says of itself.
+pub mod Meaning
 -- What only bodies are compared with.
 pub mod CommandEnds

@@ -1,20 +1,10 @@
 //! The top call.
-ghost use Rattle.std.specs.Prelude.{◌≡◌, ◌≤◌, ◌↔◌, ◌⊎◌, ℕ, List, length, None, Some, map, string_bytes};
-ghost use Rattle.tl_io.specs.Shelf.{Files};
+ghost use Rattle.std.specs.Prelude.{◌≡◌, ◌↔◌, ◌⊎◌, length, None, Some, map, string_bytes};
 ghost use Rattle.cover_pick.specs.declared.rule.Rule.TheVariants.{FewestLeaves};
-ghost use Rattle.cmd_base.specs.Walk.{outside, Told};
-ghost use Rattle.cmd_base.specs.FaultLine.{Reports};
-ghost use Rattle.cmd_base.specs.Statuses.{status_of};
-ghost use Rattle.cmd_base.specs.declared.outcome.Outcome.{Outcome as OutcomeValue};
-ghost use Rattle.cmd_run.specs.Run.Headline.{HasHeadline};
-ghost use Rattle.cmd_run.specs.Run.Job.{RunWords};
-ghost use Rattle.cmd_map.specs.Map.{MapWords};
-ghost use Rattle.cmd_pace.specs.Headline.{HasPaceHeadline};
-ghost use Rattle.cmd_pace.specs.Job.{PaceWords};
-ghost use Rattle.tlut_cli.specs.Replay.{ReplaysRun};
-ghost use Rattle.tlut_cli.specs.Commands.{Run, Map, Pace, command_of, command_seen, HasRange, line_of};
+ghost use Rattle.tlut_cli.specs.Commands.{command_of, command_seen, HasRange};
 ghost use Rattle.tlut_cli.specs.CommandEnds.{HasEnded, HasWalkLaws};
-ghost use Rattle.tlut_cli.specs.Call.{IsEnd, fault_file, word_at, fault_word, HasRefusal, HasDone, HasCutOff, HasLost, HasKeptPorts, HasFault, HasPortCause, HasWriteCause, IsAnswered, IsComplete, IsFinished, IsQuiet, WritesFiles};
+ghost use Rattle.tlut_cli.specs.Call.{world_of, IsEnd, fault_file, word_at, fault_word, IsQuiet, WritesFiles};
+ghost use Rattle.tlut_cli.specs.Meaning.{MeansSo, EndsSo};
 
 use crate::command::{Command, file_name, read_command, report};
 use cmd_base::{File, Outcome, Status};
@@ -44,7 +34,9 @@ fn run_command<S: Shelf, O: Sink, P: ConfigPort>(
     ports: &mut Vec<P>,
 ) -> Outcome
     requires { HasRange (length ports.old.items) command.now }
-    ensures { HasEnded (command_seen command.now) (S.seen shelf.old) (S.seen shelf.new) (outside (S.seen shelf.old) (O.seen out.old) (map P.port_seen ports.old.items)) (outside (S.seen shelf.new) (O.seen out.new) (map P.port_seen ports.new.items)) result }
+    ensures { HasEnded (command_seen command.now)
+        (world_of (S.seen shelf.old) (O.seen out.old) (map P.port_seen ports.old.items))
+        (world_of (S.seen shelf.new) (O.seen out.new) (map P.port_seen ports.new.items)) result }
 {
     match command {
         Command::Run(words) => run_job(alloc, words, shelf, out, ports),
@@ -95,7 +87,9 @@ fn run_words<'a, S: Shelf, O: Sink, P: ConfigPort>(
     out: &mut O,
     ports: &mut Vec<P>,
 ) -> Ended<'a>
-    ensures end { IsEnd rule (map string_bytes words.now) (S.seen shelf.old) (S.seen shelf.new) (outside (S.seen shelf.old) (O.seen out.old) (map P.port_seen ports.old.items)) (outside (S.seen shelf.new) (O.seen out.new) (map P.port_seen ports.new.items)) result.outcome }
+    ensures end { IsEnd rule (map string_bytes words.now)
+        (world_of (S.seen shelf.old) (O.seen out.old) (map P.port_seen ports.old.items))
+        (world_of (S.seen shelf.new) (O.seen out.new) (map P.port_seen ports.new.items)) result.outcome }
     ensures name { result.name.now ≡ fault_word rule (length ports.old.items) (map string_bytes words.now) result.outcome }
     ensures files { ((S.seen shelf.new).files ≡ (S.seen shelf.old).files) ⊎ WritesFiles rule (length ports.old.items) (map string_bytes words.now) }
     ensures laws { HasWalkLaws rule (length ports.old.items) (map string_bytes words.now) }
@@ -147,41 +141,8 @@ pub fn tlut_by<S: Shelf, O: Sink, E: Sink>(
 ) -> Status
     ensures usage { result ≡ Status.Usage ↔ command_of rule (length ports.old.items) (map string_bytes words.now) ≡ None }
 
-    // A refusal or a limit is the one that the arguments and the files call for.
-    ensures refusal { (result ≡ Status.Refused) ⊎ (result ≡ Status.Limit) → HasRefusal rule (S.seen shelf.old).files (length ports.old.items) (map string_bytes words.now) result }
-
-    // Conversely, such a refusal is returned if no read fails and memory suffices.
-    ensures refused { IsAnswered rule (map string_bytes words.now) (S.seen shelf.old) (S.seen shelf.new) (length ports.old.items) result }
-
-    // The output grew by the lines of the accepted job, and the ports received its load and its writes: all of them, or those
-    // up to the fault.
-    ensures done { result ≡ Status.Done → HasDone rule (map string_bytes words.now) (outside (S.seen shelf.old) (O.seen out.old) (map (λ port. port_seen port) ports.old.items)) (outside (S.seen shelf.new) (O.seen out.new) (map (λ port. port_seen port) ports.new.items)) }
-    ensures part { result ≡ Status.WriteFault → HasCutOff rule (map string_bytes words.now) (outside (S.seen shelf.old) (O.seen out.old) (map (λ port. port_seen port) ports.old.items)) (outside (S.seen shelf.new) (O.seen out.new) (map (λ port. port_seen port) ports.new.items)) }
-    ensures lost { result ≡ Status.PortFault → HasLost rule (map string_bytes words.now) (outside (S.seen shelf.old) (O.seen out.old) (map (λ port. port_seen port) ports.old.items)) (outside (S.seen shelf.new) (O.seen out.new) (map (λ port. port_seen port) ports.new.items)) }
-
-    // The main statement about `run`: the source circuit's outputs and latch states cycle by cycle, at each change exactly
-    // the bits in which the configurations specialised from scratch differ, LUTs of at most K inputs, and the least depth
-    // over all covers.
-    ensures headline { result ≡ Status.Done → (run : RunWords) → command_of rule (length ports.old.items) (map string_bytes words.now) ≡ Some (Run run) → Told (S.seen shelf.old).files (λ files. HasHeadline files run (outside (S.seen shelf.old) (O.seen out.old) (map (λ port. port_seen port) ports.old.items)) (outside (S.seen shelf.new) (O.seen out.new) (map (λ port. port_seen port) ports.new.items))) }
-
-    // The main statement about `pace`: the circuit steps only under the configuration specialised from scratch for the values
-    // asked for last, as the source circuit does, and waits exactly as long as its writes take at the rate of the port.
-    ensures paced { result ≡ Status.Done → (paced : PaceWords) → command_of rule (length ports.old.items) (map string_bytes words.now) ≡ Some (Pace paced) → Told (S.seen shelf.old).files (λ files. HasPaceHeadline files paced (outside (S.seen shelf.old) (O.seen out.old) (map (λ port. port_seen port) ports.old.items)) (outside (S.seen shelf.new) (O.seen out.new) (map (λ port. port_seen port) ports.new.items))) }
-
-    // `bits` plays what `map` wrote as `run` plays its LUTs, for each script without cycles.
-    ensures replays { result ≡ Status.Done → (written : MapWords) → command_of rule (length ports.old.items) (map string_bytes words.now) ≡ Some (Map written) → Told (S.seen shelf.old).files (λ files. ReplaysRun files written (outside (S.seen shelf.old) (O.seen out.old) (map (λ port. port_seen port) ports.old.items)) (outside (S.seen shelf.new) (O.seen out.new) (map (λ port. port_seen port) ports.new.items))) }
-
-    // An accepted job is done if no read or write fails, no more ports fail than there are spares, and memory suffices.
-    ensures complete { IsComplete rule (map string_bytes words.now) (S.seen shelf.old) (S.seen shelf.new) (outside (S.seen shelf.old) (O.seen out.old) (map (λ port. port_seen port) ports.old.items)) (outside (S.seen shelf.new) (O.seen out.new) (map (λ port. port_seen port) ports.new.items)) result }
-    ensures finished { IsFinished rule (map string_bytes words.now) (S.seen shelf.old) (S.seen shelf.new) (outside (S.seen shelf.old) (O.seen out.old) (map (λ port. port_seen port) ports.old.items)) (outside (S.seen shelf.new) (O.seen out.new) (map (λ port. port_seen port) ports.new.items)) result }
-
-    // Each fault has its cause.
-    ensures read_fault { result ≡ Status.ReadFault → HasFault rule (length ports.old.items) (map string_bytes words.now) (S.seen shelf.old) (S.seen shelf.new) }
-    ensures write_fault { result ≡ Status.WriteFault → HasWriteCause rule (map string_bytes words.now) (outside (S.seen shelf.old) (O.seen out.old) (map (λ port. port_seen port) ports.old.items)) (outside (S.seen shelf.new) (O.seen out.new) (map (λ port. port_seen port) ports.new.items)) }
-    ensures port_fault { result ≡ Status.PortFault → HasPortCause rule (map string_bytes words.now) (outside (S.seen shelf.old) (O.seen out.old) (map (λ port. port_seen port) ports.old.items)) (outside (S.seen shelf.new) (O.seen out.new) (map (λ port. port_seen port) ports.new.items)) }
-
-    // What happens to the ports, whatever the files are.
-    ensures boxes { (result ≡ Status.Done) ⊎ (result ≡ Status.WriteFault) → HasKeptPorts rule (map string_bytes words.now) (outside (S.seen shelf.old) (O.seen out.old) (map (λ port. port_seen port) ports.old.items)) (outside (S.seen shelf.new) (O.seen out.new) (map (λ port. port_seen port) ports.new.items)) }
+    // What the status means, clause by clause: the record is in `specs/Meaning.antt`.
+    ensures meaning { MeansSo (λ p. port_seen p) rule words.now (S.seen shelf.old) (S.seen shelf.new) (O.seen out.old) (O.seen out.new) ports.old ports.new result }
 
     // What is unchanged.
     ensures quiet { IsQuiet result → (O.seen out.new).bytes ≡ (O.seen out.old).bytes }
@@ -190,9 +151,8 @@ pub fn tlut_by<S: Shelf, O: Sink, E: Sink>(
     ensures no_files { ((S.seen shelf.new).files ≡ (S.seen shelf.old).files) ⊎ WritesFiles rule (length ports.old.items) (map string_bytes words.now) }
 
     // The outcome, its cause, and the fault line.
-    ensures told { (outcome : OutcomeValue) × (result ≡ status_of outcome)
-        × IsEnd rule (map string_bytes words.now) (S.seen shelf.old) (S.seen shelf.new) (outside (S.seen shelf.old) (O.seen out.old) (map (λ port. port_seen port) ports.old.items)) (outside (S.seen shelf.new) (O.seen out.new) (map (λ port. port_seen port) ports.new.items)) outcome
-        × Reports (E.seen err.old) (E.seen err.new) (line_of (fault_word rule (length ports.old.items) (map string_bytes words.now) outcome) outcome) }
+    ensures told { EndsSo (λ p. port_seen p) rule words.now (S.seen shelf.old) (S.seen shelf.new) (O.seen out.old) (O.seen out.new) ports.old ports.new
+        (E.seen err.old) (E.seen err.new) result }
 {
     let ended = run_words(alloc, rule, words, shelf, out, ports);
     report(err, ended.name.as_bytes(), &ended.outcome);
@@ -210,41 +170,8 @@ pub fn tlut<S: Shelf, O: Sink, E: Sink>(
 ) -> Status
     ensures usage { result ≡ Status.Usage ↔ command_of FewestLeaves (length ports.old.items) (map string_bytes words.now) ≡ None }
 
-    // A refusal or a limit is the one that the arguments and the files call for.
-    ensures refusal { (result ≡ Status.Refused) ⊎ (result ≡ Status.Limit) → HasRefusal FewestLeaves (S.seen shelf.old).files (length ports.old.items) (map string_bytes words.now) result }
-
-    // Conversely, such a refusal is returned if no read fails and memory suffices.
-    ensures refused { IsAnswered FewestLeaves (map string_bytes words.now) (S.seen shelf.old) (S.seen shelf.new) (length ports.old.items) result }
-
-    // The output grew by the lines of the accepted job, and the ports received its load and its writes: all of them, or those
-    // up to the fault.
-    ensures done { result ≡ Status.Done → HasDone FewestLeaves (map string_bytes words.now) (outside (S.seen shelf.old) (O.seen out.old) (map (λ port. port_seen port) ports.old.items)) (outside (S.seen shelf.new) (O.seen out.new) (map (λ port. port_seen port) ports.new.items)) }
-    ensures part { result ≡ Status.WriteFault → HasCutOff FewestLeaves (map string_bytes words.now) (outside (S.seen shelf.old) (O.seen out.old) (map (λ port. port_seen port) ports.old.items)) (outside (S.seen shelf.new) (O.seen out.new) (map (λ port. port_seen port) ports.new.items)) }
-    ensures lost { result ≡ Status.PortFault → HasLost FewestLeaves (map string_bytes words.now) (outside (S.seen shelf.old) (O.seen out.old) (map (λ port. port_seen port) ports.old.items)) (outside (S.seen shelf.new) (O.seen out.new) (map (λ port. port_seen port) ports.new.items)) }
-
-    // The main statement about `run`: the source circuit's outputs and latch states cycle by cycle, at each change exactly
-    // the bits in which the configurations specialised from scratch differ, LUTs of at most K inputs, and the least depth
-    // over all covers.
-    ensures headline { result ≡ Status.Done → (run : RunWords) → command_of FewestLeaves (length ports.old.items) (map string_bytes words.now) ≡ Some (Run run) → Told (S.seen shelf.old).files (λ files. HasHeadline files run (outside (S.seen shelf.old) (O.seen out.old) (map (λ port. port_seen port) ports.old.items)) (outside (S.seen shelf.new) (O.seen out.new) (map (λ port. port_seen port) ports.new.items))) }
-
-    // The main statement about `pace`: the circuit steps only under the configuration specialised from scratch for the values
-    // asked for last, as the source circuit does, and waits exactly as long as its writes take at the rate of the port.
-    ensures paced { result ≡ Status.Done → (paced : PaceWords) → command_of FewestLeaves (length ports.old.items) (map string_bytes words.now) ≡ Some (Pace paced) → Told (S.seen shelf.old).files (λ files. HasPaceHeadline files paced (outside (S.seen shelf.old) (O.seen out.old) (map (λ port. port_seen port) ports.old.items)) (outside (S.seen shelf.new) (O.seen out.new) (map (λ port. port_seen port) ports.new.items))) }
-
-    // `bits` plays what `map` wrote as `run` plays its LUTs, for each script without cycles.
-    ensures replays { result ≡ Status.Done → (written : MapWords) → command_of FewestLeaves (length ports.old.items) (map string_bytes words.now) ≡ Some (Map written) → Told (S.seen shelf.old).files (λ files. ReplaysRun files written (outside (S.seen shelf.old) (O.seen out.old) (map (λ port. port_seen port) ports.old.items)) (outside (S.seen shelf.new) (O.seen out.new) (map (λ port. port_seen port) ports.new.items))) }
-
-    // An accepted job is done if no read or write fails, no more ports fail than there are spares, and memory suffices.
-    ensures complete { IsComplete FewestLeaves (map string_bytes words.now) (S.seen shelf.old) (S.seen shelf.new) (outside (S.seen shelf.old) (O.seen out.old) (map (λ port. port_seen port) ports.old.items)) (outside (S.seen shelf.new) (O.seen out.new) (map (λ port. port_seen port) ports.new.items)) result }
-    ensures finished { IsFinished FewestLeaves (map string_bytes words.now) (S.seen shelf.old) (S.seen shelf.new) (outside (S.seen shelf.old) (O.seen out.old) (map (λ port. port_seen port) ports.old.items)) (outside (S.seen shelf.new) (O.seen out.new) (map (λ port. port_seen port) ports.new.items)) result }
-
-    // Each fault has its cause.
-    ensures read_fault { result ≡ Status.ReadFault → HasFault FewestLeaves (length ports.old.items) (map string_bytes words.now) (S.seen shelf.old) (S.seen shelf.new) }
-    ensures write_fault { result ≡ Status.WriteFault → HasWriteCause FewestLeaves (map string_bytes words.now) (outside (S.seen shelf.old) (O.seen out.old) (map (λ port. port_seen port) ports.old.items)) (outside (S.seen shelf.new) (O.seen out.new) (map (λ port. port_seen port) ports.new.items)) }
-    ensures port_fault { result ≡ Status.PortFault → HasPortCause FewestLeaves (map string_bytes words.now) (outside (S.seen shelf.old) (O.seen out.old) (map (λ port. port_seen port) ports.old.items)) (outside (S.seen shelf.new) (O.seen out.new) (map (λ port. port_seen port) ports.new.items)) }
-
-    // What happens to the ports, whatever the files are.
-    ensures boxes { (result ≡ Status.Done) ⊎ (result ≡ Status.WriteFault) → HasKeptPorts FewestLeaves (map string_bytes words.now) (outside (S.seen shelf.old) (O.seen out.old) (map (λ port. port_seen port) ports.old.items)) (outside (S.seen shelf.new) (O.seen out.new) (map (λ port. port_seen port) ports.new.items)) }
+    // What the status means, clause by clause: the record is in `specs/Meaning.antt`.
+    ensures meaning { MeansSo (λ p. port_seen p) FewestLeaves words.now (S.seen shelf.old) (S.seen shelf.new) (O.seen out.old) (O.seen out.new) ports.old ports.new result }
 
     // What is unchanged.
     ensures quiet { IsQuiet result → (O.seen out.new).bytes ≡ (O.seen out.old).bytes }
@@ -253,9 +180,8 @@ pub fn tlut<S: Shelf, O: Sink, E: Sink>(
     ensures no_files { ((S.seen shelf.new).files ≡ (S.seen shelf.old).files) ⊎ WritesFiles FewestLeaves (length ports.old.items) (map string_bytes words.now) }
 
     // The outcome, its cause, and the fault line.
-    ensures told { (outcome : OutcomeValue) × (result ≡ status_of outcome)
-        × IsEnd FewestLeaves (map string_bytes words.now) (S.seen shelf.old) (S.seen shelf.new) (outside (S.seen shelf.old) (O.seen out.old) (map (λ port. port_seen port) ports.old.items)) (outside (S.seen shelf.new) (O.seen out.new) (map (λ port. port_seen port) ports.new.items)) outcome
-        × Reports (E.seen err.old) (E.seen err.new) (line_of (fault_word FewestLeaves (length ports.old.items) (map string_bytes words.now) outcome) outcome) }
+    ensures told { EndsSo (λ p. port_seen p) FewestLeaves words.now (S.seen shelf.old) (S.seen shelf.new) (O.seen out.old) (O.seen out.new) ports.old ports.new
+        (E.seen err.old) (E.seen err.new) result }
 {
     tlut_by(alloc, Rule::FewestLeaves, words, shelf, out, err, ports)
 }

@@ -9,8 +9,8 @@
 //! - `outputs.rt` says which files a call writes, and how many ports it uses.
 //!
 //! `specs/Commands.antt` has the forms and the walk of each command, `specs/Outputs.antt` what each one writes, and
-//! `specs/Call.antt` the meaning of each status. A new
-//! command adds an entry to `command.rt`, to `outputs.rt` and to their `specs/`, and to the choice in `call.rt` with its answer.
+//! `specs/Call.antt` how a call ends. `specs/Meaning.antt` says what each status means, one field for each clause. A new command
+//! adds an entry to `command.rt`, to `outputs.rt` and to their `specs/`, and to the choice in `call.rt` with its answer.
 #![tactic(auto)]
 
 mod call;

@@ -4,10 +4,10 @@ use Rattle.ppc_pack.specs.Pack.{IsConf}
 use Rattle.spec_core.specs.Specialiser.{SpecialiserValue}
 use Rattle.spec_core.specs.Events.{IsUpset, IsScrub}
 use Rattle.tl_text.specs.NameIndex.{place_of}
-use Rattle.tlut_host.specs.Copied.{copied, copied_plain}
+use Rattle.tlut_host.specs.Kept.{param_names}
+use Rattle.tlut_host.specs.Copied.{copied_by, copied_plain}
 use Rattle.tlut_host.specs.Settings.{IsChange, settings_status, assign_of}
 use Rattle.tlut_host.specs.declared.setting.Setting.{Setting}
-use Rattle.tlut_host.specs.declared.setting.BitWrite.{BitWrite}
 use Rattle.tlut_host.specs.declared.setting.TheConstants.{DONE, CLOSED, RANGE}
 use Rattle.tlut_host.specs.Paced.{PacedValue, IsAsk, IsTick}
 
@@ -25,10 +25,25 @@ IsTellingCall None (Some new) status Stays P = ⊥
 IsTellingCall (Some old) None status Stays P = ⊥
 IsTellingCall (Some old) (Some new) status Stays P = P old new
 
--- the writes of the last event, copied, and their number
-pub record AreHanded (new : SpecialiserValue) (before after : List BitWrite) (count : ℕ) : Type 0 where
-  pub writes : after ≡ copied new.writes before
-  pub number : count ≡ length new.writes
+-- the same of a call that changes nothing at the host
+abbrev pub IsReadCall : {A : Type 0} → Option A → Option A → ℕ → Type 0 → (A → Type 0) → Type 0
+IsReadCall old new status Stays P = IsTellingCall old new status Stays (λ h k. (k ≡ h) × P h)
+
+-- values, each made into what C gets by a function, copied as far as there is room, and their number
+pub record AreHanded {A B : Type 0} (make : A → B) (values : List A) (before after : List B) (count status : ℕ) : Type 0 where
+  pub done : status ≡ DONE
+  pub copied : after ≡ copied_by make values before
+  pub number : count ≡ length values
+
+-- a call that hands out values of the host
+abbrev pub IsCopyCall : {A B H : Type 0} → Option H → Option H → (H → List A) → (A → B) → List B → List B → ℕ → ℕ → ℕ → Type 0
+IsCopyCall old new values make before after count told status = IsReadCall old new status ((after ≡ before) × (told ≡ count)) (λ h. AreHanded make (values h) before after told status)
+
+-- how many parameters and configuration bits there are
+pub record AreCounted (h : SpecialiserValue) (parameters bits status : ℕ) : Type 0 where
+  pub done : status ≡ DONE
+  pub parameters_are : parameters ≡ length h.state.params
+  pub bits_are : bits ≡ length h.state.config
 
 -- settings are taken, or the first one that breaks a rule is told, and then nothing changes
 pub record IsSetCall (settings : List Setting) (old new : SpecialiserValue) (status : ℕ) : Type 0 where
@@ -59,6 +74,10 @@ pub record IsNameCall (names : List (List ℕ)) (number : ℕ) (before after : L
   pub done : (name : List ℕ) → slice_get names number ≡ Some name → (status ≡ DONE) × (after ≡ copied_plain name before) × (told ≡ length name)
   pub range : length names ≤ number → (status ≡ RANGE) × (after ≡ before) × (told ≡ count)
 
+-- the same of a handle's pack
+abbrev pub IsNameOf : SpecialiserValue → ℕ → List ℕ → List ℕ → ℕ → ℕ → ℕ → Type 0
+IsNameOf h number before after count told status = IsNameCall (param_names h.pack.params) number before after count told status
+
 -- the number of the parameter of a name, or there is none of this name, and then nothing is told
 pub record IsNumberCall (names : List (List ℕ)) (name : List ℕ) (before after : ℕ) (status : ℕ) : Type 0 where
   pub told : (place : ℕ) → place_of names name ≡ Some place → (status ≡ DONE) × (after ≡ place)
@@ -74,10 +93,3 @@ pub record IsAskCall (settings : List Setting) (old new : PacedValue) (before af
 pub record IsTickCall (old new : PacedValue) (is_right : Bool) (status : ℕ) : Type 0 where
   pub done : status ≡ DONE
   pub ticked : IsTick old new is_right
-
--- the writes of the last tick, copied, and their number
-pub record AreSent (old new : PacedValue) (before after : List BitWrite) (count status : ℕ) : Type 0 where
-  pub done : status ≡ DONE
-  pub same : new ≡ old
-  pub writes : after ≡ copied old.writes before
-  pub number : count ≡ length old.writes

@@ -1,10 +1,11 @@
 //! What C calls. Each function tests what C can get wrong, and asks only for memory that is there.
 ghost use Rattle.std.specs.Prelude.{◌≡◌, ◌≢◌, ◌<◌, true, false, Option, Some, None, is_some, length, if◌then◌else◌};
 ghost use Rattle.tl_text.specs.declared.limits.TheConstants.{MOST_PACK_BYTES};
-ghost use Rattle.tlut_host.specs.Copied.{copied_plain};
+ghost use Rattle.tlut_host.specs.declared.setting.TheConstants.{DONE, LIMIT, CLOSED, OPEN};
+ghost use Rattle.tlut_host.specs.Copied.{bit_write};
 ghost use Rattle.tlut_host.specs.Kept.{param_names};
 ghost use Rattle.tlut_host.specs.Opened.{IsOpened, IsTold, HoldsOne};
-ghost use Rattle.tlut_host.specs.Calls.{IsCall, IsTellingCall, IsSetCall, IsUpsetCall, IsScrubCall, IsValueCall, IsNameCall, IsNumberCall, AreHanded};
+ghost use Rattle.tlut_host.specs.Calls.{IsCall, IsReadCall, IsCopyCall, IsSetCall, IsUpsetCall, IsScrubCall, IsValueCall, IsNameOf, IsNumberCall, AreCounted};
 
 use crate::copy::{copy_bits, copy_writes, value_at};
 use crate::handle::{Handle, put, take};
@@ -21,14 +22,14 @@ pub extern "C" fn tlut_open(
     handle: &mut Handle,
     refusal: &mut Refusal,
 ) -> u32
-    ensures done { result ≡ 0 → HoldsOne handle.new.held.value (IsOpened pack.now) }
-    ensures kept { result ≢ 0 → handle.new.held.value ≡ handle.old.held.value }
-    ensures open { is_some handle.old.held.value ≡ true → result ≡ 5 }
-    ensures only_open { result ≡ 5 → is_some handle.old.held.value ≡ true }
-    ensures quiet { result ≡ 0 → refusal.new ≡ refusal.old }
-    ensures quiet_open { result ≡ 5 → refusal.new ≡ refusal.old }
-    ensures told { result ≢ 0 → result ≢ 5 → IsTold pack.now result refusal.new }
-    ensures limit { is_some handle.old.held.value ≡ false → MOST_PACK_BYTES < length pack.now → result ≡ 2 }
+    ensures done { result ≡ DONE → HoldsOne handle.new.held.value (IsOpened pack.now) }
+    ensures kept { result ≢ DONE → handle.new.held.value ≡ handle.old.held.value }
+    ensures open { is_some handle.old.held.value ≡ true → result ≡ OPEN }
+    ensures only_open { result ≡ OPEN → is_some handle.old.held.value ≡ true }
+    ensures quiet { result ≡ DONE → refusal.new ≡ refusal.old }
+    ensures quiet_open { result ≡ OPEN → refusal.new ≡ refusal.old }
+    ensures told { result ≢ DONE → result ≢ OPEN → IsTold pack.now result refusal.new }
+    ensures limit { is_some handle.old.held.value ≡ false → MOST_PACK_BYTES < length pack.now → result ≡ LIMIT }
 {
     if handle.is_open {
         return OPEN;
@@ -38,10 +39,7 @@ pub extern "C" fn tlut_open(
             put(handle, host);
             DONE
         }
-        Err(error) => {
-            *refusal = error.refusal();
-            error.status()
-        }
+        Err(error) => error.tell(refusal),
     }
 }
 
@@ -49,7 +47,7 @@ pub extern "C" fn tlut_open(
 #[unsafe(no_mangle)]
 pub extern "C" fn tlut_close(handle: &mut Handle) -> u32
     ensures closed { handle.new.held.value ≡ None }
-    ensures status { result ≡ (if is_some handle.old.held.value then 0 else 4) }
+    ensures status { result ≡ (if is_some handle.old.held.value then DONE else CLOSED) }
 {
     match take(handle) {
         None => CLOSED,
@@ -103,7 +101,7 @@ pub extern "C" fn tlut_writes(
     writes: &mut [BitWrite],
     count: &mut usize,
 ) -> u32
-    ensures { IsTellingCall handle.old.held.value handle.new.held.value result ((writes.new ≡ writes.old) × (count.new ≡ count.old)) (λ old new. (result ≡ 0) × (new ≡ old) × AreHanded old writes.old writes.new count.new) }
+    ensures { IsCopyCall handle.old.held.value handle.new.held.value (λ h. h.writes) bit_write writes.old writes.new count.old count.new result }
 {
     let Some(host) = take(handle) else {
         return CLOSED;
@@ -116,7 +114,7 @@ pub extern "C" fn tlut_writes(
 /// Copies the configuration of the device as far as there is room, and tells how many bits there are.
 #[unsafe(no_mangle)]
 pub extern "C" fn tlut_image(handle: &mut Handle, bits: &mut [bool], count: &mut usize) -> u32
-    ensures { IsTellingCall handle.old.held.value handle.new.held.value result ((bits.new ≡ bits.old) × (count.new ≡ count.old)) (λ old new. (result ≡ 0) × (new ≡ old) × (bits.new ≡ copied_plain old.state.config bits.old) × (count.new ≡ length old.state.config)) }
+    ensures { IsCopyCall handle.old.held.value handle.new.held.value (λ h. h.state.config) (λ b. b) bits.old bits.new count.old count.new result }
 {
     let Some(host) = take(handle) else {
         return CLOSED;
@@ -129,7 +127,7 @@ pub extern "C" fn tlut_image(handle: &mut Handle, bits: &mut [bool], count: &mut
 /// Copies the values of the parameters as far as there is room, and tells how many there are.
 #[unsafe(no_mangle)]
 pub extern "C" fn tlut_values(handle: &mut Handle, bits: &mut [bool], count: &mut usize) -> u32
-    ensures { IsTellingCall handle.old.held.value handle.new.held.value result ((bits.new ≡ bits.old) × (count.new ≡ count.old)) (λ old new. (result ≡ 0) × (new ≡ old) × (bits.new ≡ copied_plain old.state.params bits.old) × (count.new ≡ length old.state.params)) }
+    ensures { IsCopyCall handle.old.held.value handle.new.held.value (λ h. h.state.params) (λ b. b) bits.old bits.new count.old count.new result }
 {
     let Some(host) = take(handle) else {
         return CLOSED;
@@ -142,7 +140,8 @@ pub extern "C" fn tlut_values(handle: &mut Handle, bits: &mut [bool], count: &mu
 /// Tells how many parameters and configuration bits there are.
 #[unsafe(no_mangle)]
 pub extern "C" fn tlut_counts(handle: &mut Handle, parameters: &mut usize, bits: &mut usize) -> u32
-    ensures { IsTellingCall handle.old.held.value handle.new.held.value result ((parameters.new ≡ parameters.old) × (bits.new ≡ bits.old)) (λ old new. (result ≡ 0) × (new ≡ old) × (parameters.new ≡ length old.state.params) × (bits.new ≡ length old.state.config)) }
+    ensures { IsReadCall handle.old.held.value handle.new.held.value result ((parameters.new ≡ parameters.old) × (bits.new ≡ bits.old))
+        (λ h. AreCounted h parameters.new bits.new result) }
 {
     let Some(host) = take(handle) else {
         return CLOSED;
@@ -156,7 +155,7 @@ pub extern "C" fn tlut_counts(handle: &mut Handle, parameters: &mut usize, bits:
 /// Tells the value of a parameter.
 #[unsafe(no_mangle)]
 pub extern "C" fn tlut_value(handle: &mut Handle, parameter: u16, bit: &mut bool) -> u32
-    ensures { IsTellingCall handle.old.held.value handle.new.held.value result (bit.new ≡ bit.old) (λ old new. (new ≡ old) × IsValueCall parameter old.state.params bit.old bit.new result) }
+    ensures { IsReadCall handle.old.held.value handle.new.held.value result (bit.new ≡ bit.old) (λ h. IsValueCall parameter h.state.params bit.old bit.new result) }
 {
     let Some(host) = take(handle) else {
         return CLOSED;
@@ -174,7 +173,8 @@ pub extern "C" fn tlut_name(
     name: &mut [u8],
     count: &mut usize,
 ) -> u32
-    ensures { IsTellingCall handle.old.held.value handle.new.held.value result ((name.new ≡ name.old) × (count.new ≡ count.old)) (λ old new. (new ≡ old) × IsNameCall (param_names old.pack.params) parameter name.old name.new count.old count.new result) }
+    ensures { IsReadCall handle.old.held.value handle.new.held.value result ((name.new ≡ name.old) × (count.new ≡ count.old))
+        (λ h. IsNameOf h parameter name.old name.new count.old count.new result) }
 {
     let Some(host) = take(handle) else {
         return CLOSED;
@@ -187,7 +187,8 @@ pub extern "C" fn tlut_name(
 /// Tells the number of the parameter of this name.
 #[unsafe(no_mangle)]
 pub extern "C" fn tlut_number(handle: &mut Handle, name: &[u8], number: &mut usize) -> u32
-    ensures { IsTellingCall handle.old.held.value handle.new.held.value result (number.new ≡ number.old) (λ old new. (new ≡ old) × IsNumberCall (param_names old.pack.params) name.now number.old number.new result) }
+    ensures { IsReadCall handle.old.held.value handle.new.held.value result (number.new ≡ number.old)
+        (λ h. IsNumberCall (param_names h.pack.params) name.now number.old number.new result) }
 {
     let Some(host) = take(handle) else {
         return CLOSED;

@@ -1,8 +1,10 @@
 //! What C calls at a limited rate.
 ghost use Rattle.std.specs.Prelude.{◌≡◌, ◌≢◌, ◌<◌, ◌≤◌, true, false, Option, Some, None, is_some, length, if◌then◌else◌};
 ghost use Rattle.tl_text.specs.declared.limits.TheConstants.{MOST_PACK_BYTES};
+ghost use Rattle.tlut_host.specs.declared.setting.TheConstants.{DONE, LIMIT, CLOSED, OPEN, RANGE};
+ghost use Rattle.tlut_host.specs.Copied.{bit_write};
 ghost use Rattle.tlut_host.specs.Opened.{IsTold, HoldsOne};
-ghost use Rattle.tlut_host.specs.Calls.{IsTellingCall, IsAskCall, IsTickCall, AreSent};
+ghost use Rattle.tlut_host.specs.Calls.{IsTellingCall, IsCopyCall, IsAskCall, IsTickCall};
 ghost use Rattle.tlut_host.specs.Paced.{IsPacedOpened};
 
 use crate::copy::copy_writes;
@@ -21,17 +23,17 @@ pub extern "C" fn tlut_paced_open(
     handle: &mut PacedHandle,
     refusal: &mut Refusal,
 ) -> u32
-    ensures done { result ≡ 0 → HoldsOne handle.new.held.value (IsPacedOpened pack.now rate) }
-    ensures kept { result ≢ 0 → handle.new.held.value ≡ handle.old.held.value }
-    ensures open { is_some handle.old.held.value ≡ true → result ≡ 5 }
-    ensures only_open { result ≡ 5 → is_some handle.old.held.value ≡ true }
-    ensures quiet { result ≡ 0 → refusal.new ≡ refusal.old }
-    ensures quiet_open { result ≡ 5 → refusal.new ≡ refusal.old }
-    ensures range { result ≡ 6 → rate ≡ 0 }
-    ensures quiet_range { result ≡ 6 → refusal.new ≡ refusal.old }
-    ensures zero { is_some handle.old.held.value ≡ false → rate ≡ 0 → result ≡ 6 }
-    ensures told { result ≢ 0 → result ≢ 5 → result ≢ 6 → IsTold pack.now result refusal.new }
-    ensures limit { is_some handle.old.held.value ≡ false → 1 ≤ rate → MOST_PACK_BYTES < length pack.now → result ≡ 2 }
+    ensures done { result ≡ DONE → HoldsOne handle.new.held.value (IsPacedOpened pack.now rate) }
+    ensures kept { result ≢ DONE → handle.new.held.value ≡ handle.old.held.value }
+    ensures open { is_some handle.old.held.value ≡ true → result ≡ OPEN }
+    ensures only_open { result ≡ OPEN → is_some handle.old.held.value ≡ true }
+    ensures quiet { result ≡ DONE → refusal.new ≡ refusal.old }
+    ensures quiet_open { result ≡ OPEN → refusal.new ≡ refusal.old }
+    ensures range { result ≡ RANGE → rate ≡ 0 }
+    ensures quiet_range { result ≡ RANGE → refusal.new ≡ refusal.old }
+    ensures zero { is_some handle.old.held.value ≡ false → rate ≡ 0 → result ≡ RANGE }
+    ensures told { result ≢ DONE → result ≢ OPEN → result ≢ RANGE → IsTold pack.now result refusal.new }
+    ensures limit { is_some handle.old.held.value ≡ false → 1 ≤ rate → MOST_PACK_BYTES < length pack.now → result ≡ LIMIT }
 {
     if handle.is_open {
         return OPEN;
@@ -44,10 +46,7 @@ pub extern "C" fn tlut_paced_open(
             put_paced(handle, host);
             DONE
         }
-        Err(error) => {
-            *refusal = error.refusal();
-            error.status()
-        }
+        Err(error) => error.tell(refusal),
     }
 }
 
@@ -55,7 +54,7 @@ pub extern "C" fn tlut_paced_open(
 #[unsafe(no_mangle)]
 pub extern "C" fn tlut_paced_close(handle: &mut PacedHandle) -> u32
     ensures closed { handle.new.held.value ≡ None }
-    ensures status { result ≡ (if is_some handle.old.held.value then 0 else 4) }
+    ensures status { result ≡ (if is_some handle.old.held.value then DONE else CLOSED) }
 {
     match take_paced(handle) {
         None => CLOSED,
@@ -71,7 +70,8 @@ pub extern "C" fn tlut_ask(
     settings: &[Setting],
     waiting: &mut usize,
 ) -> u32
-    ensures { IsTellingCall handle.old.held.value handle.new.held.value result (waiting.new ≡ waiting.old) (λ old new. IsAskCall settings.now old new waiting.old waiting.new result) }
+    ensures { IsTellingCall handle.old.held.value handle.new.held.value result (waiting.new ≡ waiting.old)
+        (λ old new. IsAskCall settings.now old new waiting.old waiting.new result) }
 {
     let Some(mut host) = take_paced(handle) else {
         return CLOSED;
@@ -102,7 +102,7 @@ pub extern "C" fn tlut_sent(
     writes: &mut [BitWrite],
     count: &mut usize,
 ) -> u32
-    ensures { IsTellingCall handle.old.held.value handle.new.held.value result ((writes.new ≡ writes.old) × (count.new ≡ count.old)) (λ old new. AreSent old new writes.old writes.new count.new result) }
+    ensures { IsCopyCall handle.old.held.value handle.new.held.value (λ h. h.writes) bit_write writes.old writes.new count.old count.new result }
 {
     let Some(host) = take_paced(handle) else {
         return CLOSED;

@@ -1,5 +1,6 @@
 //! Settings of C as assigns.
 ghost use Rattle.std.specs.Prelude.{◌≡◌, ◌≤◌, ◌<◌, length, map, vec_capacity};
+ghost use Rattle.tlut_host.specs.declared.setting.TheConstants.{DONE};
 ghost use Rattle.tlut_host.specs.Settings.{settings_status, assign_of};
 
 use crate::setting::{DONE, ORDER, RANGE, Setting};
@@ -9,7 +10,7 @@ use tl_io::Assign;
 pub(crate) fn gather(assigns: &mut Vec<Assign>, params: usize, settings: &[Setting]) -> u32
     requires { params ≤ vec_capacity assigns.old }
     ensures status { result ≡ settings_status params 0 settings.now }
-    ensures are { result ≡ 0 → assigns.new.items ≡ map assign_of settings.now }
+    ensures are { result ≡ DONE → assigns.new.items ≡ map assign_of settings.now }
     ensures room { params ≤ vec_capacity assigns.new }
 {
     assigns.clear();

@@ -4,6 +4,7 @@ ghost use Rattle.tl_io.specs.Assigns.{AreAssigned};
 ghost use Rattle.ppc_pack.specs.Pack.{IsConf, inits_of};
 ghost use Rattle.spec_core.specs.Events.{IsScrub};
 ghost use Rattle.tl_text.specs.NameIndex.{place_of};
+ghost use Rattle.tlut_host.specs.declared.setting.TheConstants.{DONE};
 ghost use Rattle.tlut_host.specs.Calls.{IsUpsetCall};
 ghost use Rattle.tlut_host.specs.Kept.{param_names};
 ghost use Rattle.tlut_host.specs.Settings.{IsChange, settings_status, assign_of};
@@ -87,8 +88,8 @@ impl Host {
     // and then nothing changes.
     pub(crate) fn set(&mut self, settings: &[Setting]) -> u32
         ensures status { result ≡ settings_status (length self.old.state.params) 0 settings.now }
-        ensures done { result ≡ 0 → IsChange (map assign_of settings.now) self.old self.new }
-        ensures refused { result ≢ 0 → self.new ≡ self.old }
+        ensures done { result ≡ DONE → IsChange (map assign_of settings.now) self.old self.new }
+        ensures refused { result ≢ DONE → self.new ≡ self.old }
     {
         let params = self.specialiser.values().len();
         let status = gather(&mut self.assigns, params, settings);
@@ -120,7 +121,7 @@ impl Host {
 
     // The name of a parameter, or none if there is none of this number.
     pub(crate) fn name(&self, number: usize) -> Option<&[u8]>
-        ensures { MatchOption result (length (param_names self.now.pack.params) ≤ number) (λ name. slice_get (param_names self.now.pack.params) number ≡ Some name.now) }
+        ensures { MatchOption result (length (param_names self.now.pack.params) ≤ number) (λ n. slice_get (param_names self.now.pack.params) number ≡ Some n.now) }
     {
         let name = self.names.get(number)?;
         Some(name.bytes())

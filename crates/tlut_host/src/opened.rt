@@ -2,6 +2,7 @@
 ghost use Rattle.std.specs.Prelude.{◌≡◌, ◌≢◌, ◌<◌, ◌≤◌, length, IfOk, IfErr};
 ghost use Rattle.tl_text.specs.declared.limits.TheConstants.{MOST_PACK_BYTES};
 ghost use Rattle.ppc_file.specs.PackFile.{IsPackFile};
+ghost use Rattle.tlut_host.specs.declared.setting.TheConstants.{CLOSED};
 ghost use Rattle.tlut_host.specs.Opened.{IsOpened, IsOpenFault, told, told_of, status_of};
 ghost use Rattle.tlut_host.specs.Paced.{IsPacedOpened};
 
@@ -40,10 +41,10 @@ fn refusal_told(error: PackErr) -> Refusal
 }
 
 impl OpenErr {
-    pub(crate) fn status(self) -> u32
+    fn status(self) -> u32
         ensures status { result ≡ status_of self }
         ensures some { 0 < result }
-        ensures few { result < 4 }
+        ensures few { result < CLOSED }
     {
         match self {
             OpenErr::Limit => LIMIT,
@@ -52,7 +53,7 @@ impl OpenErr {
         }
     }
 
-    pub(crate) fn refusal(self) -> Refusal
+    fn refusal(self) -> Refusal
         ensures { result ≡ told_of self }
     {
         match self {
@@ -60,6 +61,17 @@ impl OpenErr {
             OpenErr::Memory => Refusal { rule: 0, offset: 0 },
             OpenErr::Refused(error) => refusal_told(error),
         }
+    }
+
+    // Tells C what is refused, and answers the status.
+    pub(crate) fn tell(self, refusal: &mut Refusal) -> u32
+        ensures status { result ≡ status_of self }
+        ensures some { 0 < result }
+        ensures few { result < CLOSED }
+        ensures refusal { refusal.new ≡ told_of self }
+    {
+        *refusal = self.refusal();
+        self.status()
     }
 }
 

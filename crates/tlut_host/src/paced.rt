@@ -34,7 +34,14 @@ impl Model for PacedHost {
 
     ghost Value = { PacedValue };
 
-    ghost view = { λ p. record { pack = p.specialiser.pack; params = p.specialiser.state.params; config = p.backlog.config; writes = p.backlog.writes; rate = p.rate; looks = p.specialiser.reads + p.backlog.looks } };
+    ghost view = { λ p. record {
+      pack = p.specialiser.pack;
+      params = p.specialiser.state.params;
+      config = p.backlog.config;
+      writes = p.backlog.writes;
+      rate = p.rate;
+      looks = p.specialiser.reads + p.backlog.looks;
+    } };
 
     ghost invariant = { λ p. IsPacedKept p.specialiser p.backlog p.rate p.params (vec_capacity p.assigns) };
 }

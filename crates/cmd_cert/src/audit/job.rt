@@ -1,10 +1,9 @@
 //! The command `audit`.
-ghost use Rattle.std.specs.Prelude.{◌≡◌, ◌≤◌, List, [], false, string_bytes, IfOk, IfErr, OnOk};
+ghost use Rattle.std.specs.Prelude.{◌≡◌, ◌≤◌, false, IfOk, IfErr, OnOk};
 ghost use Rattle.tl_text.specs.declared.logical_lines.TheConstants.{MOST_BYTES};
-ghost use Rattle.tl_io.specs.Port.{PortSeen};
 ghost use Rattle.aig_core.specs.Roots.{roots_of};
 ghost use Rattle.cert_check.specs.Valid.{IsValid};
-ghost use Rattle.cmd_base.specs.Walk.{outside, KeepsFiles, Ends, Explains, Told, HasLaws};
+ghost use Rattle.cmd_base.specs.Walk.{KeepsFiles, PortlessEnds, Explains, Told, HasLaws};
 ghost use Rattle.cmd_stations.specs.Tables.{IsBuiltSource, ComesToGraph};
 ghost use Rattle.cmd_cert.specs.Certs.{cert_seen, HasCert};
 ghost use Rattle.cmd_cert.specs.Audit.{audit_reading, audit_walk};
@@ -63,7 +62,7 @@ pub fn audit_job<S: Shelf, O: Sink>(
     shelf: &mut S,
     out: &mut O,
 ) -> Outcome
-    ensures ends { (ports : List PortSeen) → Ends (audit_walk (cert_seen words.now)) (S.seen shelf.old) (S.seen shelf.new) (outside (S.seen shelf.old) (O.seen out.old) ports) (outside (S.seen shelf.new) (O.seen out.new) ports) result }
+    ensures ends { PortlessEnds (audit_walk (cert_seen words.now)) (S.seen shelf.old) (S.seen shelf.new) (O.seen out.old) (O.seen out.new) result }
     ensures files { (S.seen shelf.new).files ≡ (S.seen shelf.old).files }
     ensures laws { HasLaws (audit_walk (cert_seen words.now)) }
 {

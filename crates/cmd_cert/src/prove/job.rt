@@ -1,21 +1,19 @@
 //! The command `prove`.
-ghost use Rattle.std.specs.Prelude.{◌≡◌, ◌≤◌, List, [], ◌∷◌, false, string_bytes, IfOk, IfErr, OnOk};
+ghost use Rattle.std.specs.Prelude.{◌≡◌, ◌≤◌, false, IfOk, IfErr, OnOk};
 ghost use Rattle.tl_text.specs.declared.logical_lines.TheConstants.{MOST_BYTES};
-ghost use Rattle.tl_io.specs.Port.{PortSeen};
 ghost use Rattle.aig_core.specs.Roots.{roots_of};
 ghost use Rattle.cut_sets.specs.Covers.{IsLeastDepth};
 ghost use Rattle.cover_pick.specs.declared.rule.Rule.{Rule};
 ghost use Rattle.cert_check.specs.Valid.{IsValid};
 ghost use Rattle.cert_check.specs.WrittenText.{IsWritable, cert_text};
-ghost use Rattle.cmd_base.specs.Walk.{outside, KeepsFiles, Ends, Explains, Told, HasLaws};
+ghost use Rattle.cmd_base.specs.Walk.{KeepsFiles, PortlessEnds, Explains, Told, HasLaws};
 ghost use Rattle.cmd_stations.specs.Source.{IsTableSize, source_reading};
 ghost use Rattle.cmd_stations.specs.Mapped.{ToLabels};
 ghost use Rattle.cmd_stations.specs.Tables.{IsLabelledSource, ComesToLabels};
-ghost use Rattle.cmd_stations.specs.FileWrites.{WritesAll};
 ghost use Rattle.cmd_cert.specs.Certs.{cert_seen};
 ghost use Rattle.cmd_cert.specs.Certs as told;
 ghost use Rattle.cmd_cert.specs.Prove.{prove_walk};
-ghost use Rattle.cmd_cert.specs.Proofs.{IsProof};
+ghost use Rattle.cmd_cert.specs.Proofs.{IsProof, WritesProof};
 
 use crate::certs::write_cert;
 use crate::lines::{proved_line, put_line};
@@ -92,7 +90,7 @@ fn write_out<S: Shelf, O: Sink>(
     shelf: &mut S,
     out: &mut O,
 ) -> Result<(), Failed>
-    ensures ends { (ports : List PortSeen) → WritesAll (record { name = name.now; bytes = cert_text proof.now.cert } ∷ []) (string_bytes proof.now.line) (outside (S.seen shelf.old) (O.seen out.old) ports) (outside (S.seen shelf.new) (O.seen out.new) ports) result }
+    ensures ends { WritesProof name.now proof.now (S.seen shelf.old) (S.seen shelf.new) (O.seen out.old) (O.seen out.new) result }
     ensures given { (S.seen shelf.new).given ≡ (S.seen shelf.old).given }
 {
     match write_cert(&proof.cert, name, shelf) {
@@ -109,7 +107,7 @@ pub fn prove_job<S: Shelf, O: Sink>(
     out: &mut O,
 ) -> Outcome
     requires { IsTableSize words.now.source.k }
-    ensures ends { (ports : List PortSeen) → Ends (prove_walk (cert_seen words.now)) (S.seen shelf.old) (S.seen shelf.new) (outside (S.seen shelf.old) (O.seen out.old) ports) (outside (S.seen shelf.new) (O.seen out.new) ports) result }
+    ensures ends { PortlessEnds (prove_walk (cert_seen words.now)) (S.seen shelf.old) (S.seen shelf.new) (O.seen out.old) (O.seen out.new) result }
     ensures laws { HasLaws (prove_walk (cert_seen words.now)) }
 {
     let proof = match read_proof(alloc, words, shelf) {

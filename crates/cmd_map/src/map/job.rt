@@ -1,15 +1,10 @@
 //! The command `map`.
-ghost use Rattle.std.specs.Prelude.{◌≡◌, [], ◌∷◌, List};
-ghost use Rattle.tl_io.specs.Port.{PortSeen};
-ghost use Rattle.blif_write.specs.PlainNetlist.{netlist_text};
-ghost use Rattle.cmd_base.specs.Walk.{outside, Ends, HasLaws};
+ghost use Rattle.std.specs.Prelude.{◌≡◌};
+ghost use Rattle.cmd_base.specs.Walk.{PortlessEnds, HasLaws};
 ghost use Rattle.cmd_stations.specs.Source.{IsTableSize};
-ghost use Rattle.cmd_stations.specs.Mapped.{template_header};
-ghost use Rattle.cmd_stations.specs.Written.{IsTuned, template_of};
-ghost use Rattle.cmd_stations.specs.FileWrites.{WritesAll};
 ghost use Rattle.cmd_stations.specs.Tables.{IsDraft};
-ghost use Rattle.cmd_stations.specs.Packs.{present_bytes};
 ghost use Rattle.cmd_map.specs.Map.{map_seen, map_walk};
+ghost use Rattle.cmd_map.specs.Outputs.{IsTunedSource, WritesTemplate};
 
 use crate::map::words::MapWords;
 use cmd_base::Outcome;
@@ -26,9 +21,9 @@ fn write_out<S: Shelf, O: Sink>(
     out: &mut O,
 ) -> Result<(), Failed>
     requires { IsDraft draft.old }
-    ensures ends { (ports : List PortSeen) → WritesAll (record { name = template.now; bytes = netlist_text (template_of draft.old.mapped.source draft.old.mapped.tables.template) } ∷ record { name = pack.now; bytes = present_bytes draft.old.mapped.tables.pack } ∷ []) (template_header draft.old.mapped.tables.template) (outside (S.seen shelf.old) (O.seen out.old) ports) (outside (S.seen shelf.new) (O.seen out.new) ports) result }
+    ensures ends { WritesTemplate draft.old.mapped template.now pack.now (S.seen shelf.old) (S.seen shelf.new) (O.seen out.old) (O.seen out.new) result }
     ensures given { (S.seen shelf.new).given ≡ (S.seen shelf.old).given }
-    ensures means { IsTuned draft.old.mapped.source draft.old.mapped.tables.template draft.old.mapped.tables.pack (template_of draft.old.mapped.source draft.old.mapped.tables.template) }
+    ensures means { IsTunedSource draft.old.mapped }
 {
     match write_template(draft, template, shelf) {
         Ok(()) => {}
@@ -48,7 +43,7 @@ pub fn map_job<S: Shelf, O: Sink>(
     out: &mut O,
 ) -> Outcome
     requires { IsTableSize words.now.source.k }
-    ensures ends { (ports : List PortSeen) → Ends (map_walk (map_seen words.now)) (S.seen shelf.old) (S.seen shelf.new) (outside (S.seen shelf.old) (O.seen out.old) ports) (outside (S.seen shelf.new) (O.seen out.new) ports) result }
+    ensures ends { PortlessEnds (map_walk (map_seen words.now)) (S.seen shelf.old) (S.seen shelf.new) (O.seen out.old) (O.seen out.new) result }
     ensures laws { HasLaws (map_walk (map_seen words.now)) }
 {
     let mut draft = match read_draft(alloc, &words.source, shelf) {

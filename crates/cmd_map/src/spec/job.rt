@@ -1,16 +1,12 @@
 //! The command `spec`.
-ghost use Rattle.std.specs.Prelude.{◌≡◌, [], ◌∷◌, Bool, List, length, IfOk};
-ghost use Rattle.tl_io.specs.Port.{PortSeen};
+ghost use Rattle.std.specs.Prelude.{◌≡◌, IfOk};
 ghost use Rattle.param_list.specs.Parameters.{param_inits};
 ghost use Rattle.ppc_pack.specs.Pack.{IsConf};
-ghost use Rattle.blif_write.specs.PlainNetlist.{netlist_text};
-ghost use Rattle.cmd_base.specs.Walk.{outside, Ends, HasLaws};
+ghost use Rattle.cmd_base.specs.Walk.{PortlessEnds, HasLaws};
 ghost use Rattle.cmd_stations.specs.Source.{IsTableSize};
-ghost use Rattle.cmd_stations.specs.Mapped.{template_header};
-ghost use Rattle.cmd_stations.specs.Written.{RunsAs, specialised_of};
-ghost use Rattle.cmd_stations.specs.FileWrites.{WritesAll};
 ghost use Rattle.cmd_stations.specs.Tables.{IsDraft};
 ghost use Rattle.cmd_map.specs.Spec.{spec_seen, spec_walk};
+ghost use Rattle.cmd_map.specs.Outputs.{RunsSpecialised, WritesSpecialised};
 
 use crate::spec::words::SpecWords;
 use cmd_base::Outcome;
@@ -45,9 +41,9 @@ fn write_out<S: Shelf, O: Sink>(
     out: &mut O,
 ) -> Result<(), Failed>
     requires { IsDraft draft.old }
-    ensures ends { (ports : List PortSeen) → WritesAll (record { name = name.now; bytes = netlist_text (specialised_of draft.old.mapped.source draft.old.mapped.tables.template config.now) } ∷ []) (template_header draft.old.mapped.tables.template) (outside (S.seen shelf.old) (O.seen out.old) ports) (outside (S.seen shelf.new) (O.seen out.new) ports) result }
+    ensures ends { WritesSpecialised draft.old.mapped config.now name.now (S.seen shelf.old) (S.seen shelf.new) (O.seen out.old) (O.seen out.new) result }
     ensures given { (S.seen shelf.new).given ≡ (S.seen shelf.old).given }
-    ensures means { (params : List Bool) → length params ≡ length draft.old.mapped.source.params.list → IsConf draft.old.mapped.tables.pack params config.now → RunsAs draft.old.mapped.source params (specialised_of draft.old.mapped.source draft.old.mapped.tables.template config.now) }
+    ensures means { RunsSpecialised draft.old.mapped config.now }
 {
     match write_specialised(draft, config, name, shelf) {
         Ok(()) => put_template_header(&draft.mapped.tables.template, &mut draft.buf, out),
@@ -63,7 +59,7 @@ pub fn spec_job<S: Shelf, O: Sink>(
     out: &mut O,
 ) -> Outcome
     requires { IsTableSize words.now.source.k }
-    ensures ends { (ports : List PortSeen) → Ends (spec_walk (spec_seen words.now)) (S.seen shelf.old) (S.seen shelf.new) (outside (S.seen shelf.old) (O.seen out.old) ports) (outside (S.seen shelf.new) (O.seen out.new) ports) result }
+    ensures ends { PortlessEnds (spec_walk (spec_seen words.now)) (S.seen shelf.old) (S.seen shelf.new) (O.seen out.old) (O.seen out.new) result }
     ensures laws { HasLaws (spec_walk (spec_seen words.now)) }
 {
     let mut draft = match read_draft(alloc, &words.source, shelf) {

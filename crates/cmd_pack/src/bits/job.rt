@@ -1,7 +1,6 @@
 //! The command `bits`.
-ghost use Rattle.std.specs.Prelude.{◌≡◌, List};
-ghost use Rattle.tl_io.specs.Port.{PortSeen};
-ghost use Rattle.cmd_base.specs.Walk.{outside, Ends, HasLaws};
+ghost use Rattle.std.specs.Prelude.{◌≡◌};
+ghost use Rattle.cmd_base.specs.Walk.{PortlessEnds, HasLaws};
 ghost use Rattle.cmd_pack.specs.Bits.{bits_seen, bits_walk};
 
 use crate::bits::play::play;
@@ -19,7 +18,7 @@ pub fn bits_job<S: Shelf, O: Sink, P: ConfigPort>(
     shelf: &mut S,
     out: &mut O,
 ) -> Outcome
-    ensures ends { (ports : List PortSeen) → Ends (bits_walk (bits_seen words.now)) (S.seen shelf.old) (S.seen shelf.new) (outside (S.seen shelf.old) (O.seen out.old) ports) (outside (S.seen shelf.new) (O.seen out.new) ports) result }
+    ensures ends { PortlessEnds (bits_walk (bits_seen words.now)) (S.seen shelf.old) (S.seen shelf.new) (O.seen out.old) (O.seen out.new) result }
     ensures files { (S.seen shelf.new).files ≡ (S.seen shelf.old).files }
     ensures laws { HasLaws (bits_walk (bits_seen words.now)) }
 {

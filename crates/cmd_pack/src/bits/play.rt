@@ -1,12 +1,9 @@
 //! Playing a script on a pack.
-ghost use Rattle.std.specs.Prelude.{◌≡◌, ◌<◌, length, Option, List};
+ghost use Rattle.std.specs.Prelude.{◌≡◌, ◌<◌, length};
 ghost use Rattle.tl_io.specs.Causes.{HasCause};
-ghost use Rattle.tl_io.specs.Port.{PortSeen};
-ghost use Rattle.tl_io.specs.Shelf.{ShelfSeen};
 ghost use Rattle.run_text.specs.EventValue.{event_values};
 ghost use Rattle.port_bank.specs.Seen.{bank_seen};
-ghost use Rattle.cmd_base.specs.Walk.{outside};
-ghost use Rattle.cmd_pack.specs.BitsReady.{CanPlay, EventsEnd, PlayEnd};
+ghost use Rattle.cmd_pack.specs.BitsReady.{CanPlay, EventsEnd, PlayEnds};
 
 use crate::bits::prepare::ReadyScript;
 use aig_core::Steps;
@@ -70,7 +67,7 @@ pub fn play<O: Sink, P: ConfigPort>(
     requires can_play { CanPlay ready.old.host.pack (event_values ready.old.events.items) }
     requires bits { ready.old.bits ≡ length ready.old.host.pack.bits }
     requires no_ports { length (bank_seen P.port_seen bank.old).serving ≡ 0 }
-    ensures ends { (shelf : ShelfSeen) (ports : List PortSeen) → PlayEnd ready.old.host (event_values ready.old.events.items) (outside shelf (O.seen out.old) ports) (outside shelf (O.seen out.new) ports) result }
+    ensures ends { PlayEnds ready.old.host (event_values ready.old.events.items) (O.seen out.old) (O.seen out.new) result }
     ensures cause { HasCause (O.seen out.old).faults (O.seen out.new).faults result }
 {
     put_bits_header(ready.bits, &mut ready.buf, out)?;

@@ -35,7 +35,7 @@ fn read_events<S: Shelf>(
     pack: &Pack,
     shelf: &mut S,
 ) -> Result<Vec<Event>, Outcome>
-    ensures script { IfOk result (λ events. Told (S.seen shelf.old).files (λ files. HasScript files words.now.script.now (pack_names pack.now) (event_values events.items))) }
+    ensures script { IfOk result (λ es. Told (S.seen shelf.old).files (λ fs. HasScript fs words.now.script.now (pack_names pack.now) (event_values es.items))) }
     ensures fit { IfOk result (λ events. (event : EventValue) → In (event_values events.items) event → Fits (pack_names pack.now) event) }
     ensures settled { OnOk result (Told (S.seen shelf.old).files (λ files. IsScriptSettled files words.now.script.now (pack_names pack.now))) }
     ensures given { OnOk result ((S.seen shelf.new).given ≤ MOST_BYTES) }

@@ -1,11 +1,7 @@
 //! The command `repack`.
-ghost use Rattle.std.specs.Prelude.{◌≡◌, [], ◌∷◌, List};
-ghost use Rattle.tl_io.specs.Port.{PortSeen};
-ghost use Rattle.cmd_base.specs.Walk.{outside, Ends, HasLaws};
-ghost use Rattle.cmd_stations.specs.FileWrites.{WritesAll};
-ghost use Rattle.cmd_stations.specs.Packs.{present_bytes};
-ghost use Rattle.cmd_pack.specs.Bits.{pack_header};
-ghost use Rattle.cmd_pack.specs.Repack.{repack_seen, repack_walk};
+ghost use Rattle.std.specs.Prelude.{◌≡◌};
+ghost use Rattle.cmd_base.specs.Walk.{PortlessEnds, HasLaws};
+ghost use Rattle.cmd_pack.specs.Repack.{repack_seen, repack_walk, WritesPack};
 
 use crate::repack::words::RepackWords;
 use cmd_base::Outcome;
@@ -23,7 +19,7 @@ fn write_all<S: Shelf, O: Sink>(
     shelf: &mut S,
     out: &mut O,
 ) -> Result<(), Failed>
-    ensures ends { (ports : List PortSeen) → WritesAll (record { name = name.now; bytes = present_bytes pack.now } ∷ []) (pack_header pack.now) (outside (S.seen shelf.old) (O.seen out.old) ports) (outside (S.seen shelf.new) (O.seen out.new) ports) result }
+    ensures ends { WritesPack pack.now name.now (S.seen shelf.old) (S.seen shelf.new) (O.seen out.old) (O.seen out.new) result }
     ensures given { (S.seen shelf.new).given ≡ (S.seen shelf.old).given }
 {
     write_pack(pack, name, shelf)?;
@@ -37,7 +33,7 @@ pub fn repack_job<S: Shelf, O: Sink>(
     shelf: &mut S,
     out: &mut O,
 ) -> Outcome
-    ensures ends { (ports : List PortSeen) → Ends (repack_walk (repack_seen words.now)) (S.seen shelf.old) (S.seen shelf.new) (outside (S.seen shelf.old) (O.seen out.old) ports) (outside (S.seen shelf.new) (O.seen out.new) ports) result }
+    ensures ends { PortlessEnds (repack_walk (repack_seen words.now)) (S.seen shelf.old) (S.seen shelf.new) (O.seen out.old) (O.seen out.new) result }
     ensures laws { HasLaws (repack_walk (repack_seen words.now)) }
 {
     let pack = match read_pack(alloc, words.old, shelf) {

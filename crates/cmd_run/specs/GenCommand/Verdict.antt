@@ -1,10 +1,14 @@
 -- The walk of `gen`: that of `run` over the generated texts.
 use Rattle.std.specs.Prelude.{◌≡◌, ℕ, List, [], ◌∷◌, codes, decimal}
 use Rattle.std.specs.List.{concat}
+use Rattle.tl_io.specs.Port.{PortSeen}
+use Rattle.tl_io.specs.Shelf.{ShelfSeen}
+use Rattle.tl_io.specs.Sink.{SinkSeen}
 use Rattle.run_core.specs.Events.{MachineValue}
 use Rattle.cover_pick.specs.Template.{TemplateValue}
-use Rattle.cmd_base.specs.Walk.{Reading, Walk, portless_walk}
+use Rattle.cmd_base.specs.Walk.{Reading, Walk, portless_walk, Ends, outside}
 use Rattle.cmd_base.specs.Writing.{AreWritten, IsCutInLine}
+use Rattle.cmd_base.specs.declared.outcome.Outcome.{Outcome}
 use Rattle.cmd_base.specs.declared.outcome.File.TheVariants.{Netlist}
 use Rattle.cmd_run.specs.declared.gen_command.words.GenWords.{GenWords}
 use Rattle.cmd_stations.specs.Mapped.{template_header}
@@ -57,3 +61,7 @@ abbrev pub gen_walk : GenWords → Walk
 gen_walk words =
     portless_walk (gen_reading words) (λ files. HasJob files (case_words words.rule)) (λ files old new. HasGen words (λ text. AreWritten [] text old new)) (λ files old new. HasGen words (λ text. IsCutInLine [] text old new))
     (λ files old new. Unit {0}) ⊥
+
+-- how a call ends, whatever shelf and ports there are
+abbrev pub GenEnds : GenWords → SinkSeen → SinkSeen → Outcome → Type 0
+GenEnds words before after outcome = (old : ShelfSeen) (ports : List PortSeen) → Ends (gen_walk words) old old (outside old before ports) (outside old after ports) outcome

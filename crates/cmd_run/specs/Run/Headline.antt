@@ -8,6 +8,7 @@ use Rattle.tl_io.specs.Shelf.{Files}
 use Rattle.tl_io.specs.Writes.{writes_from}
 use Rattle.aig_core.specs.Aig.{Aig}
 use Rattle.cover_pick.specs.Template.{TemplateValue}
+use Rattle.netlist.specs.Runs.{AreInits}
 use Rattle.netlist.specs.Sound.{IsSound}
 use Rattle.lut_sim.specs.Cycle.{IsTableCycle, IsOnlyTableCycle}
 use Rattle.bit_fun.specs.Configuration.{IsConfiguration}
@@ -21,7 +22,7 @@ use Rattle.cmd_base.specs.Walk.{Outside}
 use Rattle.cmd_stations.specs.declared.source.Source.{Source}
 use Rattle.cmd_stations.specs.Machine.{Job}
 use Rattle.cmd_stations.specs.Mapped.{IsLeastMapping, template_header}
-use Rattle.cmd_stations.specs.SourceCircuit.{shape_of, IsSourceCycle, AreInits}
+use Rattle.cmd_stations.specs.SourceCircuit.{shape_of, IsSourceCycle}
 use Rattle.cmd_run.specs.Run.Job.{IsJob, RunWords, bank_of}
 
 -- what is shown of a source circuit: the parameters' values that were set last, the latches' states, and the ports
@@ -90,7 +91,7 @@ module _ (source : Source) (g : Aig) (template : TemplateValue) where
   -- the parameters' listed values, the latches' inits, and the ports with the configuration specialised from scratch for these values
   pub record IsShownFirst (ports : BankSeen) (first : Shown) : Type 0 where
     pub params : first.params ≡ param_inits source.params.list
-    pub states : AreInits source first.states
+    pub states : AreInits source.netlist.library first.states
     pub config : List Bool
     pub is : IsConfiguration g template.luts (param_inits source.params.list) config
     pub load : Plays config (writes_from 0 config) ports first.bank (Ok tt)

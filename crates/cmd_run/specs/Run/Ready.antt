@@ -2,19 +2,22 @@
 use Rattle.std.specs.Prelude.{◌≡◌, ℕ, List, [], Option, Result, Ok, Err}
 use Rattle.list_laws.specs.Members.{In}
 use Rattle.tl_io.specs.Port.{PortSeen}
-use Rattle.tl_io.specs.Shelf.{Files}
+use Rattle.tl_io.specs.Shelf.{Files, ShelfSeen}
+use Rattle.tl_io.specs.Sink.{SinkSeen}
 use Rattle.port_bank.specs.Bank.{BankSeen}
 use Rattle.run_text.specs.EventValue.{EventValue, event_values}
 use Rattle.run_core.specs.declared.step_err.StepErr.{StepErr}
 use Rattle.run_core.specs.declared.step_err.StepErr.TheVariants.{WriteFault, PortFault}
 use Rattle.run_core.specs.Events.{MachineValue, FitsPack, FitsShape}
+use Rattle.run_text.specs.declared.event.Event.{Event}
+use Rattle.cmd_base.specs.Walk.{outside}
 use Rattle.cmd_base.specs.declared.outcome.Outcome.{Outcome}
 use Rattle.cmd_base.specs.declared.outcome.Outcome.TheVariants as outcome
 use Rattle.cover_pick.specs.Template.{TemplateValue}
 use Rattle.cmd_stations.specs.declared.source.Source.{Source}
 use Rattle.cmd_run.specs.declared.run.prepare.Ready.{Ready}
 use Rattle.cmd_run.specs.declared.run.words.PortCounts.{PortCounts}
-use Rattle.cmd_run.specs.Run.Ends.{HaveServed, IsAllPlayed, IsCutPlaying, IsLostInEvent}
+use Rattle.cmd_run.specs.Run.Ends.{HaveServed, IsAllPlayed, IsCutPlaying, IsLostInEvent, RunEnd, IsPlayEnd}
 use Rattle.cmd_run.specs.Run.Job.{RunWords, IsJob, IsSettled}
 use Rattle.cmd_stations.specs.Machine.{Job, IsSourceStart, IsStart, Stage, AreSteps}
 
@@ -40,6 +43,18 @@ abbrev pub EventsEnd : Stage → List EventValue → Option (List ℕ) → Optio
 EventsEnd old events before after new (Ok done) = IsAllPlayed (AreSteps old) [] events before after new
 EventsEnd old events before after new (Err WriteFault) = IsCutPlaying (AreSteps old) [] events before after new
 EventsEnd old events before after new (Err PortFault) = IsLostInEvent (AreSteps old) [] events before after new
+
+-- how events end, and how all do behind their header and the full load, seen from a machine, its bank and the output
+module _ (m : MachineValue) (events : List Event) (old new : BankSeen) (before after : SinkSeen) (result : Result Unit StepErr) where
+  abbrev pub PlaysEvents : Type 0
+  PlaysEvents = EventsEnd (record { machine = m; bank = old }) (event_values events) before.bytes after.bytes new result
+
+  abbrev pub PlaysAll : Type 0
+  PlaysAll = RunEnd m (event_values events) old before.bytes after.bytes new result
+
+-- how a ready job does, whatever files there are
+abbrev pub PlaysOut : PortCounts → Ready → SinkSeen → SinkSeen → List PortSeen → List PortSeen → Result Unit StepErr → Type 0
+PlaysOut counts ready before after ports others result = (shelf : ShelfSeen) → IsPlayEnd counts ready.machine (event_values ready.events.items) (outside shelf before ports) (outside shelf after others) result
 
 -- the ports of a job that ended otherwise than by a fault of the ports
 abbrev pub IsServed : PortCounts → List PortSeen → List PortSeen → Result Unit StepErr → Type 0

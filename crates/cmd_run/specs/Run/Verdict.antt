@@ -1,9 +1,13 @@
 -- The walk of `run`.
-use Rattle.std.specs.Prelude.{Ok, Err}
-use Rattle.tl_io.specs.Shelf.{Files}
+use Rattle.std.specs.Prelude.{List, map, Ok, Err}
+use Rattle.tl_io.specs.Port.{PortSeen}
+use Rattle.tl_io.specs.Shelf.{Files, ShelfSeen}
+use Rattle.tl_io.specs.Sink.{SinkSeen}
 use Rattle.run_core.specs.declared.step_err.StepErr.TheVariants.{WriteFault, PortFault}
-use Rattle.cmd_base.specs.Walk.{Walk}
-use Rattle.cmd_run.specs.Run.Job.{RunWords, IsJob, run_reading}
+use Rattle.cmd_base.specs.Walk.{Walk, Ends, outside}
+use Rattle.cmd_base.specs.declared.outcome.Outcome.{Outcome}
+use Rattle.cmd_run.specs.declared.run.words.RunWords.{RunWords as RunWordsRead}
+use Rattle.cmd_run.specs.Run.Job.{RunWords, IsJob, run_reading, run_seen}
 use Rattle.cmd_stations.specs.Machine.{Job}
 use Rattle.cmd_run.specs.Run.Ends.{HasRun, HaveServed, HaveFailed}
 use Rattle.cmd_run.specs.Run.Headline.{HasHeadline}
@@ -25,3 +29,7 @@ run_walk words = record {
   KeepsPorts = λ old new. HaveServed words.ports old.ports new.ports;
   HasPortFault = λ old new. HaveFailed words.ports old.ports new.ports;
 }
+
+-- how a call ends, with ports that are seen so
+abbrev pub JobEnds : {P : Type 0} → (P → PortSeen) → RunWordsRead → ShelfSeen → ShelfSeen → SinkSeen → SinkSeen → List P → List P → Outcome → Type 0
+JobEnds seen words old new before after ports others outcome = Ends (run_walk (run_seen words)) old new (outside old before (map seen ports)) (outside new after (map seen others)) outcome

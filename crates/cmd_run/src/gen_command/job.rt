@@ -1,16 +1,14 @@
 //! The command `gen`.
-ghost use Rattle.std.specs.Prelude.{◌≡◌, [], ◌∷◌, List};
+ghost use Rattle.std.specs.Prelude.{◌≡◌, [], ◌∷◌};
 ghost use Rattle.std.specs.List.{concat};
 ghost use Rattle.tl_io.specs.Causes.{Rose};
 ghost use Rattle.tl_io.specs.Sink.{IsPut};
-ghost use Rattle.tl_io.specs.Port.{PortSeen};
-ghost use Rattle.tl_io.specs.Shelf.{ShelfSeen};
 ghost use Rattle.run_text.specs.EventValue.{event_values};
-ghost use Rattle.cmd_base.specs.Walk.{outside, Ends, HasLaws};
+ghost use Rattle.cmd_base.specs.Walk.{HasLaws};
 ghost use Rattle.cmd_stations.specs.Machine.{machine_header};
 ghost use Rattle.cmd_run.specs.Run.Ready.{CanPlay, IsReadyFor};
 ghost use Rattle.cmd_run.specs.GenCommand.Case.{HasDigits, case_words, case_files};
-ghost use Rattle.cmd_run.specs.GenCommand.Verdict.{gen_walk};
+ghost use Rattle.cmd_run.specs.GenCommand.Verdict.{gen_walk, GenEnds};
 
 use crate::gen_command::lines::{first_line, last_line};
 use crate::gen_command::play::play_case;
@@ -42,7 +40,7 @@ fn play_out<O: Sink>(alloc: Global, words: &GenWords, ready: &mut Ready, out: &m
     requires digits { HasDigits words.now }
     requires can_play { CanPlay (event_values ready.old.events.items) ready.old.machine }
     requires prepared { IsReadyFor (case_files words.now) (case_words words.now.rule) ready.old }
-    ensures { (old : ShelfSeen) (ports : List PortSeen) → Ends (gen_walk words.now) old old (outside old (O.seen out.old) ports) (outside old (O.seen out.new) ports) result }
+    ensures { GenEnds words.now (O.seen out.old) (O.seen out.new) result }
 {
     let totals = play_case(ready);
     let first = match first_line(alloc, words) {
@@ -65,7 +63,7 @@ fn play_out<O: Sink>(alloc: Global, words: &GenWords, ready: &mut Ready, out: &m
 /// generated case always fit their types.
 pub fn gen_job<O: Sink>(alloc: Global, words: &GenWords, out: &mut O) -> Outcome
     requires { HasDigits words.now }
-    ensures ends { (old : ShelfSeen) (ports : List PortSeen) → Ends (gen_walk words.now) old old (outside old (O.seen out.old) ports) (outside old (O.seen out.new) ports) result }
+    ensures ends { GenEnds words.now (O.seen out.old) (O.seen out.new) result }
     ensures laws { HasLaws (gen_walk words.now) }
 {
     match prepare_case(alloc, words) {

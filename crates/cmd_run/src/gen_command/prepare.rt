@@ -7,15 +7,12 @@ ghost use Rattle.run_text.specs.EventValue.{EventValue, event_values};
 ghost use Rattle.run_text.specs.Fits.{Fits};
 ghost use Rattle.cover_pick.specs.declared.rule.Rule.{Rule as RuleValue};
 ghost use Rattle.cmd_base.specs.Walk.{Explains};
-ghost use Rattle.cmd_stations.specs.Texts.{HasText};
-ghost use Rattle.cmd_stations.specs.Script.{names_of, HasScript, IsScriptSettled, script_reading};
-ghost use Rattle.cmd_stations.specs.Source.{source_reading};
-ghost use Rattle.cmd_stations.specs.Mapped.{ToTables};
-ghost use Rattle.cmd_stations.specs.Tables.{IsReadSource, AreMade, AreTables, ComesWith, ComesPast};
+ghost use Rattle.cmd_stations.specs.Script.{HasScript, IsScriptSettled, script_reading};
+ghost use Rattle.cmd_stations.specs.Tables.{IsReadSource, AreMade, AreTables, ComesPast};
 ghost use Rattle.cmd_run.specs.Run.Job.{run_reading};
 ghost use Rattle.cmd_run.specs.Run.Ready.{CanPlay, IsReadyFor};
 ghost use Rattle.cmd_run.specs.GenCommand.Case.{HasDigits, case_words, case_files};
-ghost use Rattle.cmd_run.specs.GenCommand.Texts.{shelf_of, HaveSource, HaveCase};
+ghost use Rattle.cmd_run.specs.GenCommand.Texts.{HaveSource, ComesCase, OfCase, OfScript, StopsIn, StopsSource, case_names};
 ghost use Rattle.cmd_run.specs.GenCommand.Verdict.{gen_reading};
 
 use crate::gen_command::words::GenWords;
@@ -38,8 +35,8 @@ fn read_case(alloc: Global, netlist_text: Vec<u8>, params_text: &[u8]) -> Result
     requires netlist { length netlist_text.items ≤ MOST_BYTES }
     requires params { length params_text.now ≤ MOST_BYTES }
     ensures read { IfOk result IsReadSource }
-    ensures comes { IfOk result (λ source. (rule : RuleValue) (files : Files) → HaveSource files netlist_text.items params_text.now → ComesWith files (case_words rule).source source) }
-    ensures err { IfErr result (λ o. (rule : RuleValue) (files : Files) → HaveSource files netlist_text.items params_text.now → Explains (source_reading ToTables (case_words rule).source) (shelf_of files) (shelf_of files) o) }
+    ensures comes { IfOk result (λ source. (rule : RuleValue) (files : Files) → HaveSource files netlist_text.items params_text.now → ComesCase rule files source) }
+    ensures err { IfErr result (λ o. (rule : RuleValue) (files : Files) → HaveSource files netlist_text.items params_text.now → StopsSource rule files o) }
 {
     let netlist = match read_netlist(alloc, netlist_text) {
         Ok(netlist) => netlist,
@@ -63,7 +60,7 @@ fn map_case(
     ensures read { IfOk result (λ m. IsReadSource m.source) }
     ensures tables { IfOk result (λ m. AreTables rule m.source 4 m.tables) }
     ensures comes { IfOk result (λ m. (files : Files) → HaveSource files netlist_text.items params_text.now → ComesPast files (case_words rule).source m) }
-    ensures err { IfErr result (λ o. (files : Files) → HaveSource files netlist_text.items params_text.now → Explains (source_reading ToTables (case_words rule).source) (shelf_of files) (shelf_of files) o) }
+    ensures err { IfErr result (λ o. (files : Files) → HaveSource files netlist_text.items params_text.now → StopsSource rule files o) }
 {
     let source = match read_case(alloc, netlist_text, params_text) {
         Ok(source) => source,
@@ -84,10 +81,10 @@ fn case_events(
     requires short { length script_text.now ≤ MOST_BYTES }
     requires read { IsReadSource mapped.now.source }
     requires tables { AreMade mapped.now.source mapped.now.tables }
-    ensures script { IfOk result (λ events. (files : Files) → HasText files (codes "script") script_text.now → HasScript files (codes "script") (names_of mapped.now.source mapped.now.tables.template.bits) (event_values events.items)) }
-    ensures fit { IfOk result (λ events. (event : EventValue) → In (event_values events.items) event → Fits (names_of mapped.now.source mapped.now.tables.template.bits) event) }
-    ensures settled { OnOk result ((files : Files) → HasText files (codes "script") script_text.now → IsScriptSettled files (codes "script") (names_of mapped.now.source mapped.now.tables.template.bits)) }
-    ensures err { IfErr result (λ o. (files : Files) → HasText files (codes "script") script_text.now → Explains (script_reading (codes "script") (names_of mapped.now.source mapped.now.tables.template.bits)) (shelf_of files) (shelf_of files) o) }
+    ensures script { IfOk result (λ es. OfScript script_text.now (λ files. HasScript files (codes "script") (case_names mapped.now) (event_values es.items))) }
+    ensures fit { IfOk result (λ events. (event : EventValue) → In (event_values events.items) event → Fits (case_names mapped.now) event) }
+    ensures settled { OnOk result (OfScript script_text.now (λ files. IsScriptSettled files (codes "script") (case_names mapped.now))) }
+    ensures err { IfErr result (λ o. OfScript script_text.now (λ files. StopsIn (script_reading (codes "script") (case_names mapped.now)) files o)) }
 {
     let names = match mapped_names(alloc, Forms::Run, mapped) {
         Ok(names) => names,
@@ -111,8 +108,8 @@ fn ready_case(
     requires params { length params_text.now ≤ MOST_BYTES }
     requires script { length script_text.now ≤ MOST_BYTES }
     ensures ready { IfOk result (λ r. CanPlay (event_values r.events.items) r.machine) }
-    ensures prepared { IfOk result (λ r. (files : Files) → HaveCase files netlist_text.items params_text.now script_text.now → IsReadyFor files (case_words rule) r) }
-    ensures err { IfErr result (λ o. (files : Files) → HaveCase files netlist_text.items params_text.now script_text.now → Explains (run_reading (case_words rule)) (shelf_of files) (shelf_of files) o) }
+    ensures prepared { IfOk result (λ r. OfCase netlist_text.items params_text.now script_text.now (λ files. IsReadyFor files (case_words rule) r)) }
+    ensures err { IfErr result (λ o. OfCase netlist_text.items params_text.now script_text.now (λ files. StopsIn (run_reading (case_words rule)) files o)) }
 {
     let mapped = match map_case(alloc, rule, netlist_text, params_text) {
         Ok(mapped) => mapped,

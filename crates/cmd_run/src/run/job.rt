@@ -1,9 +1,9 @@
 //! The command `run`.
-ghost use Rattle.std.specs.Prelude.{◌≡◌, ◌≤◌, ◌+◌, length, map};
+ghost use Rattle.std.specs.Prelude.{◌≡◌, ◌≤◌, ◌+◌, length};
 ghost use Rattle.tl_io.specs.Causes.{Rose};
-ghost use Rattle.cmd_base.specs.Walk.{outside, Ends, HasLaws};
+ghost use Rattle.cmd_base.specs.Walk.{HasLaws};
 ghost use Rattle.cmd_run.specs.Run.Job.{run_seen, IsInRange};
-ghost use Rattle.cmd_run.specs.Run.Verdict.{run_walk};
+ghost use Rattle.cmd_run.specs.Run.Verdict.{run_walk, JobEnds};
 ghost use Rattle.cmd_run.specs.Run.Ready.{played_outcome};
 
 use crate::run::play::play;
@@ -34,7 +34,7 @@ pub fn run_job<S: Shelf, O: Sink, P: ConfigPort>(
     ports: &mut Vec<P>,
 ) -> Outcome
     requires { IsInRange (length ports.old.items) words.now }
-    ensures ends { Ends (run_walk (run_seen words.now)) (S.seen shelf.old) (S.seen shelf.new) (outside (S.seen shelf.old) (O.seen out.old) (map P.port_seen ports.old.items)) (outside (S.seen shelf.new) (O.seen out.new) (map P.port_seen ports.new.items)) result }
+    ensures ends { JobEnds P.port_seen words.now (S.seen shelf.old) (S.seen shelf.new) (O.seen out.old) (O.seen out.new) ports.old.items ports.new.items result }
     ensures files { (S.seen shelf.new).files ≡ (S.seen shelf.old).files }
     ensures laws { HasLaws (run_walk (run_seen words.now)) }
 {

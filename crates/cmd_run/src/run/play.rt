@@ -1,13 +1,11 @@
 //! Playing a job.
 ghost use Rattle.std.specs.Prelude.{◌≡◌, ◌≤◌, ◌<◌, ◌+◌, length, map, Err};
 ghost use Rattle.tl_io.specs.Causes.{Rose};
-ghost use Rattle.tl_io.specs.Shelf.{ShelfSeen};
 ghost use Rattle.run_text.specs.EventValue.{event_values};
 ghost use Rattle.port_bank.specs.Image.{Holds};
 ghost use Rattle.port_bank.specs.Seen.{bank_seen};
-ghost use Rattle.cmd_base.specs.Walk.{outside};
-ghost use Rattle.cmd_run.specs.Run.Ends.{IsPlayEnd, RunEnd, HaveFailed};
-ghost use Rattle.cmd_run.specs.Run.Ready.{CanPlay, EventsEnd, IsServed};
+ghost use Rattle.cmd_run.specs.Run.Ends.{HaveFailed};
+ghost use Rattle.cmd_run.specs.Run.Ready.{CanPlay, PlaysEvents, PlaysAll, PlaysOut, IsServed};
 
 use crate::run::prepare::Ready;
 use crate::run::words::PortCounts;
@@ -34,7 +32,7 @@ fn play_with<O: Sink, P: ConfigPort, L: Ledger>(
     requires some { 0 < L.parts }
     requires can_play { CanPlay (event_values events.now) machine.old }
     requires holds { Holds machine.old.host.state.config (bank_seen P.port_seen bank.old) }
-    ensures ends { EventsEnd (record { machine = machine.old; bank = bank_seen P.port_seen bank.old }) (event_values events.now) (O.seen out.old).bytes (O.seen out.new).bytes (bank_seen P.port_seen bank.new) result }
+    ensures ends { PlaysEvents machine.old events.now (bank_seen P.port_seen bank.old) (bank_seen P.port_seen bank.new) (O.seen out.old) (O.seen out.new) result }
     ensures later { (O.seen out.old).faults ≤ (O.seen out.new).faults }
     ensures cause { result ≡ Err StepErr.WriteFault → Rose (O.seen out.old).faults (O.seen out.new).faults }
 {
@@ -54,7 +52,7 @@ fn play_events<O: Sink, P: ConfigPort>(
 ) -> Result<(), StepErr>
     requires can_play { CanPlay (event_values events.now) machine.old }
     requires holds { Holds machine.old.host.state.config (bank_seen P.port_seen bank.old) }
-    ensures ends { EventsEnd (record { machine = machine.old; bank = bank_seen P.port_seen bank.old }) (event_values events.now) (O.seen out.old).bytes (O.seen out.new).bytes (bank_seen P.port_seen bank.new) result }
+    ensures ends { PlaysEvents machine.old events.now (bank_seen P.port_seen bank.old) (bank_seen P.port_seen bank.new) (O.seen out.old) (O.seen out.new) result }
     ensures later { (O.seen out.old).faults ≤ (O.seen out.new).faults }
     ensures cause { result ≡ Err StepErr.WriteFault → Rose (O.seen out.old).faults (O.seen out.new).faults }
 {
@@ -69,7 +67,7 @@ fn play_all<O: Sink, P: ConfigPort>(
     bank: &mut PortBank<P>,
 ) -> Result<(), StepErr>
     requires can_play { CanPlay (event_values events.now) machine.old }
-    ensures ends { RunEnd machine.old (event_values events.now) (bank_seen P.port_seen bank.old) (O.seen out.old).bytes (O.seen out.new).bytes (bank_seen P.port_seen bank.new) result }
+    ensures ends { PlaysAll machine.old events.now (bank_seen P.port_seen bank.old) (bank_seen P.port_seen bank.new) (O.seen out.old) (O.seen out.new) result }
     ensures cause { result ≡ Err StepErr.WriteFault → Rose (O.seen out.old).faults (O.seen out.new).faults }
 {
     machine.header(out)?;
@@ -91,7 +89,7 @@ pub fn play<O: Sink, P: ConfigPort>(
 ) -> Result<(), StepErr>
     requires can_play { CanPlay (event_values ready.old.events.items) ready.old.machine }
     requires within { counts.serving + counts.spares ≤ length ports.old.items }
-    ensures ends { (shelf : ShelfSeen) → IsPlayEnd counts ready.old.machine (event_values ready.old.events.items) (outside shelf (O.seen out.old) (map P.port_seen ports.old.items)) (outside shelf (O.seen out.new) (map P.port_seen ports.new.items)) result }
+    ensures ends { PlaysOut counts ready.old (O.seen out.old) (O.seen out.new) (map P.port_seen ports.old.items) (map P.port_seen ports.new.items) result }
     ensures cause { result ≡ Err StepErr.WriteFault → Rose (O.seen out.old).faults (O.seen out.new).faults }
     ensures served { IsServed counts (map P.port_seen ports.old.items) (map P.port_seen ports.new.items) result }
     ensures failed { result ≡ Err StepErr.PortFault → HaveFailed counts (map P.port_seen ports.old.items) (map P.port_seen ports.new.items) }

@@ -1,19 +1,19 @@
-use Rattle.cmd_map.proofs.Common.{[], ◌∷◌, Option, refl, ap, ◌∙◌, Files, with_file, netlist_text, tables_within_bits, FileText, Rose_from, template_header, template_of, cut_in_file, line_ends, present_bytes}
+use Rattle.cmd_map.proofs.Common.{[], ◌∷◌, Option, refl, ap, ◌∙◌, Files, with_file, tables_within_bits, Rose_from, template_header, template_text, pack_text, cut_in_file, line_ends}
 use Rattle.cmd_map.proofs.map.job.write_out.Goals as goal
 
 pub returns-in-Err-clause-ends : goal.returns-in-Err-clause-ends
 returns-in-Err-clause-ends g c ports =
     let m = c.args.draft.now.mapped in
-    let template : FileText = record { name = c.args.template.now; bytes = netlist_text (template_of m.source m.tables.template) } in
-    let pack : FileText = record { name = c.args.pack.now; bytes = present_bytes m.tables.pack } in
+    let template = template_text m c.args.template.now in
+    let pack = pack_text m c.args.pack.now in
     let old = g.S.Shelf.seen c.args.shelf.now in
     cut_in_file [] template (pack ∷ []) (template_header m.tables.template) old old (g.S.Shelf.seen c.write_template.new.shelf) (g.O.Sink.seen c.args.out.now) ports refl c.in-Err.ensures.written c.in-Err.ensures.cause.failed
 
 pub returns-in-Err-write_pack-clause-ends : goal.returns-in-Err-write_pack-clause-ends
 returns-in-Err-write_pack-clause-ends g c ports =
     let m = c.args.draft.now.mapped in
-    let template : FileText = record { name = c.args.template.now; bytes = netlist_text (template_of m.source m.tables.template) } in
-    let pack : FileText = record { name = c.args.pack.now; bytes = present_bytes m.tables.pack } in
+    let template = template_text m c.args.template.now in
+    let pack = pack_text m c.args.pack.now in
     let old = g.S.Shelf.seen c.args.shelf.now in
     let mid = g.S.Shelf.seen c.write_template.new.shelf in
     let new = g.S.Shelf.seen c.write_pack.new.shelf in
@@ -23,8 +23,8 @@ returns-in-Err-write_pack-clause-ends g c ports =
 pub returns-in-Ok-write_pack-clause-ends : goal.returns-in-Ok-write_pack-clause-ends
 returns-in-Ok-write_pack-clause-ends g c ports =
     let m = c.args.draft.now.mapped in
-    let template : FileText = record { name = c.args.template.now; bytes = netlist_text (template_of m.source m.tables.template) } in
-    let pack : FileText = record { name = c.args.pack.now; bytes = present_bytes m.tables.pack } in
+    let template = template_text m c.args.template.now in
+    let pack = pack_text m c.args.pack.now in
     let old = g.S.Shelf.seen c.args.shelf.now in
     line_ends (template ∷ pack ∷ []) (template_header m.tables.template) old (g.S.Shelf.seen c.write_pack.new.shelf) (g.O.Sink.seen c.args.out.now) (g.O.Sink.seen c.put_template_header.new.out) ports
     c.put_template_header.result (c.in-Ok-write_pack.ensures.written ∙ ap (λ (fs : Option Files). with_file fs pack.name pack.bytes) c.in-Ok.ensures.written) c.put_template_header.ensures

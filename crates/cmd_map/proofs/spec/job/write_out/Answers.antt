@@ -1,18 +1,16 @@
-use Rattle.cmd_map.proofs.Common.{[], ◌∷◌, refl, netlist_text, tables_within_bits, FileText, template_header, specialised_of, cut_in_file, line_ends}
+use Rattle.cmd_map.proofs.Common.{[], ◌∷◌, refl, tables_within_bits, template_header, specialised_text, cut_in_file, line_ends}
 use Rattle.cmd_map.proofs.spec.job.write_out.Goals as goal
 
 pub returns-in-Err-clause-ends : goal.returns-in-Err-clause-ends
 returns-in-Err-clause-ends g c ports =
     let m = c.args.draft.now.mapped in
-    let text : FileText = record { name = c.args.name.now; bytes = netlist_text (specialised_of m.source m.tables.template c.args.config.now) } in
-    cut_in_file [] text [] (template_header m.tables.template) (g.S.Shelf.seen c.args.shelf.now) (g.S.Shelf.seen c.args.shelf.now) (g.S.Shelf.seen c.write_specialised.new.shelf) (g.O.Sink.seen c.args.out.now) ports refl
+    cut_in_file [] (specialised_text m c.args.config.now c.args.name.now) [] (template_header m.tables.template) (g.S.Shelf.seen c.args.shelf.now) (g.S.Shelf.seen c.args.shelf.now) (g.S.Shelf.seen c.write_specialised.new.shelf) (g.O.Sink.seen c.args.out.now) ports refl
     c.in-Err.ensures.written c.in-Err.ensures.cause.failed
 
 pub returns-in-Ok-clause-ends : goal.returns-in-Ok-clause-ends
 returns-in-Ok-clause-ends g c ports =
     let m = c.args.draft.now.mapped in
-    let text : FileText = record { name = c.args.name.now; bytes = netlist_text (specialised_of m.source m.tables.template c.args.config.now) } in
-    line_ends (text ∷ []) (template_header m.tables.template) (g.S.Shelf.seen c.args.shelf.now) (g.S.Shelf.seen c.write_specialised.new.shelf) (g.O.Sink.seen c.args.out.now) (g.O.Sink.seen c.put_template_header.new.out) ports
+    line_ends (specialised_text m c.args.config.now c.args.name.now ∷ []) (template_header m.tables.template) (g.S.Shelf.seen c.args.shelf.now) (g.S.Shelf.seen c.write_specialised.new.shelf) (g.O.Sink.seen c.args.out.now) (g.O.Sink.seen c.put_template_header.new.out) ports
     c.put_template_header.result c.in-Ok.ensures.written c.put_template_header.ensures
 
 pub put_template_header-requires : goal.put_template_header-requires

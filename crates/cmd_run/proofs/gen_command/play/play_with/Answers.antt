@@ -1,5 +1,6 @@
-use Rattle.cmd_run.proofs.Common.{◌≡◌, List, take, refl, sym, ◌∙◌, subst, take_all, Event, event_value, event_values, Shape, PackValue, FitsPack, FitsShape, Totals, none, more_by, value_has}
+use Rattle.cmd_run.proofs.Common.{◌≡◌, List, take, refl, sym, ◌∙◌, subst, take_all, Event, event_value, event_values, FitsPack, FitsShape, Totals, none, more_by}
 use Rattle.cmd_run.proofs.GenLemmas.{total_more}
+use Rattle.cmd_run.proofs.PlayLemmas.{still_fits}
 use Rattle.cmd_run.proofs.TotalLemmas.{next_fits}
 use Rattle.cmd_run.proofs.gen_command.play.play_with.Goals as goal
 
@@ -7,14 +8,10 @@ pub loop-event-init : goal.loop-event-init
 loop-event-init g c = record { pack = refl; shape = refl; totals = none }
 
 pub play-requires-clause-pack : goal.play-requires-clause-pack
-play-requires-clause-pack g c =
-    subst (λ (p : PackValue). FitsPack p (event_value c.event-item.result)) (sym c.loop-event.invariant.pack)
-    (value_has event_value c.args.events.now c.loop-event.event-index c.event-item.result c.loop-event-test.true c.event-item.is (FitsPack c.args.machine.now.host.pack) c.requires.can_play.pack)
+play-requires-clause-pack g c = still_fits c.args.events.now c.loop-event.event-index c.event-item.result c.loop-event-test.true c.event-item.is FitsPack c.loop-event.invariant.pack c.requires.can_play.pack
 
 pub play-requires-clause-shape : goal.play-requires-clause-shape
-play-requires-clause-shape g c =
-    subst (λ (s : Shape). FitsShape s (event_value c.event-item.result)) (sym c.loop-event.invariant.shape)
-    (value_has event_value c.args.events.now c.loop-event.event-index c.event-item.result c.loop-event-test.true c.event-item.is (FitsShape c.args.machine.now.sim.shape) c.requires.can_play.shape)
+play-requires-clause-shape g c = still_fits c.args.events.now c.loop-event.event-index c.event-item.result c.loop-event-test.true c.event-item.is FitsShape c.loop-event.invariant.shape c.requires.can_play.shape
 
 pub loop-event-preserved : goal.loop-event-preserved
 loop-event-preserved g c =

@@ -1,9 +1,9 @@
-use Rattle.cmd_run.proofs.Common.{◌≤◌, List, [], take, refl, sym, ◌∙◌, subst, arith, take_all, Event, event_value, event_values, Shape, PackValue, bank_seen, FitsPack, FitsShape, Stage, IsStep, split_by, more_by, value_has, event_line, then_step}
+use Rattle.cmd_run.proofs.Common.{◌≤◌, List, [], take, refl, sym, ◌∙◌, subst, arith, take_all, Event, event_value, event_values, bank_seen, FitsPack, FitsShape, Stage, IsStep, split_by, more_by, event_line, then_step}
 use Rattle.std.proofs.lemmas.Result.{err_from_is_err_and}
 use Rattle.cmd_stations.specs.Machine.{AreSteps, none}
 use Rattle.cmd_stations.specs.Playing.{AreAllPut}
 use Rattle.cmd_stations.proofs.PlayingLemmas.{put_none, put_more}
-use Rattle.cmd_run.proofs.PlayLemmas.{events_end}
+use Rattle.cmd_run.proofs.PlayLemmas.{still_fits, events_end}
 use Rattle.cmd_run.proofs.run.play.play_with.Goals as goal
 
 pub loop-event-init : goal.loop-event-init
@@ -16,14 +16,10 @@ loop-event-init g c = record {
 }
 
 pub step-requires-clause-pack : goal.step-requires-clause-pack
-step-requires-clause-pack g c =
-    subst (λ (p : PackValue). FitsPack p (event_value c.event-item.result)) (sym c.loop-event.invariant.pack)
-    (value_has event_value c.args.events.now c.loop-event.event-index c.event-item.result c.loop-event-test.true c.event-item.is (FitsPack c.args.machine.now.host.pack) c.requires.can_play.pack)
+step-requires-clause-pack g c = still_fits c.args.events.now c.loop-event.event-index c.event-item.result c.loop-event-test.true c.event-item.is FitsPack c.loop-event.invariant.pack c.requires.can_play.pack
 
 pub step-requires-clause-shape : goal.step-requires-clause-shape
-step-requires-clause-shape g c =
-    subst (λ (s : Shape). FitsShape s (event_value c.event-item.result)) (sym c.loop-event.invariant.shape)
-    (value_has event_value c.args.events.now c.loop-event.event-index c.event-item.result c.loop-event-test.true c.event-item.is (FitsShape c.args.machine.now.sim.shape) c.requires.can_play.shape)
+step-requires-clause-shape g c = still_fits c.args.events.now c.loop-event.event-index c.event-item.result c.loop-event-test.true c.event-item.is FitsShape c.loop-event.invariant.shape c.requires.can_play.shape
 
 pub returns-in_err-step-clause-ends : goal.returns-in_err-step-clause-ends
 returns-in_err-step-clause-ends g c =

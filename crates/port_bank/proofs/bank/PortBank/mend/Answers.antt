@@ -2,8 +2,8 @@ use Rattle.port_bank.proofs.Common.{sym, ◌∙◌, err_from_is_err_and}
 use Rattle.port_bank.proofs.SendLemmas.{broken_more, mends_now, mends_never, on_ok_at, on_err_at}
 use Rattle.port_bank.proofs.bank.PortBank.mend.Goals as goal
 
-pub returns-in_err-replace-clause-fault : goal.returns-in_err-replace-clause-fault
-returns-in_err-replace-clause-fault g c =
+pub returns-in_err-replace-clause-err : goal.returns-in_err-replace-clause-err
+returns-in_err-replace-clause-err g c =
     let p = err_from_is_err_and c.from_residual.result c.from_residual.ensures.1 in
     let f = c.in_err-replace.ensures.fault in
     rw (p.1, p.2) (f.0, mends_never c.args.width c.args.config.now c.args.region _ _ _ c.spares.invariant.broken f.1)
