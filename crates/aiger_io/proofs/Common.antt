@@ -77,4 +77,4 @@ pub use Rattle.aiger_io.specs.declared.aag_err.AagErr.TheVariants.{BadSymbol, Ma
 pub use Rattle.aiger_io.specs.declared.header.Header.{Header}
 pub use Rattle.aiger_io.specs.declared.item.Item.{Item}
 pub use Rattle.aiger_io.specs.declared.item.Item.TheVariants.{Input, Latch, Output, And}
-pub use Rattle.aiger_io.specs.declared.item.Kind.{Kind}
+pub use Rattle.aiger_io.specs.declared.item.LineKind.{LineKind}

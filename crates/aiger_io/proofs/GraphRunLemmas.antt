@@ -1,6 +1,6 @@
 -- What the library of a circuit weighs: each section's lines weigh the same. The circuit of a graph keeps what is said of it: its text is of the format and is read back, its lines have one fit, and its cycles and runs are those of
 -- the library whose graph it is.
-use Rattle.aiger_io.proofs.Common.{◌≡◌, ℕ, ◌+◌, ◌*◌, ◌/◌, ◌^◌, ◌<◌, ◌≤◌, Bool, List, [], ◌∷◌, ◌++◌, length, map, get_or, Some, refl, sym, ap, ◌∙◌, subst, arith, length-append, slice_get, length-map, get_or_from_slice_get, In, In-left, In-right, map_agree, Aig, first_and, node_count, IsLit, AreNormal, RootsValue, lits_of, node_value, value_of, FitsGraph, HasOneFit, FlatValue, LibraryValue, Param, regular_names, param_names, Circuit, input_count, input_at, graph_circuit, IsWrittenFrom, IsGraphsCircuit, literal_value, output_literals, next_literals, init_bits, IsCircuitCycle, circuit_machine, HasSameRuns, inl, inr, mark_of, commands_from, model_of, library_of, library_weight, kind_of_item, AreInSections, Header, Item, Latch, Kind}
+use Rattle.aiger_io.proofs.Common.{◌≡◌, ℕ, ◌+◌, ◌*◌, ◌/◌, ◌^◌, ◌<◌, ◌≤◌, Bool, List, [], ◌∷◌, ◌++◌, length, map, get_or, Some, refl, sym, ap, ◌∙◌, subst, arith, length-append, slice_get, length-map, get_or_from_slice_get, In, In-left, In-right, map_agree, Aig, first_and, node_count, IsLit, AreNormal, RootsValue, lits_of, node_value, value_of, FitsGraph, HasOneFit, FlatValue, LibraryValue, Param, regular_names, param_names, Circuit, input_count, input_at, graph_circuit, IsWrittenFrom, IsGraphsCircuit, literal_value, output_literals, next_literals, init_bits, IsCircuitCycle, circuit_machine, HasSameRuns, inl, inr, mark_of, commands_from, model_of, library_of, library_weight, kind_of_item, AreInSections, Header, Item, Latch, LineKind}
 use Rattle.aig_build.specs.NetlistCycle.{source_values, literal_values, IsGraphCycle, graph_machine, HasSourceCycles}
 use Rattle.aig_build.specs.NetlistGraph.{input_names}
 use Rattle.machine.specs.Machine.{Machine, reading}
@@ -12,11 +12,11 @@ use Rattle.aiger_io.proofs.GraphItemLemmas.{written_formed, output_literals_are,
 use Rattle.aiger_io.proofs.Format.AigerTextLemmas.{in_sections}
 use Rattle.aiger_io.proofs.WrittenLemmas.{text_format, text_is, alike_refused}
 use Rattle.netlist.specs.Weight.{commands_weight, own_weight, Weighs, weighs, none}
-use Rattle.aiger_io.specs.declared.item.Kind.TheVariants as kind
+use Rattle.aiger_io.specs.declared.item.LineKind.TheVariants as kind
 use Rattle.aiger_io.proofs.FitLemmas.{no_subckts}
 
 -- what a line's commands weigh
-abbrev kind_weight : Kind → ℕ
+abbrev kind_weight : LineKind → ℕ
 kind_weight kind.Input = 2
 kind_weight kind.Latch = 4
 kind_weight kind.Output = 2
@@ -37,7 +37,7 @@ weigh_both [] ys = omega arith
 weigh_both (x ∷ xs) ys = let b = weigh_both xs ys in omega (arith, b)
 
 -- a section
-section_weighs : (k : Kind) (items : List Item) → ((item : Item) → In items item → kind_of_item item ≡ k) → weigh items ≡ kind_weight k * length items
+section_weighs : (k : LineKind) (items : List Item) → ((item : Item) → In items item → kind_of_item item ≡ k) → weigh items ≡ kind_weight k * length items
 section_weighs k [] each = grind arith
 section_weighs k (x ∷ xs) each = let a : kind_weight (kind_of_item x) ≡ kind_weight k = ap kind_weight (each x (inl refl)) in let b : weigh xs ≡ kind_weight k * length xs = section_weighs k xs (λ y i. each y (inr i)) in grind arith
 

@@ -1,6 +1,6 @@
 -- The header, the items and the symbols line by line, with numbers that are read up to a greatest one: what is in range is read as it stands,
 -- and what isn't stays out of range. A text that is a circuit, taken apart; and what the calls return that read it.
-use Rattle.aiger_io.proofs.Common.{◌≡◌, ◌⊎◌, ℕ, ◌+◌, ◌<◌, ◌≤◌, Bool, true, cond, leb, List, [], ◌∷◌, map, Option, Some, None, Result, Ok, Err, inl, inr, refl, sym, ap, ◌∙◌, subst, arith, length-map, option_map, capped, capped_numbers, capped_header, capped_result, is_header, header_with, header_by, number_of, numbers_of, in_front, AagErr, Header, ◌++◌, length, drop, append_assoc, slice_get, drop_get, capped_number, false, ltb, length-append, capped_item, item_count, is_literal, is_variable, is_in_range, item_of, item_with, item_at, items_from, words_of, and_then, Item, bytes_eq, codes, le-ltb, and_left, cond-true, cond-false, cases_lt, set_length, capped_symbol, named_count, Malformed, BadSymbol, Kind, nat_tests, header_numbers, Symbol, SymbolsValue, count_of, may_stand, with_symbol, symbol_of, symbol_at, symbols_from, leb-true, le-leb, and_parts, lt-leb, lines, Circuit, circuit_with, unless, named_circuit, circuit_behind, circuit_under, circuit_of, header_of, header_in, first_twice, no_symbols, get_or, Bor, MatchResult, LibraryValue, OrMemory, IsHeaderOf, named_behind, circuit_in, IsLibraryIn, library_of, refusal_of, rules}
+use Rattle.aiger_io.proofs.Common.{◌≡◌, ◌⊎◌, ℕ, ◌+◌, ◌<◌, ◌≤◌, Bool, true, cond, leb, List, [], ◌∷◌, map, Option, Some, None, Result, Ok, Err, inl, inr, refl, sym, ap, ◌∙◌, subst, arith, length-map, option_map, capped, capped_numbers, capped_header, capped_result, is_header, header_with, header_by, number_of, numbers_of, in_front, AagErr, Header, ◌++◌, length, drop, append_assoc, slice_get, drop_get, capped_number, false, ltb, length-append, capped_item, item_count, is_literal, is_variable, is_in_range, item_of, item_with, item_at, items_from, words_of, and_then, Item, bytes_eq, codes, le-ltb, and_left, cond-true, cond-false, cases_lt, set_length, capped_symbol, named_count, Malformed, BadSymbol, LineKind, nat_tests, header_numbers, Symbol, SymbolsValue, count_of, may_stand, with_symbol, symbol_of, symbol_at, symbols_from, leb-true, le-leb, and_parts, lt-leb, lines, Circuit, circuit_with, unless, named_circuit, circuit_behind, circuit_under, circuit_of, header_of, header_in, first_twice, no_symbols, get_or, Bor, MatchResult, LibraryValue, OrMemory, IsHeaderOf, named_behind, circuit_in, IsLibraryIn, library_of, refusal_of, rules}
 use Rattle.aiger_io.specs.declared.aag_err.AagErr.TheVariants as aag_err
 
 -- an answer tells which way a test went
@@ -175,7 +175,7 @@ module _ (h : Header) where
       (ap (and_then (λ (item : Item). items_from (capped_header h) (items ++ item ∷ []) rows)) (item_same (length items) row (omega arith))
       ∙ behind_same items rows (item_at h (length items) row) (λ item. items_same (items ++ item ∷ []) rows (omega (arith, length-append items (item ∷ [])))))
 
-count_within : (h : Header) (k : Kind) → count_of h k ≤ named_count h
+count_within : (h : Header) (k : LineKind) → count_of h k ≤ named_count h
 count_within h k = grind arith
 
 module _ (h : Header) (few : named_count h < 4294967296) (line : ℕ) (said : SymbolsValue) where

@@ -1,15 +1,15 @@
 -- The items that were read: each is of the kind of its place, with its literals in range, and what is picked of one kind stands in the order of its places.
 -- The latches among the commands of a circuit's library, in flat order.
-use Rattle.aiger_io.proofs.Common.{◌≡◌, ℕ, ◌+◌, ◌*◌, ◌<◌, ◌≤◌, true, ◌&&◌, leb, List, [], ◌∷◌, ◌++◌, length, Option, Some, Ok, inl, inr, refl, sym, ◌∙◌, subst, arith, slice_get, get_pushed, item_count, kind_at, item_of, is_literal, is_variable, is_in_range, item_with, item_at, items_from, words_of, and_then, Header, Item, Input, Latch, And, Kind, zero, suc, ◌-◌, min, max, ◌⊎◌, ap, flat_map, nat_tests, leb-true, le-leb, Circuit, IsDefined, zero_variable, input, latch, gate, place_in, and_parts, ◌/◌, Bool, eqb, map, Place, is_latch, own_places, state_of, Command, variable_name, next_name, latch_command, commands_from, same_Some, CoverValue, cond-true, cond-false, ne_eqb, eq-eqb, rules}
+use Rattle.aiger_io.proofs.Common.{◌≡◌, ℕ, ◌+◌, ◌*◌, ◌<◌, ◌≤◌, true, ◌&&◌, leb, List, [], ◌∷◌, ◌++◌, length, Option, Some, Ok, inl, inr, refl, sym, ◌∙◌, subst, arith, slice_get, get_pushed, item_count, kind_at, item_of, is_literal, is_variable, is_in_range, item_with, item_at, items_from, words_of, and_then, Header, Item, Input, Latch, And, LineKind, zero, suc, ◌-◌, min, max, ◌⊎◌, ap, flat_map, nat_tests, leb-true, le-leb, Circuit, IsDefined, zero_variable, input, latch, gate, place_in, and_parts, ◌/◌, Bool, eqb, map, Place, is_latch, own_places, state_of, Command, variable_name, next_name, latch_command, commands_from, same_Some, CoverValue, cond-true, cond-false, ne_eqb, eq-eqb, rules}
 pub use Rattle.aiger_io.specs.AigerText.{kind_of_item}
 use Rattle.aiger_io.specs.declared.aag_err.AagErr.TheVariants as aag_err
-use Rattle.aiger_io.specs.declared.item.Kind.TheVariants as kind
+use Rattle.aiger_io.specs.declared.item.LineKind.TheVariants as kind
 use Rattle.aiger_io.proofs.LineLemmas.{behind_of, chosen, ok_then}
 use Rattle.netlist.specs.declared.command.Body.TheVariants as body
 use Rattle.netlist.specs.declared.latch.Latch.{Latch as LatchValue}
 
 -- a line's form is that of its kind
-pub form_kind : (k : Kind) (words : List (List ℕ)) (item : Item) → item_of k words ≡ Some item → kind_of_item item ≡ k
+pub form_kind : (k : LineKind) (words : List (List ℕ)) (item : Item) → item_of k words ≡ Some item → kind_of_item item ≡ k
 form_kind k words item e = grind arith
 
 -- what is known of the item at a place
@@ -185,7 +185,7 @@ kind_there h p (first ∷ items) kinds zero item e = let same : first ≡ item =
 kind_there h p (first ∷ items) kinds (suc q) item e = let z : p + 1 + q ≡ p + suc q = omega arith in subst (λ n. kind_of_item item ≡ kind_at h n) z (kind_there h (p + 1) items kinds.1 q item e)
 
 -- an item before a latch is an input or a latch
-before_latch : (h : Header) (p : ℕ) (k : Kind) → k ≡ kind_at h p → (kind.Latch ≡ k → ⊥) → (r : ℕ) → p ≤ r → kind_at h r ≡ kind.Latch → p < h.inputs
+before_latch : (h : Header) (p : ℕ) (k : LineKind) → k ≡ kind_at h p → (kind.Latch ≡ k → ⊥) → (r : ℕ) → p ≤ r → kind_at h r ≡ kind.Latch → p < h.inputs
 before_latch h p k e other r le later = grind (arith, nat_tests)
 
 -- a latch item and its command, by their places, and the latch's index

@@ -1,5 +1,5 @@
 -- Symbols and ports: each name that stands is that of a line, is clean and no longer than the line, and no two inputs or outputs have the same name.
-use Rattle.aiger_io.proofs.Common.{◌≡◌, ℕ, zero, suc, ◌+◌, ◌<◌, ◌≤◌, Bool, false, ◌&&◌, ◌||◌, eqb, ltb, List, [], ◌∷◌, ◌++◌, length, Option, Some, None, Ok, inl, inr, refl, sym, ap, ◌∙◌, subst, arith, length-drop, bytes_eq, codes, slice_get, slice_set, replicate, list_any, and_parts, not-true, cases_Bool, cases_lt, or_parts, slice_get_within, In, In-left, In-pushed, set_here, set_other, set_length, same_or, IsClean, is_bad, is_blank, and_then, BadSymbol, Header, Kind, true, bytes_decides, has_name, with_name, has_with_names, twice_from, seen_from, is_twice, lit<, ◌^◌, ◌⊎◌, take, drop, decimal, length-take, unwrap_or, get_or, slice_get-get_or, same_Some, decimal_is_IsNumeral, digits_value, place_in, none_both, AreOnce, has_in, in_has, named_count, default_name, names_from, input_names, output_names, port_names, is_port, name_at, first_twice, StandsTwice, SymbolsValue, no_name, nat_tests, Symbol, no_symbols, symbol_by, symbol_with, symbol_of, is_bad_byte, is_bad_name, place_of, with_symbol, symbol_at, symbols_from, true≢false, and_from, or_cases, or_left, or_right, rules}
+use Rattle.aiger_io.proofs.Common.{◌≡◌, ℕ, zero, suc, ◌+◌, ◌<◌, ◌≤◌, Bool, false, ◌&&◌, ◌||◌, eqb, ltb, List, [], ◌∷◌, ◌++◌, length, Option, Some, None, Ok, inl, inr, refl, sym, ap, ◌∙◌, subst, arith, length-drop, bytes_eq, codes, slice_get, slice_set, replicate, list_any, and_parts, not-true, cases_Bool, cases_lt, or_parts, slice_get_within, In, In-left, In-pushed, set_here, set_other, set_length, same_or, IsClean, is_bad, is_blank, and_then, BadSymbol, Header, LineKind, true, bytes_decides, has_name, with_name, has_with_names, twice_from, seen_from, is_twice, lit<, ◌^◌, ◌⊎◌, take, drop, decimal, length-take, unwrap_or, get_or, slice_get-get_or, same_Some, decimal_is_IsNumeral, digits_value, place_in, none_both, AreOnce, has_in, in_has, named_count, default_name, names_from, input_names, output_names, port_names, is_port, name_at, first_twice, StandsTwice, SymbolsValue, no_name, nat_tests, Symbol, no_symbols, symbol_by, symbol_with, symbol_of, is_bad_byte, is_bad_name, place_of, with_symbol, symbol_at, symbols_from, true≢false, and_from, or_cases, or_left, or_right, rules}
 use Rattle.aiger_io.proofs.LineLemmas.{behind_of, chosen, ok_then}
 
 -- a name of a line of at most so many bytes
@@ -29,7 +29,7 @@ record IsNameIn (row name : List ℕ) : Type 0 where
   some : 0 < length name
   within : length name ≤ length row
 
-by_name : (name : List ℕ) (ordinal : Option ℕ) (kind : Option Kind) (s : Symbol) → symbol_by name ordinal kind ≡ Some s → s.name ≡ name
+by_name : (name : List ℕ) (ordinal : Option ℕ) (kind : Option LineKind) (s : Symbol) → symbol_by name ordinal kind ≡ Some s → s.name ≡ name
 by_name name ordinal kind s e = grind arith
 
 name_in : (key name : List ℕ) (s : Symbol) → symbol_with key name ≡ Some s → (s.name ≡ name) × (0 < length name)

@@ -1,6 +1,6 @@
 -- A circuit's text: where its names are clean it is read, part by part, as the circuit that was written.
-use Rattle.aiger_io.proofs.Common.{◌≡◌, ℕ, suc, ◌+◌, ◌^◌, ◌<◌, ◌≤◌, true, false, eqb, List, [], ◌∷◌, ◌++◌, length, map, Some, None, decimal, codes, inl, inr, refl, sym, ap, ◌∙◌, arith, append_assoc, append-nil, list_any, lines, In, In-left, In-right, place_in, IsClean, ends_in, AreOnce, has_in, AreClean, Circuit, is_header, item_count, is_in_range, port_names, is_twice, first_twice, SymbolsValue, kind_of, symbol_with, symbol_of, is_bad_byte, is_bad_name, numbered, numbered_text, header_words, item_words, symbol_text, circuit_text, Header, Item, Kind, AllClean, one_clean, more_clean, nat_tests, and_parts, or_from, and_right, cond-false, cases_Bool, rules}
-use Rattle.aiger_io.specs.declared.item.Kind.TheVariants as kind
+use Rattle.aiger_io.proofs.Common.{◌≡◌, ℕ, suc, ◌+◌, ◌^◌, ◌<◌, ◌≤◌, true, false, eqb, List, [], ◌∷◌, ◌++◌, length, map, Some, None, decimal, codes, inl, inr, refl, sym, ap, ◌∙◌, arith, append_assoc, append-nil, list_any, lines, In, In-left, In-right, place_in, IsClean, ends_in, AreOnce, has_in, AreClean, Circuit, is_header, item_count, is_in_range, port_names, is_twice, first_twice, SymbolsValue, kind_of, symbol_with, symbol_of, is_bad_byte, is_bad_name, numbered, numbered_text, header_words, item_words, symbol_text, circuit_text, Header, Item, LineKind, AllClean, one_clean, more_clean, nat_tests, and_parts, or_from, and_right, cond-false, cases_Bool, rules}
+use Rattle.aiger_io.specs.declared.item.LineKind.TheVariants as kind
 use Rattle.aiger_io.proofs.CleanLemmas.{default_clean}
 use Rattle.aiger_io.proofs.LineLemmas.{header_small}
 use Rattle.aiger_io.proofs.Format.RowLemmas.{symbol_split}
@@ -10,10 +10,10 @@ use Rattle.aiger_io.proofs.RowLemmas.{number_back, word_byte, row_of, line_back,
 abbrev pub symbol_row : ℕ → ℕ → List ℕ → List ℕ
 symbol_row letter k name = row_of ((letter ∷ decimal k) ∷ name ∷ [])
 
-with_back : (letter k : ℕ) (name : List ℕ) (kd : Kind) → kind_of letter ≡ Some kd → k < 2 ^ 64 → 0 < length name → symbol_with (letter ∷ decimal k) name ≡ Some (record { kind = kd; ordinal = k; name = name })
+with_back : (letter k : ℕ) (name : List ℕ) (kd : LineKind) → kind_of letter ≡ Some kd → k < 2 ^ 64 → 0 < length name → symbol_with (letter ∷ decimal k) name ≡ Some (record { kind = kd; ordinal = k; name = name })
 with_back letter k name kd e l some = grind (arith, number_back)
 
-pub symbol_back : (letter k : ℕ) (name : List ℕ) (kd : Kind) → kind_of letter ≡ Some kd → k < 2 ^ 64 → IsClean (letter ∷ decimal k) → IsClean name → symbol_of (symbol_row letter k name) ≡ Some (record { kind = kd; ordinal = k; name = name })
+pub symbol_back : (letter k : ℕ) (name : List ℕ) (kd : LineKind) → kind_of letter ≡ Some kd → k < 2 ^ 64 → IsClean (letter ∷ decimal k) → IsClean name → symbol_of (symbol_row letter k name) ≡ Some (record { kind = kd; ordinal = k; name = name })
 symbol_back letter k name kd e l key clean =
     ap (λ n. symbol_of ((letter ∷ decimal k) ++ 32 ∷ n)) (append-nil name)
     ∙ symbol_split (letter ∷ decimal k) name (λ b i. (word_byte (letter ∷ decimal k) b key i).no_blank)
@@ -27,7 +27,7 @@ none_bad (b ∷ bs) h = or_from (is_bad_byte b) (list_any is_bad_byte bs) (h b (
 pub good_name : (name : List ℕ) → IsClean name → is_bad_name name ≡ false
 good_name name c = or_from (list_any is_bad_byte name) (ends_in 92 name) (none_bad name (λ b i. (grind (arith, nat_tests)))) c.no_slash
 
-module _ (h : Header) (letter : ℕ) (kd : Kind) (is : kind_of letter ≡ Some kd) (keys : (k : ℕ) → k < 2 ^ 64 → IsClean (letter ∷ decimal k)) (no_c : eqb letter 99 ≡ false) where
+module _ (h : Header) (letter : ℕ) (kd : LineKind) (is : kind_of letter ≡ Some kd) (keys : (k : ℕ) → k < 2 ^ 64 → IsClean (letter ∷ decimal k)) (no_c : eqb letter 99 ≡ false) where
   symbol_lines : (k : ℕ) (names : List (List ℕ)) (rest : List ℕ) → k + length names < 2 ^ 64 → AllClean names → lines (numbered_text (symbol_text letter) k names ++ rest) ≡ numbered (symbol_row letter) k names ++ lines rest
   symbol_lines k [] rest few clean = refl
   symbol_lines k (x ∷ xs) rest few clean =

@@ -1,9 +1,9 @@
 -- The parts of a text that is written. Where the circuit goes together and has clean names, its text is of the format: each of its lines spells what it says.
-use Rattle.aiger_io.proofs.Common.{◌≡◌, ℕ, zero, suc, ◌+◌, Bool, List, [], ◌∷◌, ◌++◌, length, map, take, codes, Some, refl, sym, ap, ◌∙◌, arith, append_assoc, append-nil, slice_get, flat_map, range_with_len, length-map, flat_map-append, same_Some, Aig, first_and, RootsValue, FlatValue, FlatLatch, OutPort, Param, IsAdded, added_to, line_text, words_text, input_count, input_item, latch_item, output_item, gate_item, graph_items, graph_header, input_at, graph_circuit, numbered, numbered_text, header_words, init_words, item_text, symbol_text, circuit_text, Item, lines_text, symbols_text, ◌^◌, ◌<◌, ◌≤◌, true, decimal, inl, inr, subst, slice_get_within, In, In-push, In-left, In-right, place_in, get_left, get_right, AreClean, IsClean, AreOnce, AllClean, IsOfFormat, IsOfFormatWith, IsAigerText, Circuit, by_symbol, StandsTwice, IsNameRefused, alike, Symbol, AreSymbolRows, AllStand, count_of, kind_of, item_words, Header, Kind, AreItemRows, item_count, is_in_range}
+use Rattle.aiger_io.proofs.Common.{◌≡◌, ℕ, zero, suc, ◌+◌, Bool, List, [], ◌∷◌, ◌++◌, length, map, take, codes, Some, refl, sym, ap, ◌∙◌, arith, append_assoc, append-nil, slice_get, flat_map, range_with_len, length-map, flat_map-append, same_Some, Aig, first_and, RootsValue, FlatValue, FlatLatch, OutPort, Param, IsAdded, added_to, line_text, words_text, input_count, input_item, latch_item, output_item, gate_item, graph_items, graph_header, input_at, graph_circuit, numbered, numbered_text, header_words, init_words, item_text, symbol_text, circuit_text, Item, lines_text, symbols_text, ◌^◌, ◌<◌, ◌≤◌, true, decimal, inl, inr, subst, slice_get_within, In, In-push, In-left, In-right, place_in, get_left, get_right, AreClean, IsClean, AreOnce, AllClean, IsOfFormat, IsOfFormatWith, IsAigerText, Circuit, by_symbol, StandsTwice, IsNameRefused, alike, Symbol, AreSymbolRows, AllStand, count_of, kind_of, item_words, Header, LineKind, AreItemRows, item_count, is_in_range}
 use Rattle.std.proofs.lemmas.List.Folds.{flat_map-map}
 use Rattle.tl_io.specs.Sink.{SinkSeen}
 use Rattle.tl_piece.specs.declared.writer.Writer.{Writer}
-use Rattle.aiger_io.specs.declared.item.Kind.TheVariants as kind
+use Rattle.aiger_io.specs.declared.item.LineKind.TheVariants as kind
 use Rattle.aiger_io.proofs.Format.AigerTextLemmas.{format_parsed, ports_of, in_sections}
 use Rattle.aiger_io.proofs.Format.RowLemmas.{is_header_row, item_spelled, symbol_spelled}
 use Rattle.aiger_io.proofs.PlaceLemmas.{kind_of_item}
@@ -75,24 +75,24 @@ pub added_numbered : {O X : Type 0} {seen : O → SinkSeen} {old mid new : Write
 added_numbered f n xs i m x at is a b = added_to (ap (λ k. numbered_text f n (take i xs) ++ f k x) is ∙ numbered_more f n xs i x at) a b
 
 -- the symbols of names
-abbrev pub symbol_by : Kind → ℕ → List ℕ → Symbol
+abbrev pub symbol_by : LineKind → ℕ → List ℕ → Symbol
 symbol_by k n name = record { kind = k; ordinal = n; name = name }
 
-abbrev pub symbols_from : Kind → ℕ → List (List ℕ) → List Symbol
+abbrev pub symbols_from : LineKind → ℕ → List (List ℕ) → List Symbol
 symbols_from k n names = numbered (symbol_by k) n names
 
-one_kind : (k : Kind) (n : ℕ) (names : List (List ℕ)) (s : Symbol) → In (symbols_from k n names) s → s.kind ≡ k
+one_kind : (k : LineKind) (n : ℕ) (names : List (List ℕ)) (s : Symbol) → In (symbols_from k n names) s → s.kind ≡ k
 one_kind k n [] s i = absurd i
 one_kind k n (x ∷ xs) s (inl e) = ap (λ (t : Symbol). t.kind) e
 one_kind k n (x ∷ xs) s (inr i) = one_kind k (suc n) xs s i
 
-among : (k : Kind) (n i : ℕ) (names : List (List ℕ)) (x : List ℕ) → slice_get names i ≡ Some x → In (symbols_from k n names) (symbol_by k (n + i) x)
+among : (k : LineKind) (n i : ℕ) (names : List (List ℕ)) (x : List ℕ) → slice_get names i ≡ Some x → In (symbols_from k n names) (symbol_by k (n + i) x)
 among k n i [] x e = absurd (cc)
 among k n zero (y ∷ ys) x e = let same : y ≡ x = cc in let z : n + zero ≡ n = omega arith in inl (ap (λ m. symbol_by k m x) z ∙ ap (symbol_by k n) (sym same))
 among k n (suc i) (y ∷ ys) x e = let z : suc n + i ≡ n + suc i = omega arith in inr (subst (λ m. In (symbols_from k (suc n) ys) (symbol_by k m x)) z (among k (suc n) i ys x e))
 
 -- each may stand behind those before it
-stand_by : (h : Header) (k : Kind) (earlier : List Symbol) (n : ℕ) (names : List (List ℕ)) → ((t : Symbol) → In earlier t → t.kind ≡ k → t.ordinal < n) → n + length names ≤ count_of h k → AllClean names → AllStand h earlier (symbols_from k n names)
+stand_by : (h : Header) (k : LineKind) (earlier : List Symbol) (n : ℕ) (names : List (List ℕ)) → ((t : Symbol) → In earlier t → t.kind ≡ k → t.ordinal < n) → n + length names ≤ count_of h k → AllClean names → AllStand h earlier (symbols_from k n names)
 stand_by h k earlier n [] before few clean = tt
 stand_by h k earlier n (x ∷ xs) before few clean =
     grind (
@@ -109,7 +109,7 @@ stand_both h earlier [] ys a b = subst (λ e. AllStand h e ys) (append-nil earli
 stand_both h earlier (x ∷ xs) ys a b = (a.0, stand_both h (earlier ++ x ∷ []) xs ys a.1 (subst (λ e. AllStand h e ys) (sym (append_assoc earlier (x ∷ []) xs)) b))
 
 -- each line is its symbol
-rows_by : (letter : ℕ) (k : Kind) (n : ℕ) (names : List (List ℕ)) → kind_of letter ≡ Some k → ((m : ℕ) → m < 2 ^ 64 → IsClean (letter ∷ decimal m)) → n + length names < 2 ^ 64 → AllClean names → AreSymbolRows (numbered (symbol_row letter) n names) (symbols_from k n names)
+rows_by : (letter : ℕ) (k : LineKind) (n : ℕ) (names : List (List ℕ)) → kind_of letter ≡ Some k → ((m : ℕ) → m < 2 ^ 64 → IsClean (letter ∷ decimal m)) → n + length names < 2 ^ 64 → AllClean names → AreSymbolRows (numbered (symbol_row letter) n names) (symbols_from k n names)
 rows_by letter k n [] is keys few clean = tt
 rows_by letter k n (x ∷ xs) is keys few clean = grind (arith, symbol_spelled, symbol_row, symbol_back, rows_by letter k (suc n) xs is keys (omega arith) (λ y i. clean y (inr i)))
 

@@ -7,8 +7,8 @@ use Rattle.aiger_io.specs.declared.header.Header.{Header}
 use Rattle.list_laws.specs.Members.{In}
 use Rattle.aiger_io.specs.declared.item.Item.{Item}
 use Rattle.aiger_io.specs.declared.item.Item.TheVariants.{Input, Latch, Output, And}
-use Rattle.aiger_io.specs.declared.item.Kind.{Kind}
-use Rattle.aiger_io.specs.declared.item.Kind.TheVariants as kind
+use Rattle.aiger_io.specs.declared.item.LineKind.{LineKind}
+use Rattle.aiger_io.specs.declared.item.LineKind.TheVariants as kind
 use Rattle.tl_text.specs.Lines.{ends_in}
 use Rattle.std.specs.Str.Lines.{lines}
 use Rattle.tl_text.specs.Once.{AreOnce}
@@ -54,7 +54,7 @@ pub record IsLaterRow (row : List ℕ) : Type 0 where
   pub most : length numbers ≤ 9
 
 -- The lines after the header: inputs, latches, outputs and AND gates, in this order and as many as the header says.
-abbrev pub kind_of_item : Item → Kind
+abbrev pub kind_of_item : Item → LineKind
 kind_of_item (Input own) = kind.Input
 kind_of_item (Latch own next init) = kind.Latch
 kind_of_item (Output l) = kind.Output
@@ -96,7 +96,7 @@ AreItemRows (row ∷ rows) [] = ⊥
 AreItemRows (row ∷ rows) (item ∷ items) = IsItemRow row item × AreItemRows rows items
 
 -- as many of one kind
-pub record IsSection (k : Kind) (count : ℕ) (items : List Item) : Type 0 where
+pub record IsSection (k : LineKind) (count : ℕ) (items : List Item) : Type 0 where
   pub count_is : length items ≡ count
   pub each : (item : Item) → In items item → kind_of_item item ≡ k
 
@@ -116,7 +116,7 @@ pub record AreInSections (h : Header) (items : List Item) : Type 0 where
 abbrev pub item_count : Header → ℕ
 item_count h = h.inputs + h.latches + h.outputs + h.ands
 
-abbrev pub kind_at : Header → ℕ → Kind
+abbrev pub kind_at : Header → ℕ → LineKind
 kind_at h place =
     if nat_lt place h.inputs then kind.Input
     else if nat_lt place (h.inputs + h.latches) then kind.Latch
@@ -138,12 +138,12 @@ is_in_range most (And own left right) = is_variable most own && (is_literal most
 
 -- Symbols: the lines `i`, `l` or `o` with an ordinal, a blank, and a name. They name an input, a latch or an output. After them a comment may stand.
 pub record Symbol : Type 0 where
-  pub kind : Kind
+  pub kind : LineKind
   pub ordinal : ℕ
   pub name : List ℕ
 
 -- the letter of a kind: `i` (105), `l` (108) and `o` (111); gates have none
-abbrev pub IsLetterOf : Kind → ℕ → Type 0
+abbrev pub IsLetterOf : LineKind → ℕ → Type 0
 IsLetterOf kind.Input letter = letter ≡ 105
 IsLetterOf kind.Latch letter = letter ≡ 108
 IsLetterOf kind.Output letter = letter ≡ 111
@@ -173,7 +173,7 @@ abbrev pub is_bad_name : List ℕ → Bool
 is_bad_name name = list_any is_bad_byte name || ends_in 92 name
 
 -- how many of a kind have a symbol
-abbrev pub count_of : Header → Kind → ℕ
+abbrev pub count_of : Header → LineKind → ℕ
 count_of h kind.Input = h.inputs
 count_of h kind.Latch = h.latches
 count_of h kind.Output = h.outputs
@@ -201,12 +201,12 @@ abbrev pub default_name : ℕ → ℕ → List ℕ
 default_name letter ordinal = letter ∷ decimal ordinal
 
 -- a name is the symbol's of this kind and ordinal, or the default where there is none
-pub data IsNameOf (symbols : List Symbol) (k : Kind) (letter ordinal : ℕ) (name : List ℕ) : Type 0 where
+pub data IsNameOf (symbols : List Symbol) (k : LineKind) (letter ordinal : ℕ) (name : List ℕ) : Type 0 where
   by_symbol : In symbols (record { kind = k; ordinal = ordinal; name = name }) → IsNameOf symbols k letter ordinal name
   by_default : ((s : Symbol) → In symbols s → s.kind ≡ k → s.ordinal ≡ ordinal → ⊥) → name ≡ default_name letter ordinal → IsNameOf symbols k letter ordinal name
 
 -- the names of all of a kind, in their order
-pub record AreNamesOf (symbols : List Symbol) (k : Kind) (letter count : ℕ) (names : List (List ℕ)) : Type 0 where
+pub record AreNamesOf (symbols : List Symbol) (k : LineKind) (letter count : ℕ) (names : List (List ℕ)) : Type 0 where
   pub count_is : length names ≡ count
   pub each : (ordinal : ℕ) (name : List ℕ) → slice_get names ordinal ≡ Some name → IsNameOf symbols k letter ordinal name
 

@@ -11,8 +11,8 @@ use Rattle.std.specs.Option.{option_map, is_some}
 use Rattle.aiger_io.specs.declared.aag_err.AagErr.TheVariants.{Malformed, Range, BadSymbol}
 use Rattle.aiger_io.specs.declared.item.Item.{Item}
 use Rattle.aiger_io.specs.declared.item.Item.TheVariants.{Input, Latch, Output, And}
-use Rattle.aiger_io.specs.declared.item.Kind.{Kind}
-use Rattle.aiger_io.specs.declared.item.Kind.TheVariants as kind
+use Rattle.aiger_io.specs.declared.item.LineKind.{LineKind}
+use Rattle.aiger_io.specs.declared.item.LineKind.TheVariants as kind
 use Rattle.tl_text.specs.NameSets.{has_name, with_name}
 use Rattle.std.specs.Str.Lines.{lines}
 use Rattle.netlist.specs.LibraryValue.{LibraryValue}
@@ -99,7 +99,7 @@ and_of (own ∷ left ∷ right ∷ []) = and_with (number_of own) (number_of lef
 and_of words = None
 
 -- the form of a line of each kind
-abbrev pub item_of : Kind → List (List ℕ) → Option Item
+abbrev pub item_of : LineKind → List (List ℕ) → Option Item
 item_of kind.Input words = option_map (λ (l : ℕ). Input l) (one_number words)
 item_of kind.Latch words = latch_of words
 item_of kind.Output words = option_map (λ (l : ℕ). Output l) (one_number words)
@@ -121,10 +121,10 @@ items_from h items (row ∷ rows) =
     else and_then (λ (item : Item). items_from h (items ++ item ∷ []) rows) (item_at h (length items) row)
 
 -- `i` (105), `l` (108) and `o` (111)
-abbrev pub kind_of : ℕ → Option Kind
+abbrev pub kind_of : ℕ → Option LineKind
 kind_of letter = if letter == 105 then Some kind.Input else if letter == 108 then Some kind.Latch else if letter == 111 then Some kind.Output else None
 
-abbrev pub symbol_by : List ℕ → Option ℕ → Option Kind → Option Symbol
+abbrev pub symbol_by : List ℕ → Option ℕ → Option LineKind → Option Symbol
 symbol_by name (Some ordinal) (Some k) = Some (record { kind = k; ordinal = ordinal; name = name })
 symbol_by name (Some ordinal) None = None
 symbol_by name None k = None
@@ -139,7 +139,7 @@ abbrev pub symbol_of : List ℕ → Option Symbol
 symbol_of row = symbol_with (before_first (λ b. b == 32) row) (after_first (λ b. b == 32) row)
 
 -- the place of the first of a kind among inputs, latches and outputs; gates have none
-abbrev pub first_of : Header → Kind → ℕ
+abbrev pub first_of : Header → LineKind → ℕ
 first_of h kind.Input = 0
 first_of h kind.Latch = h.inputs
 first_of h kind.Output = h.inputs + h.latches

@@ -6,8 +6,8 @@ use Rattle.aiger_io.specs.declared.aag_err.AagErr.{AagErr}
 use Rattle.aiger_io.specs.declared.aag_err.AagErr.TheVariants as aag_err
 use Rattle.aiger_io.specs.declared.header.Header.{Header}
 use Rattle.aiger_io.specs.declared.item.Item.{Item}
-use Rattle.aiger_io.specs.declared.item.Kind.{Kind}
-use Rattle.aiger_io.specs.declared.item.Kind.TheVariants as kind
+use Rattle.aiger_io.specs.declared.item.LineKind.{LineKind}
+use Rattle.aiger_io.specs.declared.item.LineKind.TheVariants as kind
 use Rattle.aiger_io.specs.AigerText.{IsOfFormatWith, IsHeaderRow, IsLaterRow, kind_of_item, IsItemRow, AreItemRows, item_count, kind_at, is_in_range, Symbol, IsSymbolRow, AreSymbolRows, MayStand, AllStand}
 use Rattle.aiger_io.specs.Circuit.{Circuit}
 
@@ -44,7 +44,7 @@ pub record StandsTwice (names : List (List ℕ)) (name : List ℕ) : Type 0 wher
   pub there : slice_get names second ≡ Some name
 
 -- inputs and outputs are ports
-abbrev pub IsPort : Kind → Type 0
+abbrev pub IsPort : LineKind → Type 0
 IsPort kind.Input = Unit {0}
 IsPort kind.Latch = ⊥
 IsPort kind.Output = Unit {0}

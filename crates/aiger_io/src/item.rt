@@ -2,7 +2,7 @@
 
 /// The kind of such a line.
 #[derive(Clone, Copy, Debug, PartialEq, Eq)]
-pub enum Kind {
+pub enum LineKind {
     Input,
     Latch,
     Output,

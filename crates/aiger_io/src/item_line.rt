@@ -7,13 +7,13 @@ ghost use Rattle.aiger_io.specs.Refusals.{refusal_of};
 
 use crate::aag_err::AagErr;
 use crate::header::Header;
-use crate::item::{Item, Kind};
+use crate::item::{Item, LineKind};
 use crate::number::number;
 use crate::rows::words;
 use std::alloc::Global;
 
 // The kind of the line at a place.
-fn kind_of_place(header: &Header, place: u32) -> Kind
+fn kind_of_place(header: &Header, place: u32) -> LineKind
     ensures { result ≡ kind_at header.now place }
 {
     let place = place as u64;
@@ -21,15 +21,15 @@ fn kind_of_place(header: &Header, place: u32) -> Kind
     let outputs = latches + header.latches as u64;
     let ands = outputs + header.outputs as u64;
     if place < latches {
-        return Kind::Input;
+        return LineKind::Input;
     }
     if place < outputs {
-        return Kind::Latch;
+        return LineKind::Latch;
     }
     if place < ands {
-        return Kind::Output;
+        return LineKind::Output;
     }
-    Kind::And
+    LineKind::And
 }
 
 // The literal of a line that has one.
@@ -84,14 +84,14 @@ fn gate(words: &[&[u8]]) -> Option<Item>
 }
 
 // The content of a line of this kind.
-fn item(kind: Kind, words: &[&[u8]]) -> Option<Item>
+fn item(kind: LineKind, words: &[&[u8]]) -> Option<Item>
     ensures { result ≡ option_map capped_item (item_of kind (map (λ word. word.now) words.now)) }
 {
     match kind {
-        Kind::Input => Some(Item::Input(literal(words)?)),
-        Kind::Latch => latch(words),
-        Kind::Output => Some(Item::Output(literal(words)?)),
-        Kind::And => gate(words),
+        LineKind::Input => Some(Item::Input(literal(words)?)),
+        LineKind::Latch => latch(words),
+        LineKind::Output => Some(Item::Output(literal(words)?)),
+        LineKind::And => gate(words),
     }
 }
 

@@ -4,25 +4,25 @@ ghost use Rattle.std.specs.List.{list_any, position_or_len};
 ghost use Rattle.std.specs.Option.{option_map};
 ghost use Rattle.aiger_io.specs.Reader.{capped_symbol, symbol_value, kind_of, is_bad_byte, is_bad_name, symbol_with as symbol_by, symbol_of};
 
-use crate::item::Kind;
+use crate::item::LineKind;
 use crate::number::number;
 
 /// The content of a line that names an input, a latch or an output.
 #[derive(Drop)]
 pub struct Symbol<'a> {
-    pub kind: Kind,
+    pub kind: LineKind,
     pub ordinal: u32,
     pub name: &'a [u8],
 }
 
 // The kind that a letter stands for.
-fn kind(letter: u8) -> Option<Kind>
+fn kind(letter: u8) -> Option<LineKind>
     ensures { result ≡ kind_of letter }
 {
     match letter {
-        b'i' => Some(Kind::Input),
-        b'l' => Some(Kind::Latch),
-        b'o' => Some(Kind::Output),
+        b'i' => Some(LineKind::Input),
+        b'l' => Some(LineKind::Latch),
+        b'o' => Some(LineKind::Output),
         _ => None,
     }
 }

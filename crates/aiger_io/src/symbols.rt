@@ -7,7 +7,7 @@ ghost use Rattle.aiger_io.specs.Refusals.{refusal_of};
 
 use crate::aag_err::AagErr;
 use crate::header::Header;
-use crate::item::Kind;
+use crate::item::LineKind;
 use crate::symbol::{Symbol, is_bad, read_symbol};
 use std::alloc::{AllocError, Global};
 use std::marker::Model;
@@ -41,14 +41,14 @@ fn no_names(alloc: Global, count: u64) -> Result<Vec<Option<Name>>, AllocError>
 }
 
 // The number of items of a kind that may have a symbol.
-fn count(header: &Header, kind: Kind) -> u32
+fn count(header: &Header, kind: LineKind) -> u32
     ensures { result ≡ count_of header.now kind }
 {
     match kind {
-        Kind::Input => header.inputs,
-        Kind::Latch => header.latches,
-        Kind::Output => header.outputs,
-        Kind::And => 0,
+        LineKind::Input => header.inputs,
+        LineKind::Latch => header.latches,
+        LineKind::Output => header.outputs,
+        LineKind::And => 0,
     }
 }
 
@@ -60,10 +60,10 @@ fn place(header: &Header, s: &Symbol) -> u32
     ensures within { result < named_count header.now }
 {
     match s.kind {
-        Kind::Input => s.ordinal,
-        Kind::Latch => header.inputs + s.ordinal,
-        Kind::Output => header.inputs + header.latches + s.ordinal,
-        Kind::And => 0,
+        LineKind::Input => s.ordinal,
+        LineKind::Latch => header.inputs + s.ordinal,
+        LineKind::Output => header.inputs + header.latches + s.ordinal,
+        LineKind::And => 0,
     }
 }
 

@@ -15,7 +15,7 @@ use aig_core::{Graph, Lit, Roots};
 use netlist::{Flat, FlatLatch, OutPort};
 use param_list::{Param, Params};
 use tl_io::{Failed, Sink};
-use tl_piece::{Piece, Writer};
+use tl_piece::{WriteBuffer, Writer};
 use tl_text::Name;
 
 // Adds the lines of `count` inputs.
@@ -172,7 +172,7 @@ pub fn put_aag<O: Sink>(
 {
     let _sources = graph.sources();
     let inputs = count_inputs(regular, params);
-    let mut piece = Piece::new();
+    let mut piece = WriteBuffer::new();
     let mut writer = Writer::over(out, &mut piece);
     add_lines(inputs, flat, graph, roots, &mut writer);
     add_symbols(flat, params, regular, &mut writer);

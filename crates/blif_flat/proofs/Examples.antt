@@ -1,15 +1,15 @@
 -- A worked example of the definitions: a main model that places an inverter.
-use Rattle.blif_flat.proofs.Common.{◌≡◌, ℕ, Bool, true, List, [], ◌∷◌, codes, Some, None, refl, sym, ap, ◌∙◌, inl, inr, Zero, Cover, Subckt, Pair, cover_value, ModelValue, Path, CoverAt, ConnectionAt, cover_net, Drives, cover_output, from_inside, UnknownModel, RecursiveModel, UnknownFormal, Unconnected, DoublyDriven, Undriven, Fits, SubcktLine, line_fault, Weighs, model_fault, CoverValue, SubcktValue, LibraryValue}
+use Rattle.blif_flat.proofs.Common.{◌≡◌, ℕ, Bool, true, List, [], ◌∷◌, codes, Some, None, refl, sym, ap, ◌∙◌, inl, inr, Zero, Cover, Subckt, Connection, cover_value, ModelValue, Path, CoverAt, ConnectionAt, cover_net, Drives, cover_output, from_inside, UnknownModel, RecursiveModel, UnknownFormal, Unconnected, DoublyDriven, Undriven, Fits, SubcktLine, line_fault, Weighs, model_fault, CoverValue, SubcktValue, LibraryValue}
 use Rattle.netlist.specs.Weight as weight
 
 -- .model top / .inputs a / .outputs y / .subckt inv i=a o=y / .model inv / .inputs i / .outputs o / .names i o / 0 1
 abbrev flip : CoverValue
 flip = record { inputs = codes "i" ∷ []; output = codes "o"; value = true; rows = record { cells = Zero ∷ [] } ∷ [] }
 
-abbrev in_pair : Pair
+abbrev in_pair : Connection
 in_pair = record { formal = codes "i"; actual = codes "a" }
 
-abbrev out_pair : Pair
+abbrev out_pair : Connection
 out_pair = record { formal = codes "o"; actual = codes "y" }
 
 abbrev placing : SubcktValue

@@ -1,22 +1,22 @@
 -- The refusals of drivers: within each walked model the names that are driven twice, then those that are read and aren't driven.
 use Rattle.std.specs.Prelude.{ℕ, if◌then◌else◌, List, [], ◌∷◌, ◌++◌, Option, Some, None}
 use Rattle.std.specs.Option.{option_or as or_later, option_to_list as control_names}
-use Rattle.blif_flat.specs.Circuits.{model_named, has_name, is_input, is_output, inputs_of, Body, Cover, Latch, Subckt, Command, Pair, ModelValue, LibraryValue, FlatErr, DoublyDriven, Undriven}
+use Rattle.blif_flat.specs.Circuits.{model_named, has_name, is_input, is_output, inputs_of, Body, Cover, Latch, Subckt, Command, Connection, ModelValue, LibraryValue, FlatErr, DoublyDriven, Undriven}
 
 -- the actuals of the output connections, and those of the input connections, in the order of the line
-abbrev pub output_actuals : ModelValue → List Pair → List (List ℕ)
+abbrev pub output_actuals : ModelValue → List Connection → List (List ℕ)
 output_actuals child [] = []
 output_actuals child (pair ∷ pairs) = if is_output child pair.formal then pair.actual ∷ output_actuals child pairs else output_actuals child pairs
 
-abbrev pub input_actuals : ModelValue → List Pair → List (List ℕ)
+abbrev pub input_actuals : ModelValue → List Connection → List (List ℕ)
 input_actuals child [] = []
 input_actuals child (pair ∷ pairs) = if is_input child pair.formal then pair.actual ∷ input_actuals child pairs else input_actuals child pairs
 
-abbrev pub driven_pairs : Option ModelValue → List Pair → List (List ℕ)
+abbrev pub driven_pairs : Option ModelValue → List Connection → List (List ℕ)
 driven_pairs None pairs = []
 driven_pairs (Some child) pairs = output_actuals child pairs
 
-abbrev pub read_pairs : Option ModelValue → List Pair → List (List ℕ)
+abbrev pub read_pairs : Option ModelValue → List Connection → List (List ℕ)
 read_pairs None pairs = []
 read_pairs (Some child) pairs = input_actuals child pairs
 

@@ -1,7 +1,7 @@
 -- The walk of the models: depth first from the main model, in each model the `.subckt` lines in order, and each placed model unless it was walked before.
 use Rattle.std.specs.Prelude.{◌≡◌, ℕ, Bool, true, false, ◌||◌, if◌then◌else◌, List, [], ◌∷◌, ◌++◌, Option, Some, None, bytes_eq}
 use Rattle.std.specs.List.{list_any}
-use Rattle.blif_flat.specs.Circuits.{model_named, has_name, is_input, inputs_of, Body, Cover, Latch, Subckt, Command, Pair, SubcktValue, ModelValue, LibraryValue, FlatErr, UnknownModel, RecursiveModel, UnknownFormal, Unconnected}
+use Rattle.blif_flat.specs.Circuits.{model_named, has_name, is_input, inputs_of, Body, Cover, Latch, Subckt, Command, Connection, SubcktValue, ModelValue, LibraryValue, FlatErr, UnknownModel, RecursiveModel, UnknownFormal, Unconnected}
 
 -- the `.subckt` lines of a model
 pub record SubcktLine : Type 0 where
@@ -18,15 +18,15 @@ subckt_lines [] = []
 subckt_lines (c ∷ cs) = with_line c.line c.body (subckt_lines cs)
 
 -- the first formal that is neither an input nor an output
-abbrev pub unknown_formal : ModelValue → List Pair → Option (List ℕ)
+abbrev pub unknown_formal : ModelValue → List Connection → Option (List ℕ)
 unknown_formal child [] = None
 unknown_formal child (pair ∷ pairs) = if is_input child pair.formal || has_name child.outputs pair.formal then unknown_formal child pairs else Some pair.formal
 
 -- the first input that isn't connected
-abbrev pub is_connected : List Pair → List ℕ → Bool
-is_connected pairs name = list_any (λ (pair : Pair). bytes_eq name pair.formal) pairs
+abbrev pub is_connected : List Connection → List ℕ → Bool
+is_connected pairs name = list_any (λ (pair : Connection). bytes_eq name pair.formal) pairs
 
-abbrev pub open_input : List Pair → List (List ℕ) → Option (List ℕ)
+abbrev pub open_input : List Connection → List (List ℕ) → Option (List ℕ)
 open_input pairs [] = None
 open_input pairs (name ∷ names) = if is_connected pairs name then open_input pairs names else Some name
 

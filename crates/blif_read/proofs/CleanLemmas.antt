@@ -1,5 +1,5 @@
 -- Each name in a library that a text denotes is clean.
-use Rattle.blif_read.proofs.Common.{◌≡◌, ℕ, ◌-◌, eqb, List, [], ◌∷◌, length, map, get_or, codes, Some, None, refl, sym, ap, ◌∙◌, subst, inl, inr, arith, none-some, same_Some, In, In-append, In-left, In-right, from_map, LineValue, token_bytes, words_line, Keyword, Cover, Latch, Subckt, Command, Pair, CoverValue, SubcktValue, ModelValue, LibraryValue, Ports, input_ports, output_ports, clock_ports, StatementValue, arguments_of, keyword_of, statement_at, statement_of, statements, IsLatch, plain, with_init, with_control, whole, Controls, nil, net, connection_token, IsConnection, IsSubckt, port_names, names_in, IsCoverLine, AreCommands, IsModel, AreModels, Denotes}
+use Rattle.blif_read.proofs.Common.{◌≡◌, ℕ, ◌-◌, eqb, List, [], ◌∷◌, length, map, get_or, codes, Some, None, refl, sym, ap, ◌∙◌, subst, inl, inr, arith, none-some, same_Some, In, In-append, In-left, In-right, from_map, LineValue, token_bytes, words_line, Keyword, Cover, Latch, Subckt, Command, Connection, CoverValue, SubcktValue, ModelValue, LibraryValue, Ports, input_ports, output_ports, clock_ports, StatementValue, arguments_of, keyword_of, statement_at, statement_of, statements, IsLatch, plain, with_init, with_control, whole, Controls, nil, net, connection_token, IsConnection, IsSubckt, port_names, names_in, IsCoverLine, AreCommands, IsModel, AreModels, Denotes}
 use Rattle.tl_text.specs.declared.token.Token.{Token}
 use Rattle.tl_text.specs.Clean.{IsClean, AreCleanIn}
 use Rattle.tl_text.proofs.PlaceLemmas.{lines_clean}
@@ -63,7 +63,7 @@ latch_clean words l (whole control init w c i) clean =
     (all l.input (inl refl), all l.output (inr (inl refl)), control_clean control l c (all control (inr (inr (inr (inl refl))))))
 
 -- the parts of a connection
-pair_clean : (pair : Pair) → IsConnection pair → IsClean (connection_token pair) → IsCleanPair pair
+pair_clean : (pair : Connection) → IsConnection pair → IsClean (connection_token pair) → IsCleanPair pair
 pair_clean pair is clean =
     let front : (b : ℕ) → In pair.formal b → In (connection_token pair) b = λ b i. In-left pair.formal (61 ∷ pair.actual) b i in
     let back : (b : ℕ) → In pair.actual b → In (connection_token pair) b = λ b i. In-right pair.formal (61 ∷ pair.actual) b (inr i) in
@@ -77,7 +77,7 @@ pair_clean pair is clean =
       };
     }
 
-pairs_clean : (pairs : List Pair) → ((pair : Pair) → In pairs pair → IsConnection pair) → AreClean (map connection_token pairs) → (pair : Pair) → In pairs pair → IsCleanPair pair
+pairs_clean : (pairs : List Connection) → ((pair : Connection) → In pairs pair → IsConnection pair) → AreClean (map connection_token pairs) → (pair : Connection) → In pairs pair → IsCleanPair pair
 pairs_clean [] each clean pair i = absurd i
 pairs_clean (p ∷ ps) each clean pair (inl e) = subst IsCleanPair (sym e) (pair_clean p (each p (inl refl)) (clean (connection_token p) (inl refl)))
 pairs_clean (p ∷ ps) each clean pair (inr i) = pairs_clean ps (λ q j. each q (inr j)) (λ name j. clean name (inr j)) pair i

@@ -5,7 +5,7 @@ pub use Rattle.std.proofs.lemmas.List.{append-nil, length-take-le, length_push, 
 pub use Rattle.std.proofs.lemmas.Option.{none-some, same_Some}
 pub use Rattle.std.proofs.lemmas.Slice.Eq.{bytes_eq-Decides}
 pub use Rattle.std.specs.Option.{option_map}
-pub use Rattle.blif_read.specs.Words.{In, RowValue, CoverValue, matches, cover_value, Ports, input_ports, output_ports, clock_ports, ModelValue, LibraryValue, ports_of, SubcktValue, formals, Cell, Zero, One, Any, Body, Cover, Command, Pair, bit_of, LineValue, token_bytes, words_line, AreLinesIn, lines_of, AreOnce, TextErr, BlifErr, DuplicateModel, NoModel, BadConnection, DuplicatePort, BadLatch, LatchKind, Keyword, Model, Inputs, Outputs, Clock, Names, End, Plain, Unknown}
+pub use Rattle.blif_read.specs.Words.{In, RowValue, CoverValue, matches, cover_value, Ports, input_ports, output_ports, clock_ports, ModelValue, LibraryValue, ports_of, SubcktValue, formals, Cell, Zero, One, Any, Body, Cover, Command, Connection, bit_of, LineValue, token_bytes, words_line, AreLinesIn, lines_of, AreOnce, TextErr, BlifErr, DuplicateModel, NoModel, BadConnection, DuplicatePort, BadLatch, LatchKind, Keyword, Model, Inputs, Outputs, Clock, Names, End, Plain, Unknown}
 pub use Rattle.std.specs.List.{position, position_or_len, slice_get}
 pub use Rattle.std.specs.Vec.Iter.{into_iter_items}
 pub use Rattle.list_laws.proofs.Apart.{pushed_apart, not_in_both}

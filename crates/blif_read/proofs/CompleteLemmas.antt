@@ -1,5 +1,5 @@
 -- What a text denotes, the reader reads.
-use Rattle.blif_read.proofs.Common.{◌≡◌, ℕ, ◌<◌, Bool, true, List, [], ◌∷◌, ◌++◌, length, map, Some, None, Ok, refl, sym, ap, ◌∙◌, subst, arith, append_assoc, append-nil, cond-false, DuplicateModel, Body, Cover, Latch, Subckt, Command, CoverValue, RowValue, ModelValue, LibraryValue, Ports, input_ports, output_ports, clock_ports, ports_of, StatementValue, AreOnce, AreRows, names_in, IsCoverLine, AreCommands, IsModel, AreModels, Denotes, has, ports_fault, fault_by, State, ModelRead, with_command, flushed, ended, context, with_ports, ports_read, body_read, next_by, steps, library_at_end, finished, lines_read, text_read, fresh, rules, cond, eqb, Keyword, IsRow, row_of, mixed_fault, false, ltb, take, get_or, bytes_eq, codes, Option, inl, inr, length-append, position_or_len, cond-true, lt-ltb, ne_eqb, eq-eqb, and_from, or_from, not_from_false, false_from_ne_true, bytes_eq-Decides, In, bit_of, length-map, Cell, Zero, Pair, SubcktValue, alone, behind, cell_character, output_token, IsLatch, plain, with_init, with_control, whole, Starts, one, zero_, Controls, nil, net, connection_token, IsConnection, IsSubckt, formals, cells_of, init_fault, latch_fault, connection_of, connections_fault, subckt_fault, names_fault, cover_of, control_of, init_of, latch_of, pairs_of, subckt_of, not_in_both, has_in}
+use Rattle.blif_read.proofs.Common.{◌≡◌, ℕ, ◌<◌, Bool, true, List, [], ◌∷◌, ◌++◌, length, map, Some, None, Ok, refl, sym, ap, ◌∙◌, subst, arith, append_assoc, append-nil, cond-false, DuplicateModel, Body, Cover, Latch, Subckt, Command, CoverValue, RowValue, ModelValue, LibraryValue, Ports, input_ports, output_ports, clock_ports, ports_of, StatementValue, AreOnce, AreRows, names_in, IsCoverLine, AreCommands, IsModel, AreModels, Denotes, has, ports_fault, fault_by, State, ModelRead, with_command, flushed, ended, context, with_ports, ports_read, body_read, next_by, steps, library_at_end, finished, lines_read, text_read, fresh, rules, cond, eqb, Keyword, IsRow, row_of, mixed_fault, false, ltb, take, get_or, bytes_eq, codes, Option, inl, inr, length-append, position_or_len, cond-true, lt-ltb, ne_eqb, eq-eqb, and_from, or_from, not_from_false, false_from_ne_true, bytes_eq-Decides, In, bit_of, length-map, Cell, Zero, Connection, SubcktValue, alone, behind, cell_character, output_token, IsLatch, plain, with_init, with_control, whole, Starts, one, zero_, Controls, nil, net, connection_token, IsConnection, IsSubckt, formals, cells_of, init_fault, latch_fault, connection_of, connections_fault, subckt_fault, names_fault, cover_of, control_of, init_of, latch_of, pairs_of, subckt_of, not_in_both, has_in}
 use Rattle.blif_read.proofs.PortLemmas.{keyword_for, ports_line, which_ports, own_names, names_ports, skipped, rows_skipped, ports_grown, ports_keep, ports_commanded, ports_flushed, row_keyword}
 use Rattle.std.proofs.Math.Seq.{take-append_seam, drop-append-add, get_or-append_seam}
 use Rattle.netlist.specs.declared.latch.Latch.{Latch as LatchValue}
@@ -54,10 +54,10 @@ first_equals : (front more : List ℕ) → (In front 61 → ⊥) → position_or
 first_equals [] more apart = refl
 first_equals (b ∷ bs) more apart = grind (arith, eqb, ne_eqb, cond, first_equals bs more (λ i. apart (inr i)))
 
-pub connection_fits : (pair : Pair) → IsConnection pair → connection_of (connection_token pair) ≡ Some pair
+pub connection_fits : (pair : Connection) → IsConnection pair → connection_of (connection_token pair) ≡ Some pair
 connection_fits pair is = grind (arith, length-append, eqb, cond, ltb, first_equals, cond-true, lt-ltb, take-append_seam, drop-append-add, cond-false, or_from, ne_eqb)
 
-connections_fit : (number : ℕ) (seen : List (List ℕ)) (pairs : List Pair) → ((pair : Pair) → In pairs pair → IsConnection pair) → AreOnce (seen ++ formals pairs)
+connections_fit : (number : ℕ) (seen : List (List ℕ)) (pairs : List Connection) → ((pair : Connection) → In pairs pair → IsConnection pair) → AreOnce (seen ++ formals pairs)
     → (connections_fault number seen (map connection_token pairs) ≡ None) × (pairs_of (map connection_token pairs) ≡ pairs)
 connections_fit number seen [] each once = (refl, refl)
 connections_fit number seen (pair ∷ pairs) each once = grind (arith, connection_fits, append_assoc, cond, once_has, connections_fit number (seen ++ pair.formal ∷ []) pairs (λ p i. each p (inr i)) (subst AreOnce (sym (append_assoc seen (pair.formal ∷ []) (formals pairs))) once))

@@ -1,5 +1,5 @@
 -- Lines without a refusal have the form of their command.
-use Rattle.blif_read.proofs.Common.{In-place, ◌≡◌, ℕ, ◌+◌, ◌-◌, ◌<◌, Bool, true, false, ◌||◌, cond, eqb, List, [], ◌∷◌, ◌++◌, length, take, drop, map, get_or, bytes_eq, codes, Option, Some, None, refl, sym, ap, ◌∙◌, subst, inl, inr, arith, position, both_ways, and_parts, or_cases, or_parts, not-true, eqb-true, eqb-false, none-some, same_Some, bytes_eq-Decides, pushed_apart, In, none_else, none_both, some_then, some_else, bit_of, BlifErr, BadConnection, Cell, Plain, Pair, StatementValue, AreOnce, cell_character, output_token, IsRow, Starts, Controls, IsLatch, plain, with_init, with_control, whole, connection_token, IsConnection, IsSubckt, formals, RowRead, cell_of, put_cell, cells_of, row_with, row_of, or_later, names_fault, init_fault, kind_fault, latch_fault, split_at, connection_of, repeats_formal, with_formal, connections_fault, subckt_fault, cover_of, control_of, init_of, latch_of, put_pair, pairs_of, subckt_of, append-nil, append_assoc, length-map, length-take-le, take-append-drop, drop_more, drop_all, get_or-take, rules, Command, RowValue, ModelValue, LibraryValue, alone, behind, AreRows, AreCommands, AreModels, Denotes}
+use Rattle.blif_read.proofs.Common.{In-place, ◌≡◌, ℕ, ◌+◌, ◌-◌, ◌<◌, Bool, true, false, ◌||◌, cond, eqb, List, [], ◌∷◌, ◌++◌, length, take, drop, map, get_or, bytes_eq, codes, Option, Some, None, refl, sym, ap, ◌∙◌, subst, inl, inr, arith, position, both_ways, and_parts, or_cases, or_parts, not-true, eqb-true, eqb-false, none-some, same_Some, bytes_eq-Decides, pushed_apart, In, none_else, none_both, some_then, some_else, bit_of, BlifErr, BadConnection, Cell, Plain, Connection, StatementValue, AreOnce, cell_character, output_token, IsRow, Starts, Controls, IsLatch, plain, with_init, with_control, whole, connection_token, IsConnection, IsSubckt, formals, RowRead, cell_of, put_cell, cells_of, row_with, row_of, or_later, names_fault, init_fault, kind_fault, latch_fault, split_at, connection_of, repeats_formal, with_formal, connections_fault, subckt_fault, cover_of, control_of, init_of, latch_of, put_pair, pairs_of, subckt_of, append-nil, append_assoc, length-map, length-take-le, take-append-drop, drop_more, drop_all, get_or-take, rules, Command, RowValue, ModelValue, LibraryValue, alone, behind, AreRows, AreCommands, AreModels, Denotes}
 use Rattle.std.proofs.lemmas.List.Quantifiers.{position-Some}
 use Rattle.tl_text.proofs.NameLemmas.{not_there as name_not_there}
 use Rattle.netlist.specs.WellFormed.{IsWellFormedBody, IsWellFormedModel, IsWellFormed}
@@ -76,10 +76,10 @@ names_are n (w ∷ ws) h =
 not_there : (xs : List ℕ) (x : ℕ) → ((j : ℕ) → j < length xs → (eqb (get_or xs j 0) x) ≡ false) → In xs x → ⊥
 not_there xs x apart i = let r = In-place xs x i in eqb-false (get_or xs r.0 0) x (apart r.0 r.1) r.2
 
-abbrev split_pair : List ℕ → ℕ → Pair
+abbrev split_pair : List ℕ → ℕ → Connection
 split_pair word k = record { formal = take k word; actual = drop (k + 1) word }
 
-record IsSplit (word : List ℕ) (pair : Pair) : Type 0 where
+record IsSplit (word : List ℕ) (pair : Connection) : Type 0 where
   word_is : word ≡ connection_token pair
   connection : IsConnection pair
 
@@ -99,23 +99,23 @@ split_pair_is word k at apart =
       };
     }
 
-split_is : (word : List ℕ) (o : Option ℕ) (pair : Pair) → position (λ b. eqb b 61) word ≡ o → split_at word o ≡ Some pair → IsSplit word pair
+split_is : (word : List ℕ) (o : Option ℕ) (pair : Connection) → position (λ b. eqb b 61) word ≡ o → split_at word o ≡ Some pair → IsSplit word pair
 split_is word None pair at h = absurd (none-some pair h)
 split_is word (Some k) pair at h =
     let p = some_else (eqb (length (take k word)) 0 || eqb (length (drop (k + 1) word)) 0) (Some (split_pair word k)) pair h in
     subst (IsSplit word) (same_Some (split_pair word k) pair p.1) (split_pair_is word k at p.0)
 
 -- the connections of a line, of which no formal stood earlier
-record AreConnections (before words : List (List ℕ)) (pairs : List Pair) : Type 0 where
+record AreConnections (before words : List (List ℕ)) (pairs : List Connection) : Type 0 where
   words_are : words ≡ map connection_token pairs
-  each : (pair : Pair) → In pairs pair → IsConnection pair
+  each : (pair : Connection) → In pairs pair → IsConnection pair
   once : AreOnce (before ++ formals pairs)
 
-connection_more : (before : List (List ℕ)) (word : List ℕ) (words : List (List ℕ)) (pair : Pair) (pairs : List Pair) → IsSplit word pair → AreConnections (before ++ pair.formal ∷ []) words pairs → AreConnections before (word ∷ words) (pair ∷ pairs)
+connection_more : (before : List (List ℕ)) (word : List ℕ) (words : List (List ℕ)) (pair : Connection) (pairs : List Connection) → IsSplit word pair → AreConnections (before ++ pair.formal ∷ []) words pairs → AreConnections before (word ∷ words) (pair ∷ pairs)
 connection_more before word words pair pairs is are = search (rules, append_assoc)
 
-connection_put : (before : List (List ℕ)) (word : List ℕ) (words : List (List ℕ)) (o : Option Pair) (pairs : List Pair) → connection_of word ≡ o → repeats_formal before o ≡ false → AreOnce before
-    → ((pair : Pair) → o ≡ Some pair → AreOnce (before ++ pair.formal ∷ []) → AreConnections (before ++ pair.formal ∷ []) words pairs) → AreConnections before (word ∷ words) (put_pair o pairs)
+connection_put : (before : List (List ℕ)) (word : List ℕ) (words : List (List ℕ)) (o : Option Connection) (pairs : List Connection) → connection_of word ≡ o → repeats_formal before o ≡ false → AreOnce before
+    → ((pair : Connection) → o ≡ Some pair → AreOnce (before ++ pair.formal ∷ []) → AreConnections (before ++ pair.formal ∷ []) words pairs) → AreConnections before (word ∷ words) (put_pair o pairs)
 connection_put before word words None pairs at new once more = absurd (let f : ⊥ = cc in f)
 connection_put before word words (Some pair) pairs at new once more = search (rules, connection_more, split_is, eqb, pushed_apart, name_not_there)
 

@@ -1,5 +1,5 @@
 -- A library holds no more than the bytes of its text.
-use Rattle.blif_read.proofs.Common.{◌≡◌, ℕ, ◌+◌, ◌≤◌, List, [], ◌∷◌, ◌++◌, length, map, Option, refl, ap, ◌∙◌, arith, length-append, LineValue, Cover, Latch, Subckt, Command, Keyword, Pair, CoverValue, SubcktValue, ModelValue, LibraryValue, Ports, input_ports, output_ports, clock_ports, StatementValue, keyword_of, arguments_of, statement_at, statements, IsLatch, plain, with_init, with_control, whole, Controls, nil, net, connection_token, IsSubckt, port_names, names_in, IsCoverLine, AreCommands, IsModel, AreModels, Denotes, name_size, names_size, pairs_size, control_size, body_size, commands_size, model_size, models_size, library_size, ◌<◌, ◌^◌, Some, inl, inr, subst, slice_get, same_Some, none-some, In, In-append, HasShortPorts, rules}
+use Rattle.blif_read.proofs.Common.{◌≡◌, ℕ, ◌+◌, ◌≤◌, List, [], ◌∷◌, ◌++◌, length, map, Option, refl, ap, ◌∙◌, arith, length-append, LineValue, Cover, Latch, Subckt, Command, Keyword, Connection, CoverValue, SubcktValue, ModelValue, LibraryValue, Ports, input_ports, output_ports, clock_ports, StatementValue, keyword_of, arguments_of, statement_at, statements, IsLatch, plain, with_init, with_control, whole, Controls, nil, net, connection_token, IsSubckt, port_names, names_in, IsCoverLine, AreCommands, IsModel, AreModels, Denotes, name_size, names_size, pairs_size, control_size, body_size, commands_size, model_size, models_size, library_size, ◌<◌, ◌^◌, Some, inl, inr, subst, slice_get, same_Some, none-some, In, In-append, HasShortPorts, rules}
 use Rattle.tl_text.proofs.SizeLemmas.{words_size, lines_size, lines_small}
 use Rattle.netlist.specs.declared.latch.Latch.{Latch as LatchValue}
 use Rattle.blif_read.proofs.PortLemmas.{keyword_for, ports_line, which_ports, names_ports, skipped, rows_skipped}
@@ -53,7 +53,7 @@ latch_small words l (with_init init w c i) = omega (arith, ap names_size w, ap c
 latch_small words l (with_control control w c i) = omega (arith, ap names_size w, control_small control l.control c)
 latch_small words l (whole control init w c i) = omega (arith, ap names_size w, control_small control l.control c)
 
-pairs_tokens : (pairs : List Pair) → pairs_size pairs ≡ names_size (map connection_token pairs)
+pairs_tokens : (pairs : List Connection) → pairs_size pairs ≡ names_size (map connection_token pairs)
 pairs_tokens [] = refl
 pairs_tokens (pair ∷ pairs) = omega (arith, length-append pair.formal (61 ∷ pair.actual), pairs_tokens pairs)
 

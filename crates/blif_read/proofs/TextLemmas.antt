@@ -1,5 +1,5 @@
 -- A text has a library or a refusal, never both, and at most one library.
-use Rattle.blif_read.proofs.Common.{◌≡◌, ℕ, List, Some, None, Result, Ok, Err, refl, sym, ap, ◌∙◌, same_Some, none-some, subst, IfOk, MatchResult, BlifErr, LibraryValue, Denotes, OrMemory, refusal_of, read_fault, fault_of, text_read, arith, ◌+◌, ◌<◌, Bool, true, false, [], ◌∷◌, ◌++◌, length, drop, get_or, Option, is_some, append_assoc, option_map, drop_more, BadConnection, Keyword, Pair, ModelValue, StatementValue, has, connection_of, repeats_formal, with_formal, connections_fault, fault_by, line_fault, ModelRead, State, context, model_after, next, put_pair, pairs_of, inside_fault, place_some}
+use Rattle.blif_read.proofs.Common.{◌≡◌, ℕ, List, Some, None, Result, Ok, Err, refl, sym, ap, ◌∙◌, same_Some, none-some, subst, IfOk, MatchResult, BlifErr, LibraryValue, Denotes, OrMemory, refusal_of, read_fault, fault_of, text_read, arith, ◌+◌, ◌<◌, Bool, true, false, [], ◌∷◌, ◌++◌, length, drop, get_or, Option, is_some, append_assoc, option_map, drop_more, BadConnection, Keyword, Connection, ModelValue, StatementValue, has, connection_of, repeats_formal, with_formal, connections_fault, fault_by, line_fault, ModelRead, State, context, model_after, next, put_pair, pairs_of, inside_fault, place_some}
 use Rattle.std.specs.Result.{result_ok}
 use Rattle.blif_read.proofs.FaultLemmas.{read_no_fault, read_fault_is}
 use Rattle.blif_read.proofs.CompleteLemmas.{denotes_read}
@@ -56,7 +56,7 @@ refused number formals word words again = rw again refl
 accepted : (number : ℕ) (formals : List (List ℕ)) (word : List ℕ) (words : List (List ℕ)) → repeats_formal formals (connection_of word) ≡ false → connections_fault number formals (word ∷ words) ≡ connections_fault number (with_formal formals (connection_of word)) words
 accepted number formals word words new = rw new refl
 
-put_more : (pairs : List Pair) (o : Option Pair) (rest : List Pair) → pairs ++ put_pair o rest ≡ (pairs ++ put_pair o []) ++ rest
+put_more : (pairs : List Connection) (o : Option Connection) (rest : List Connection) → pairs ++ put_pair o rest ≡ (pairs ++ put_pair o []) ++ rest
 put_more pairs None rest = sym (append_assoc pairs [] rest)
 put_more pairs (Some pair) rest = sym (append_assoc pairs (pair ∷ []) rest)
 
@@ -69,7 +69,7 @@ pub word_refused : (number : ℕ) (words : List (List ℕ)) (i : ℕ) (word byte
     → OrMemory refusal_of (λ e. (repeats_formal formals (connection_of bytes) ≡ true) × (e ≡ BadConnection number)) e → OrMemory refusal_of (λ e. connections_fault number [] words ≡ Some e) e
 word_refused number words i word bytes formals e h is alike so_far said = grind (arith, drop_at_item, refused)
 
-pub word_read : (number : ℕ) (words : List (List ℕ)) (i : ℕ) (word bytes : List ℕ) (formals next : List (List ℕ)) (pairs made : List Pair)
+pub word_read : (number : ℕ) (words : List (List ℕ)) (i : ℕ) (word bytes : List ℕ) (formals next : List (List ℕ)) (pairs made : List Connection)
     → i < length words → word ≡ get_or words i word → bytes ≡ word → repeats_formal formals (connection_of bytes) ≡ false
     → next ≡ with_formal formals (connection_of bytes) → made ≡ pairs ++ put_pair (connection_of bytes) []
     → connections_fault number formals (drop i words) ≡ connections_fault number [] words → pairs ++ pairs_of (drop i words) ≡ pairs_of words

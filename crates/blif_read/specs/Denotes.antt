@@ -1,6 +1,6 @@
 -- What a text denotes: a relation between its logical lines, split before each `.model` line, and the models of a library.
 use Rattle.std.specs.Prelude.{◌≡◌, ◌⊎◌, ℕ, ◌<◌, true, List, [], ◌∷◌, ◌++◌, length, map, Ok}
-use Rattle.blif_read.specs.Words.{LineValue, lines_of, Keyword, Cover, Command, LatchValue, CoverValue, SubcktValue, formals, ModelValue, LibraryValue, Ports, input_ports, output_ports, clock_ports, ports_of, AreOnce, In, Pair}
+use Rattle.blif_read.specs.Words.{LineValue, lines_of, Keyword, Cover, Command, LatchValue, CoverValue, SubcktValue, formals, ModelValue, LibraryValue, Ports, input_ports, output_ports, clock_ports, ports_of, AreOnce, In, Connection}
 use Rattle.blif_read.specs.declared.keyword.Keyword.TheVariants as keyword
 use Rattle.netlist.specs.declared.command.Body.TheVariants.{Latch, Subckt}
 use Rattle.blif_read.specs.Statement.{StatementValue, statements}
@@ -8,11 +8,11 @@ use Rattle.blif_read.specs.Rows.{AreRows}
 use Rattle.blif_read.specs.Latches.{IsLatch}
 
 -- a connection as it is written: the formal, `=` (61), the actual
-abbrev pub connection_token : Pair → List ℕ
+abbrev pub connection_token : Connection → List ℕ
 connection_token pair = pair.formal ++ 61 ∷ pair.actual
 
 -- neither side is empty, and the formal has no `=`: so the token is split at its first one
-pub record IsConnection (pair : Pair) : Type 0 where
+pub record IsConnection (pair : Connection) : Type 0 where
   pub formal : 0 < length pair.formal
   pub first : ¬ (In pair.formal 61)
   pub actual : 0 < length pair.actual
@@ -20,7 +20,7 @@ pub record IsConnection (pair : Pair) : Type 0 where
 -- the words behind `.subckt`: the name of a model and connections, in which no formal stands twice
 pub record IsSubckt (words : List (List ℕ)) (subckt : SubcktValue) : Type 0 where
   pub words_are : words ≡ subckt.model ∷ map connection_token subckt.pairs
-  pub each : (pair : Pair) → In subckt.pairs pair → IsConnection pair
+  pub each : (pair : Connection) → In subckt.pairs pair → IsConnection pair
   pub once : AreOnce (formals subckt.pairs)
 
 -- the names that a statement adds to a list of ports

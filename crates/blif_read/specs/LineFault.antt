@@ -1,6 +1,6 @@
 -- The refusal of a line in its place: the first of the table's order.
 use Rattle.std.specs.Prelude.{ℕ, ◌+◌, ◌==◌, Bool, true, false, not, ◌||◌, if◌then◌else◌, List, [], ◌∷◌, ◌++◌, length, take, drop, codes, bytes_eq, Option, Some, None, position}
-use Rattle.blif_read.specs.Words.{BlifErr, NotCommand, Unsupported, OutsideModel, Arity, BadRow, MixedRows, BadLatch, LatchKind, DuplicateModel, DuplicatePort, BadConnection, Keyword, Model, Inputs, Outputs, Clock, Names, Latch, Subckt, End, Unknown, Plain, Pair}
+use Rattle.blif_read.specs.Words.{BlifErr, NotCommand, Unsupported, OutsideModel, Arity, BadRow, MixedRows, BadLatch, LatchKind, DuplicateModel, DuplicatePort, BadConnection, Keyword, Model, Inputs, Outputs, Clock, Names, Latch, Subckt, End, Unknown, Plain, Connection}
 pub use Rattle.std.specs.Option.{option_or as or_later}
 pub use Rattle.tl_text.specs.NameSets.{has_name as has}
 use Rattle.blif_read.specs.Statement.{StatementValue}
@@ -61,21 +61,21 @@ latch_fault number (input ∷ output ∷ kind ∷ control ∷ init ∷ []) = or_
 latch_fault number (input ∷ output ∷ kind ∷ control ∷ init ∷ next ∷ more) = Some (Arity number)
 
 -- a connection split at its first `=` (61); none without it or with an empty side
-abbrev pub split_at : List ℕ → Option ℕ → Option Pair
+abbrev pub split_at : List ℕ → Option ℕ → Option Connection
 split_at word None = None
 split_at word (Some place) =
     if (length (take place word) == 0) || (length (drop (place + 1) word) == 0) then None
     else Some (record { formal = take place word; actual = drop (place + 1) word })
 
-abbrev pub connection_of : List ℕ → Option Pair
+abbrev pub connection_of : List ℕ → Option Connection
 connection_of word = split_at word (position (λ b. b == 61) word)
 
 -- B11: no connection, or one with a formal that stood earlier in the line
-abbrev pub repeats_formal : List (List ℕ) → Option Pair → Bool
+abbrev pub repeats_formal : List (List ℕ) → Option Connection → Bool
 repeats_formal formals None = true
 repeats_formal formals (Some pair) = has formals pair.formal
 
-abbrev pub with_formal : List (List ℕ) → Option Pair → List (List ℕ)
+abbrev pub with_formal : List (List ℕ) → Option Connection → List (List ℕ)
 with_formal formals None = formals
 with_formal formals (Some pair) = formals ++ pair.formal ∷ []
 

@@ -2,7 +2,7 @@
 -- The proofs show that it gives what a text denotes, and its refusals; no reader of the contracts needs it.
 use Rattle.std.specs.Prelude.{ℕ, ◌-◌, ◌==◌, Bool, true, false, if◌then◌else◌, List, [], ◌∷◌, ◌++◌, length, take, codes, bytes_eq, Option, Some, None, is_some, Result, Ok, Err, slice_index_or}
 use Rattle.std.specs.Option.{option_map}
-use Rattle.blif_read.specs.Words.{LineValue, lines_of, TextErr, BlifErr, NoModel, OutsideModel, Keyword, Body, Cover, Command, LatchValue, Pair, CoverValue, SubcktValue, ModelValue, LibraryValue, Ports, input_ports, output_ports, clock_ports, ports_of}
+use Rattle.blif_read.specs.Words.{LineValue, lines_of, TextErr, BlifErr, NoModel, OutsideModel, Keyword, Body, Cover, Command, LatchValue, Connection, CoverValue, SubcktValue, ModelValue, LibraryValue, Ports, input_ports, output_ports, clock_ports, ports_of}
 use Rattle.blif_read.specs.declared.keyword.Keyword.TheVariants as keyword
 use Rattle.netlist.specs.declared.command.Body.TheVariants.{Latch, Subckt}
 use Rattle.blif_read.specs.Statement.{StatementValue, statements}
@@ -110,11 +110,11 @@ latch_of (input ∷ output ∷ init ∷ []) = record { input = input; output = o
 latch_of (input ∷ output ∷ kind ∷ control ∷ []) = record { input = input; output = output; control = control_of control; init = false }
 latch_of (input ∷ output ∷ kind ∷ control ∷ init ∷ more) = record { input = input; output = output; control = control_of control; init = init_of init }
 
-abbrev pub put_pair : Option Pair → List Pair → List Pair
+abbrev pub put_pair : Option Connection → List Connection → List Connection
 put_pair None pairs = pairs
 put_pair (Some pair) pairs = pair ∷ pairs
 
-abbrev pub pairs_of : List (List ℕ) → List Pair
+abbrev pub pairs_of : List (List ℕ) → List Connection
 pairs_of [] = []
 pairs_of (word ∷ words) = put_pair (connection_of word) (pairs_of words)
 

@@ -1,6 +1,6 @@
 -- How much a library holds: 1 for each model and command, and for each name 1 and its bytes. Rows don't count.
 use Rattle.std.specs.Prelude.{ℕ, ◌+◌, List, [], ◌∷◌, length, Option, Some, None}
-use Rattle.blif_read.specs.Words.{Body, Cover, Command, Pair, ModelValue, LibraryValue}
+use Rattle.blif_read.specs.Words.{Body, Cover, Command, Connection, ModelValue, LibraryValue}
 use Rattle.netlist.specs.declared.command.Body.TheVariants.{Latch, Subckt}
 
 abbrev pub name_size : List ℕ → ℕ
@@ -10,7 +10,7 @@ abbrev pub names_size : List (List ℕ) → ℕ
 names_size [] = 0
 names_size (name ∷ names) = name_size name + names_size names
 
-abbrev pub pairs_size : List Pair → ℕ
+abbrev pub pairs_size : List Connection → ℕ
 pairs_size [] = 0
 pairs_size (pair ∷ pairs) = name_size pair.formal + name_size pair.actual + pairs_size pairs
 

@@ -5,7 +5,7 @@ pub use Rattle.netlist.specs.declared.command.Body.{Body}
 pub use Rattle.netlist.specs.declared.command.Body.TheVariants.{Cover}
 pub use Rattle.netlist.specs.declared.command.Command.{Command}
 pub use Rattle.netlist.specs.declared.latch.Latch.{Latch as LatchValue}
-pub use Rattle.netlist.specs.declared.subckt.Pair.{Pair}
+pub use Rattle.netlist.specs.declared.subckt.Connection.{Connection}
 pub use Rattle.netlist.specs.SubcktValue.{formals}
 pub use Rattle.netlist.specs.CoverValue.{RowValue, matches}
 pub use Rattle.netlist.specs.LibraryValue.{Ports, ports_of}

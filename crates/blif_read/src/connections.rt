@@ -8,7 +8,7 @@ ghost use Rattle.tl_fault.specs.OrMemory.{OrMemory};
 ghost use Rattle.blif_read.specs.Reading.{put_pair, pairs_of, subckt_of};
 
 use crate::blif_err::BlifErr;
-use netlist::{Pair, Subckt};
+use netlist::{Connection, Subckt};
 use std::alloc::{AllocError, Global};
 use tl_text::{Name, NameIndex, TextKey};
 
@@ -20,7 +20,7 @@ fn sign(word: &[u8]) -> Option<usize>
 }
 
 // The connection that a word is, split at a place.
-fn split(alloc: Global, word: &[u8], place: usize) -> Result<Option<Pair>, AllocError>
+fn split(alloc: Global, word: &[u8], place: usize) -> Result<Option<Connection>, AllocError>
     requires { place < length word.now }
     ensures { IfOk result (λ pair. pair ≡ split_at word.now (Some place)) }
 {
@@ -34,11 +34,11 @@ fn split(alloc: Global, word: &[u8], place: usize) -> Result<Option<Pair>, Alloc
     }
     let formal = Name::make(alloc, formal)?;
     let actual = Name::make(alloc, actual)?;
-    Ok(Some(Pair { formal, actual }))
+    Ok(Some(Connection { formal, actual }))
 }
 
 // The connection that a word is.
-fn connection(alloc: Global, word: &[u8]) -> Result<Option<Pair>, AllocError>
+fn connection(alloc: Global, word: &[u8]) -> Result<Option<Connection>, AllocError>
     ensures { IfOk result (λ pair. pair ≡ connection_of word.now) }
 {
     match sign(word) {
@@ -55,7 +55,7 @@ fn add_pair(
     alloc: Global,
     number: u32,
     formals: &mut NameIndex,
-    pairs: &mut Vec<Pair>,
+    pairs: &mut Vec<Connection>,
     word: &[u8],
 ) -> Result<(), BlifErr>
     ensures { MatchResult result
@@ -76,7 +76,12 @@ fn add_pair(
 }
 
 // The connections that words are.
-fn pairs(alloc: Global, key: TextKey, number: u32, words: &[Name]) -> Result<Vec<Pair>, BlifErr>
+fn pairs(
+    alloc: Global,
+    key: TextKey,
+    number: u32,
+    words: &[Name],
+) -> Result<Vec<Connection>, BlifErr>
     ensures { ReadsUnless (connections_fault number [] words.now) (λ pairs. pairs.items ≡ pairs_of words.now) result }
 {
     let mut formals = NameIndex::new(alloc, key);

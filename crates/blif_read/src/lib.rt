@@ -33,5 +33,5 @@ mod row_line;
 mod statement;
 
 pub use blif_err::BlifErr;
-pub use netlist::{BlifModel, Body, Cell, Command, Cover, Latch, Library, Pair, Row, Subckt};
+pub use netlist::{BlifModel, Body, Cell, Command, Connection, Cover, Latch, Library, Row, Subckt};
 pub use read_text::read;

@@ -4,7 +4,7 @@ use Rattle.netlist.specs.Cycle.{Fits}
 use Rattle.machine.specs.Machine.{GivesCycle, GivesRun}
 use Rattle.netlist.specs.Runs.{AreLatches, AreInits, inits_of, state_of, next_states, IsCycle, library_machine}
 use Rattle.netlist.proofs.RunLemmas.{cycle_there, run_there}
-use Rattle.netlist.specs.declared.subckt.Pair.{Pair}
+use Rattle.netlist.specs.declared.subckt.Connection.{Connection}
 
 -- no instance is placed
 covers_alone : (line : ℕ) (cs : List CoverValue) → subckts_of (cover_commands line cs) ≡ []
@@ -99,7 +99,7 @@ latch_at_top n i l e =
     let there = slice_get-map (λ (k : LatchValue). Latch (read_latch k)) n.latches i ∙ ap (option_map (λ (k : LatchValue). Latch (read_latch k))) e in
     record { model = model_of n; at = refl; is = body_is n i ∙ get_left (map (λ (k : LatchValue). Latch (read_latch k)) n.latches) (map (λ (d : CoverValue). Cover d) n.covers) i (Latch (read_latch l)) there }
 
-pub no_connection : (n : PlainNetlist) (path : Path) (k : ℕ) (pair : Pair) → ConnectionAt (library_of n) path k pair → ⊥
+pub no_connection : (n : PlainNetlist) (path : Path) (k : ℕ) (pair : Connection) → ConnectionAt (library_of n) path k pair → ⊥
 no_connection n path k pair at = grind (arith, only_top, none-some, no_subckts)
 
 -- a name is the control of a latch

@@ -26,7 +26,7 @@ use lut_sim::Shape;
 use netlist::{Flat, OutPort};
 use param_list::Params;
 use tl_io::{Failed, Sink};
-use tl_piece::{Piece, Writer};
+use tl_piece::{WriteBuffer, Writer};
 use tl_text::Name;
 
 // Adds the names of the regular inputs, each after a blank.
@@ -234,7 +234,7 @@ pub fn template<O: Sink>(
     ensures ports { (library : LibraryValue) → IsSound library → HasCleanNames library → IsFlat library flat.now → HasPorts flat.now }
 {
     let names = names_of(flat, params, regular);
-    let mut piece = Piece::new();
+    let mut piece = WriteBuffer::new();
     let mut writer = Writer::over(out, &mut piece);
     add_template(&names, flat, template, &mut writer);
     writer.finish()
@@ -268,7 +268,7 @@ pub fn specialised<O: Sink>(
     ensures ports { (library : LibraryValue) → IsSound library → HasCleanNames library → IsFlat library flat.now → HasPorts flat.now }
 {
     let names = names_of(flat, params, regular);
-    let mut piece = Piece::new();
+    let mut piece = WriteBuffer::new();
     let mut writer = Writer::over(out, &mut piece);
     add_specialised(&names, flat, template, config, &mut writer);
     writer.finish()

@@ -30,7 +30,7 @@ pub use Rattle.tl_piece.specs.Added.{IsAdded}
 pub use Rattle.tl_text.proofs.TextOfLemmas.{text_settled, lines_fault, text_read, text_refused}
 pub use Rattle.tl_text.specs.LineValue.{WordsLine, words_line, LineValue, token_bytes}
 pub use Rattle.tl_text.specs.declared.token.Token.{Token}
-pub use Rattle.cert_check.specs.CertText.{says_depth, says_claim, SaidLine, path_said, steps_said, Saying, says_path, small, number_of, in_front, numbers_of, depth_with, claim_with, path_with, saying_by, said_of, step_said, AreSaid, AreLinesOf, IsCertText, fits_at, first_misfit, IsMalformed, malformed_line, cert_err, HasOneReading, IsCertTextFault, IsMisfit, saying_value}
+pub use Rattle.cert_check.specs.CertText.{says_depth, says_claim, SaidLine, path_said, steps_said, CertSaying, says_path, small, number_of, in_front, numbers_of, depth_with, claim_with, path_with, saying_by, said_of, step_said, AreSaid, AreLinesOf, IsCertText, fits_at, first_misfit, IsMalformed, malformed_line, cert_err, HasOneReading, IsCertTextFault, IsMisfit, saying_value}
 pub use Rattle.cert_check.specs.CertificateValue.{PathValue, StepValue, CertificateValue}
 pub use Rattle.cert_check.specs.Faults.{MayStand, IsFault, First, IsAbove, StepFault, StepsFault, DepthFault, HasOneVerdict, NodesFault, PathsFault, IsNext, AreInTurn}
 pub use Rattle.cert_check.specs.LowerBound.{IsLowerBound, AreLowerBounds}

@@ -1,5 +1,5 @@
 -- The lines of a certificate's text are read one by one: the steps of the lines so far, and the first line that doesn't fit.
-use Rattle.cert_check.proofs.Common.{◌≡◌, ℕ, suc, ◌+◌, ◌<◌, ◌≤◌, true, false, eqb, List, [], ◌∷◌, ◌++◌, length, map, take, drop, get_or, Some, None, Result, Ok, Err, refl, sym, ap, ◌∙◌, subst, arith, append_assoc, append-nil, slice_get, MatchResult, option_map, cond-true, cond-false, le-leb, take_all, map-append, flat_map-append, slice_get-map, slice_get_read, slice_get_within, drop_get, OrMemory, LineValue, WordsLine, words_line, PathValue, StepValue, Saying, says_depth, says_path, said_of, SaidLine, path_said, steps_said, AreSaid, AreLinesOf, fits_at, first_misfit, IsMalformed, IsMisfit, refusal_of, CertErr, Malformed, take_get, Option, take-append-drop, token_bytes, Token, number_of, in_front, numbers_of, min, length-take, rules}
+use Rattle.cert_check.proofs.Common.{◌≡◌, ℕ, suc, ◌+◌, ◌<◌, ◌≤◌, true, false, eqb, List, [], ◌∷◌, ◌++◌, length, map, take, drop, get_or, Some, None, Result, Ok, Err, refl, sym, ap, ◌∙◌, subst, arith, append_assoc, append-nil, slice_get, MatchResult, option_map, cond-true, cond-false, le-leb, take_all, map-append, flat_map-append, slice_get-map, slice_get_read, slice_get_within, drop_get, OrMemory, LineValue, WordsLine, words_line, PathValue, StepValue, CertSaying, says_depth, says_path, said_of, SaidLine, path_said, steps_said, AreSaid, AreLinesOf, fits_at, first_misfit, IsMalformed, IsMisfit, refusal_of, CertErr, Malformed, take_get, Option, take-append-drop, token_bytes, Token, number_of, in_front, numbers_of, min, length-take, rules}
 
 -- one more line
 said_push : (lines : List WordsLine) (others : List SaidLine) (line : WordsLine) (said : SaidLine) → AreSaid lines others → line.number ≡ said.number → said_of line.words ≡ Some said.saying → AreSaid (lines ++ line ∷ []) (others ++ said ∷ [])
@@ -39,7 +39,7 @@ module _ (lines : List WordsLine) (i : ℕ) (steps : List StepValue) (read : Are
     pub nothing_said : (e : CertErr) → said_of line.words ≡ None → e ≡ Malformed line.number → IsMisfit 1 lines e
     nothing_said e none is = stops e (ap (fits_at (1 + i)) none) is
 
-    module _ (saying : Saying) (says : said_of line.words ≡ Some saying) where
+    module _ (saying : CertSaying) (says : said_of line.words ≡ Some saying) where
       pub wrong_place : (e : CertErr) → fits_at (1 + length (steps_said steps)) (Some saying) ≡ false → e ≡ Malformed line.number → IsMisfit 1 lines e
       wrong_place e misfit is = stops e (ap (fits_at (1 + i)) says ∙ ap (λ n. fits_at n (Some saying)) (sym place_is) ∙ misfit) is
 
@@ -67,7 +67,7 @@ path_fits [] nodes l = absurd (omega arith)
 path_fits (s ∷ ss) nodes l = le-leb 2 (1 + length (steps_said (s ∷ ss))) (omega arith)
 
 -- what is said of a path that was added, or not
-pub path_added : (result : Result Unit CertErr) (old new : List StepValue) (line : ℕ) (nodes : List ℕ) (saying : Saying) → saying ≡ says_path nodes
+pub path_added : (result : Result Unit CertErr) (old new : List StepValue) (line : ℕ) (nodes : List ℕ) (saying : CertSaying) → saying ≡ says_path nodes
     → MatchResult result (λ _. (steps_said new ≡ steps_said old ++ path_said (record { line = line; nodes = nodes }) ∷ []) × (0 < length old)) (OrMemory refusal_of (λ e. (old ≡ []) × (e ≡ Malformed line)))
     → MatchResult result (λ _. (steps_said new ≡ steps_said old ++ record { number = line; saying = saying } ∷ []) × (fits_at (1 + length (steps_said old)) (Some saying) ≡ true))
     (OrMemory refusal_of (λ e. (fits_at (1 + length (steps_said old)) (Some saying) ≡ false) × (e ≡ Malformed line)))

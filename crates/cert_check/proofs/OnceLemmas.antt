@@ -1,5 +1,5 @@
 -- A text is that of one certificate at most, or has one refusal at most, and never both.
-use Rattle.cert_check.proofs.Common.{◌≡◌, ℕ, suc, List, [], ◌∷◌, ◌++◌, map, Some, None, refl, sym, ap, ◌∙◌, arith, cond-true, le-leb, none-some, same_Some, WordsLine, text_settled, PathValue, StepValue, CertificateValue, Saying, says_depth, says_claim, says_path, said_of, SaidLine, path_said, steps_said, AreSaid, AreLinesOf, fits_at, first_misfit, malformed_line, IsMalformed, cert_err, HasOneReading, rules}
+use Rattle.cert_check.proofs.Common.{◌≡◌, ℕ, suc, List, [], ◌∷◌, ◌++◌, map, Some, None, refl, sym, ap, ◌∙◌, arith, cond-true, le-leb, none-some, same_Some, WordsLine, text_settled, PathValue, StepValue, CertificateValue, CertSaying, says_depth, says_claim, says_path, said_of, SaidLine, path_said, steps_said, AreSaid, AreLinesOf, fits_at, first_misfit, malformed_line, IsMalformed, cert_err, HasOneReading, rules}
 use Rattle.tl_fault.specs.Settled.{IsSettled}
 
 -- lines say one thing
@@ -18,7 +18,7 @@ record Unsaid : Type 0 where
   paths : List PathValue
   steps : List StepValue
 
-unsay_one : ℕ → Saying → Unsaid → Unsaid
+unsay_one : ℕ → CertSaying → Unsaid → Unsaid
 unsay_one n (says_depth d) u = u
 unsay_one n (says_claim node claim) u = record { paths = []; steps = record { line = n; node = node; claim = claim; paths = u.paths } ∷ u.steps }
 unsay_one n (says_path nodes) u = record { paths = record { line = n; nodes = nodes } ∷ u.paths; steps = u.steps }

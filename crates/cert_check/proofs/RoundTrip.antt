@@ -1,6 +1,6 @@
 -- What is read can be written: claims are 1 at least, paths have two nodes at least, and numbers fit a word of 32 bits. What is written
 -- as the text of a certificate is read back as the same certificate, but for the numbers of its lines.
-use Rattle.cert_check.proofs.Common.{◌≡◌, ℕ, suc, ◌+◌, ◌^◌, ◌<◌, ◌≤◌, eqb, leb, List, [], ◌∷◌, ◌++◌, length, map, Some, None, codes, decimal, refl, sym, ap, ◌∙◌, subst, inl, inr, arith, option_and_then, cond-true, cond-false, ne_eqb, le-leb, map-append, length-map, In, In-append, In-left, In-right, from_map, WordsLine, PathValue, StepValue, CertificateValue, Saying, says_depth, says_claim, says_path, small, number_of, in_front, numbers_of, saying_by, path_with, said_of, SaidLine, path_said, steps_said, AreSaid, AreLinesOf, saying_words, cert_lines, cert_text, bare_path, bare_step, IsWritablePath, IsWritableStep, IsWritable, ReadsBack, Bool, true, false, cond, Option, bytes_eq, eqb-false, none-some, same_Some, some_else, In-map, words_line, depth_with, claim_with, step_said, IsCertText}
+use Rattle.cert_check.proofs.Common.{◌≡◌, ℕ, suc, ◌+◌, ◌^◌, ◌<◌, ◌≤◌, eqb, leb, List, [], ◌∷◌, ◌++◌, length, map, Some, None, codes, decimal, refl, sym, ap, ◌∙◌, subst, inl, inr, arith, option_and_then, cond-true, cond-false, ne_eqb, le-leb, map-append, length-map, In, In-append, In-left, In-right, from_map, WordsLine, PathValue, StepValue, CertificateValue, CertSaying, says_depth, says_claim, says_path, small, number_of, in_front, numbers_of, saying_by, path_with, said_of, SaidLine, path_said, steps_said, AreSaid, AreLinesOf, saying_words, cert_lines, cert_text, bare_path, bare_step, IsWritablePath, IsWritableStep, IsWritable, ReadsBack, Bool, true, false, cond, Option, bytes_eq, eqb-false, none-some, same_Some, some_else, In-map, words_line, depth_with, claim_with, step_said, IsCertText}
 use Rattle.tl_text.specs.Clean.{IsClean}
 use Rattle.tl_text.proofs.WordLemmas.{decimal_back, decimal_clean, word_clean}
 use Rattle.tl_text.proofs.WrittenLineLemmas.{IsCleanLine, AreCleanLines, numbered, ReadsAgain, reads_again, numbered-append}
@@ -24,22 +24,22 @@ numbers_small [] ns e = subst AreSmall (same_Some [] ns e) (λ m i. absurd i)
 numbers_small (w ∷ ws) ns e = front_small (number_of w) (numbers_of ws) ns (λ n is. small_below (decimal_of w) n is) (λ ms is. numbers_small ws ms is) e
 
 -- what the forms say
-abbrev pub IsReadable : Saying → Type 0
+abbrev pub IsReadable : CertSaying → Type 0
 IsReadable (says_depth d) = d < 2 ^ 32
 IsReadable (says_claim n h) = (n < 2 ^ 32) × (h < 2 ^ 32) × (1 ≤ h)
 IsReadable (says_path ns) = (2 ≤ length ns) × AreSmall ns
 
-depth_form : (ns : List ℕ) (s : Saying) → AreSmall ns → depth_with ns ≡ Some s → IsReadable s
+depth_form : (ns : List ℕ) (s : CertSaying) → AreSmall ns → depth_with ns ≡ Some s → IsReadable s
 depth_form (d ∷ []) s h e = subst IsReadable (same_Some (says_depth d) s e) (h d (inl refl))
 depth_form ns s h e = absurd (none-some s e)
 
-claim_form : (ns : List ℕ) (s : Saying) → AreSmall ns → claim_with ns ≡ Some s → IsReadable s
+claim_form : (ns : List ℕ) (s : CertSaying) → AreSmall ns → claim_with ns ≡ Some s → IsReadable s
 claim_form (n ∷ c ∷ []) s h e =
     let r = some_else (eqb c 0) (Some (says_claim n c)) s e in
     subst IsReadable (same_Some (says_claim n c) s r.1) (h n (inl refl), h c (inr (inl refl)), (let l : 1 ≤ c = omega (arith, eqb-false c 0 r.0) in l))
 claim_form ns s h e = absurd (none-some s e)
 
-path_form : (ns : List ℕ) (s : Saying) → AreSmall ns → path_with ns ≡ Some s → IsReadable s
+path_form : (ns : List ℕ) (s : CertSaying) → AreSmall ns → path_with ns ≡ Some s → IsReadable s
 path_form (m ∷ n ∷ ns) s h e = subst IsReadable (same_Some (says_path (m ∷ n ∷ ns)) s e) ((let l : 2 ≤ length (m ∷ n ∷ ns) = omega arith in l), h)
 path_form ns s h e = absurd (none-some s e)
 
@@ -48,14 +48,14 @@ of_choice : {A : Type 0} (b : Bool) (x y : Option A) (v : A) (P : Type 0) → (x
 of_choice true x y v P f g e = f e
 of_choice false x y v P f g e = g e
 
-form : (word ns : List ℕ) (s : Saying) → AreSmall ns → saying_by word ns ≡ Some s → IsReadable s
+form : (word ns : List ℕ) (s : CertSaying) → AreSmall ns → saying_by word ns ≡ Some s → IsReadable s
 form word ns s h e = grind (arith, of_choice, bytes_eq, codes, cond, depth_form, claim_form, path_form, none-some)
 
-of_numbers : (word : List ℕ) (o : Option (List ℕ)) (s : Saying) → ((ns : List ℕ) → o ≡ Some ns → AreSmall ns) → option_and_then (saying_by word) o ≡ Some s → IsReadable s
+of_numbers : (word : List ℕ) (o : Option (List ℕ)) (s : CertSaying) → ((ns : List ℕ) → o ≡ Some ns → AreSmall ns) → option_and_then (saying_by word) o ≡ Some s → IsReadable s
 of_numbers word None s h e = absurd (none-some s e)
 of_numbers word (Some ns) s h e = form word ns s (h ns refl) e
 
-pub said_readable : (words : List (List ℕ)) (s : Saying) → said_of words ≡ Some s → IsReadable s
+pub said_readable : (words : List (List ℕ)) (s : CertSaying) → said_of words ≡ Some s → IsReadable s
 said_readable [] s e = absurd (none-some s e)
 said_readable (w ∷ ws) s e = of_numbers w (numbers_of ws) s (numbers_small ws) e
 
@@ -104,7 +104,7 @@ path_back : (ns : List ℕ) → 2 ≤ length ns → path_with ns ≡ Some (says_
 path_back (m ∷ n ∷ ns) l = refl
 path_back ns l = absurd (omega arith)
 
-says_back : (s : Saying) → IsReadable s → said_of (saying_words s) ≡ Some s
+says_back : (s : CertSaying) → IsReadable s → said_of (saying_words s) ≡ Some s
 says_back (says_depth d) h = ap (λ o. option_and_then (saying_by (codes "depth")) (in_front o (Some []))) (number_back d h)
 says_back (says_claim n h) f = grind (arith, codes, decimal, number_back, cond-false, eqb, ne_eqb)
 says_back (says_path ns) f = ap (option_and_then (saying_by (codes "path"))) (numbers_back ns f.1) ∙ path_back ns f.0
@@ -119,7 +119,7 @@ words_clean first ns clean h = λ w i. elim i [
 small_more : (n : ℕ) (ns : List ℕ) → n < 2 ^ 32 → ((m : ℕ) → In ns m → m < 2 ^ 32) → (m : ℕ) → In (n ∷ ns) m → m < 2 ^ 32
 small_more n ns l h m i = elim i [ inl e ↦ subst (λ x. x < 2 ^ 32) (sym e) l | inr j ↦ h m j ]
 
-clean_line : (s : Saying) → IsReadable s → IsCleanLine (saying_words s)
+clean_line : (s : CertSaying) → IsReadable s → IsCleanLine (saying_words s)
 clean_line (says_depth d) f = words_clean (codes "depth") (d ∷ []) (word_clean (codes "depth") (omega arith) refl) (small_more d [] f (λ m i. absurd i))
 clean_line (says_claim n h) f = words_clean (codes "claim") (n ∷ h ∷ []) (word_clean (codes "claim") (omega arith) refl) (small_more n (h ∷ []) f.0 (small_more h [] f.1 (λ m i. absurd i)))
 clean_line (says_path ns) f = words_clean (codes "path") ns (word_clean (codes "path") (omega arith) refl) f.1

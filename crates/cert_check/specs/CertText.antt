@@ -10,15 +10,15 @@ use Rattle.tl_text.specs.declared.text_err.TextErr.{TextErr}
 use Rattle.cert_check.specs.CertificateValue.{PathValue, StepValue, CertificateValue}
 use Rattle.cert_check.specs.declared.cert_err.CertErr.{CertErr}
 use Rattle.cert_check.specs.declared.cert_err.CertErr.TheVariants.{BadByte, TrailingSlash, Malformed, Memory}
-use Rattle.cert_check.specs.declared.saying.Saying.{Saying as Read}
+use Rattle.cert_check.specs.declared.saying.CertSaying.{CertSaying as Read}
 use Rattle.tl_text.specs.declared.text_err.TextErr.TheVariants as text_err
-use Rattle.cert_check.specs.declared.saying.Saying.TheVariants as read
+use Rattle.cert_check.specs.declared.saying.CertSaying.TheVariants as read
 
 -- what a line says: the depth, the claim of a node, or the nodes of a path
-pub data Saying : Type 0 where
-  says_depth : ℕ → Saying
-  says_claim : ℕ → ℕ → Saying
-  says_path : List ℕ → Saying
+pub data CertSaying : Type 0 where
+  says_depth : ℕ → CertSaying
+  says_claim : ℕ → ℕ → CertSaying
+  says_path : List ℕ → CertSaying
 
 -- a decimal number below 2^32
 abbrev pub small : ℕ → Option ℕ
@@ -38,37 +38,37 @@ numbers_of [] = Some []
 numbers_of (word ∷ words) = in_front (number_of word) (numbers_of words)
 
 -- the three forms: `depth D`; `claim NODE H`, H at least 1; `path` and two or more nodes
-abbrev pub depth_with : List ℕ → Option Saying
+abbrev pub depth_with : List ℕ → Option CertSaying
 depth_with [] = None
 depth_with (d ∷ []) = Some (says_depth d)
 depth_with (d ∷ n ∷ ns) = None
 
-abbrev pub claim_with : List ℕ → Option Saying
+abbrev pub claim_with : List ℕ → Option CertSaying
 claim_with [] = None
 claim_with (n ∷ []) = None
 claim_with (n ∷ h ∷ []) = if h == 0 then None else Some (says_claim n h)
 claim_with (n ∷ h ∷ m ∷ ms) = None
 
-abbrev pub path_with : List ℕ → Option Saying
+abbrev pub path_with : List ℕ → Option CertSaying
 path_with [] = None
 path_with (m ∷ []) = None
 path_with (m ∷ n ∷ ns) = Some (says_path (m ∷ n ∷ ns))
 
-abbrev pub saying_by : List ℕ → List ℕ → Option Saying
+abbrev pub saying_by : List ℕ → List ℕ → Option CertSaying
 saying_by word numbers =
     if bytes_eq word (codes "depth") then depth_with numbers
     else if bytes_eq word (codes "claim") then claim_with numbers
     else if bytes_eq word (codes "path") then path_with numbers
     else None
 
-abbrev pub said_of : List (List ℕ) → Option Saying
+abbrev pub said_of : List (List ℕ) → Option CertSaying
 said_of [] = None
 said_of (word ∷ words) = option_and_then (saying_by word) (numbers_of words)
 
 -- what a line with this number says
 pub record SaidLine : Type 0 where
   pub number : ℕ
-  pub saying : Saying
+  pub saying : CertSaying
 
 -- the lines of steps
 abbrev pub path_said : PathValue → SaidLine
@@ -97,7 +97,7 @@ abbrev pub IsCertText : List ℕ → CertificateValue → Type 0
 IsCertText = IsTextOf AreLinesOf
 
 -- may a line that says this stand at a place: the depth comes first, then a claim, and then claims and paths
-abbrev pub fits_at : ℕ → Option Saying → Bool
+abbrev pub fits_at : ℕ → Option CertSaying → Bool
 fits_at place None = false
 fits_at place (Some (says_depth d)) = place == 0
 fits_at place (Some (says_claim n h)) = nat_le 1 place
@@ -134,7 +134,7 @@ abbrev pub HasOneReading : List ℕ → Type 0
 HasOneReading text = IsSettled (IsCertText text) (IsCertTextFault text)
 
 -- a saying with a plain list in the vector's place
-abbrev pub saying_value : Read → Saying
+abbrev pub saying_value : Read → CertSaying
 saying_value (read.Depth d) = says_depth d
 saying_value (read.Claim n h) = says_claim n h
 saying_value (read.Path ns) = says_path ns.items

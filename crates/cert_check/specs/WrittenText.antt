@@ -4,10 +4,10 @@ use Rattle.std.specs.List.{flat_map}
 use Rattle.list_laws.specs.Members.{In}
 pub use Rattle.tl_text.specs.WrittenText.{words_text, line_text}
 use Rattle.cert_check.specs.CertificateValue.{PathValue, StepValue, CertificateValue}
-use Rattle.cert_check.specs.CertText.{Saying, says_depth, says_claim, says_path, SaidLine, steps_said, IsCertText}
+use Rattle.cert_check.specs.CertText.{CertSaying, says_depth, says_claim, says_path, SaidLine, steps_said, IsCertText}
 
 -- the words that say it
-abbrev pub saying_words : Saying → List (List ℕ)
+abbrev pub saying_words : CertSaying → List (List ℕ)
 saying_words (says_depth d) = codes "depth" ∷ decimal d ∷ []
 saying_words (says_claim n h) = codes "claim" ∷ decimal n ∷ decimal h ∷ []
 saying_words (says_path ns) = codes "path" ∷ map decimal ns

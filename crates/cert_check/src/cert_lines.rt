@@ -8,7 +8,7 @@ ghost use Rattle.cert_check.specs.declared.cert_err.CertErr.TheVariants.{Malform
 
 use crate::cert_err::CertErr;
 use crate::certificate::{Certificate, NodePath, Step};
-use crate::saying::{Saying, read_saying};
+use crate::saying::{CertSaying, read_saying};
 use std::alloc::Global;
 use tl_text::Line;
 
@@ -31,7 +31,7 @@ fn add_saying(
     alloc: Global,
     steps: &mut Vec<Step>,
     line: u32,
-    saying: Saying,
+    saying: CertSaying,
 ) -> Result<(), CertErr>
     ensures { MatchResult result
         (λ _. (steps_said steps.new.items ≡ steps_said steps.old.items ++ record { number = line; saying = saying_value saying } ∷ [])
@@ -39,8 +39,8 @@ fn add_saying(
         (OrMemory refusal_of (λ e. (fits_at (1 + length (steps_said steps.old.items)) (Some (saying_value saying)) ≡ false) × (e ≡ Malformed line))) }
 {
     match saying {
-        Saying::Depth(_) => Err(CertErr::Malformed(line)),
-        Saying::Claim(node, claim) => {
+        CertSaying::Depth(_) => Err(CertErr::Malformed(line)),
+        CertSaying::Claim(node, claim) => {
             steps.push(Step {
                 line,
                 node,
@@ -49,7 +49,7 @@ fn add_saying(
             })?;
             Ok(())
         }
-        Saying::Path(nodes) => add_path(steps, NodePath { line, nodes }),
+        CertSaying::Path(nodes) => add_path(steps, NodePath { line, nodes }),
     }
 }
 
@@ -75,7 +75,7 @@ fn read_depth(alloc: Global, text: &[u8], line: &Line) -> Result<u32, CertErr>
         (OrMemory refusal_of (λ e. (fits_at 0 (said_of (words_line text.now line.now).words) ≡ false) × (e ≡ Malformed line.now.number))) }
 {
     match read_saying(alloc, text, line)? {
-        Saying::Depth(depth) => Ok(depth),
+        CertSaying::Depth(depth) => Ok(depth),
         _ => Err(CertErr::Malformed(line.number)),
     }
 }

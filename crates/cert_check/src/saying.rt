@@ -15,7 +15,7 @@ use tl_text::{Line, Token, decimal};
 
 /// The content of a line.
 #[derive(Debug, Drop)]
-pub enum Saying {
+pub enum CertSaying {
     /// The depth of the certificate.
     Depth(u32),
     /// The claim for a node: the node's index and the depth.
@@ -58,17 +58,17 @@ fn read_numbers(
 }
 
 // A depth: one number.
-fn depth(numbers: &[u32]) -> Option<Saying>
+fn depth(numbers: &[u32]) -> Option<CertSaying>
     ensures { option_map saying_value result ≡ depth_with numbers.now }
 {
     if numbers.len() != 1 {
         return None;
     }
-    Some(Saying::Depth(numbers[0]))
+    Some(CertSaying::Depth(numbers[0]))
 }
 
 // A claim: two numbers, the second one at least 1.
-fn claim(numbers: &[u32]) -> Option<Saying>
+fn claim(numbers: &[u32]) -> Option<CertSaying>
     ensures { option_map saying_value result ≡ claim_with numbers.now }
 {
     if numbers.len() != 2 {
@@ -77,21 +77,21 @@ fn claim(numbers: &[u32]) -> Option<Saying>
     if numbers[1] == 0 {
         return None;
     }
-    Some(Saying::Claim(numbers[0], numbers[1]))
+    Some(CertSaying::Claim(numbers[0], numbers[1]))
 }
 
 // A path: two numbers or more.
-fn path(numbers: Vec<u32>) -> Option<Saying>
+fn path(numbers: Vec<u32>) -> Option<CertSaying>
     ensures { option_map saying_value result ≡ path_with numbers.items }
 {
     if numbers.len() < 2 {
         return None;
     }
-    Some(Saying::Path(numbers))
+    Some(CertSaying::Path(numbers))
 }
 
 // The content of a line with this first word and the numbers after it.
-fn saying_of(word: &[u8], numbers: Vec<u32>) -> Option<Saying>
+fn saying_of(word: &[u8], numbers: Vec<u32>) -> Option<CertSaying>
     ensures { option_map saying_value result ≡ saying_by word.now numbers.items }
 {
     if word == b"depth".as_slice() {
@@ -110,7 +110,7 @@ fn saying_of(word: &[u8], numbers: Vec<u32>) -> Option<Saying>
 ///
 /// # Errors
 /// C1 if the line has none of the three forms; `Memory` if memory runs out.
-pub(crate) fn read_saying(alloc: Global, text: &[u8], line: &Line) -> Result<Saying, CertErr>
+pub(crate) fn read_saying(alloc: Global, text: &[u8], line: &Line) -> Result<CertSaying, CertErr>
     requires { IsLineIn text.now line.now }
     ensures { MatchResult result
         (λ saying. said_of (words_line text.now line.now).words ≡ Some (saying_value saying))

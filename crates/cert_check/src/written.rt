@@ -7,7 +7,7 @@ ghost use Rattle.cert_check.specs.WrittenText.{saying_words, line_text, cert_tex
 
 use crate::certificate::{Certificate, NodePath, Step};
 use tl_io::{Failed, Sink};
-use tl_piece::{Piece, Writer};
+use tl_piece::{WriteBuffer, Writer};
 
 // Adds a number after a blank.
 fn add_number<O: Sink>(number: u32, writer: &mut Writer<'_, O>)
@@ -99,7 +99,7 @@ pub fn put_cert<O: Sink>(cert: &Certificate, out: &mut O) -> Result<(), Failed>
     // The text is read as the same certificate if the claims are at least 1 and the paths have at least two nodes.
     ensures reads_back { IsWritable cert.now → ReadsBack (cert_text cert.now) cert.now }
 {
-    let mut piece = Piece::new();
+    let mut piece = WriteBuffer::new();
     let mut writer = Writer::over(out, &mut piece);
     add_cert(cert, &mut writer);
     writer.finish()

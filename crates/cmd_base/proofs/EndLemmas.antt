@@ -3,7 +3,7 @@ use Rattle.cmd_base.proofs.Common.{◌≡◌, ℕ, ◌≤◌, false, take, List,
 use Rattle.tl_fault.specs.RefusalValue.{RefusalValue}
 use Rattle.tl_io.specs.Port.{PortSeen}
 use Rattle.tl_io.specs.declared.told_name.TheConstants.{NAME_ROOM}
-use Rattle.cmd_base.specs.Walk.{Reading, Walk, InFiles, IsTooLongAt, IsRefusedAt, IsFaultAt, Explains, Ends}
+use Rattle.cmd_base.specs.Walk.{FileReading, CommandWalk, InFiles, IsTooLongAt, IsRefusedAt, IsFaultAt, Explains, Ends}
 use Rattle.cmd_base.specs.Refusals.{too_long}
 use Rattle.cmd_base.specs.declared.outcome.File.{File}
 use Rattle.cmd_base.specs.declared.outcome.Outcome.{Outcome}
@@ -14,7 +14,7 @@ pub Rose_from : (first mid last : ℕ) → first ≤ mid → Rose mid last → R
 Rose_from first mid last h r = omega arith
 
 -- What explains an outcome from a later state of the shelf does from an earlier one.
-module _ (reading : Reading) (old mid new : ShelfSeen) (keeps : KeepsFiles old mid) where
+module _ (reading : FileReading) (old mid new : ShelfSeen) (keeps : KeepsFiles old mid) where
   here : (files : Files) → reading.HasFiles old.files files → reading.HasFiles mid.files files
   here files has = subst (λ told. reading.HasFiles told files) (sym keeps.files) has
 
@@ -56,7 +56,7 @@ module _ {old new : ShelfSeen} (keeps : KeepsFiles old new) (out : SinkSeen) (po
       ap (λ told. let w : Outside = record (outside new out ports) { files = told } in w) keeps.files ∙ ap (λ n. let w : Outside = record (outside old out ports) { file_faults = n } in w) keeps.write_faults
 
 -- A job that was not begun leaves what is outside as it was.
-module _ (walk : Walk) (old new : ShelfSeen) (before after : Outside) (same : after ≡ before) (not_writing : walk.WritesFiles → new.is_writing ≡ false) where
+module _ (walk : CommandWalk) (old new : ShelfSeen) (before after : Outside) (same : after ≡ before) (not_writing : walk.WritesFiles → new.is_writing ≡ false) where
   pub explained_ends : (o : Outcome) → Explains walk.reading old new o → Ends walk old new before after o
   explained_ends (outcome.TooLong f) h = (h, same)
   explained_ends (outcome.Refused f r) h = (h, same)
@@ -65,7 +65,7 @@ module _ (walk : Walk) (old new : ShelfSeen) (before after : Outside) (same : af
   explained_ends o h = absurd h
 
 -- so does one whose files were only read
-module _ (walk : Walk) {old new : ShelfSeen} (keeps : KeepsFiles old new) (not_writing : walk.WritesFiles → new.is_writing ≡ false) (out : SinkSeen) (ports : List PortSeen) where
+module _ (walk : CommandWalk) {old new : ShelfSeen} (keeps : KeepsFiles old new) (not_writing : walk.WritesFiles → new.is_writing ≡ false) (out : SinkSeen) (ports : List PortSeen) where
   pub unbegun_ends : (o : Outcome) → Explains walk.reading old new o → Ends walk old new (outside old out ports) (outside new out ports) o
   unbegun_ends o h = explained_ends walk old new (outside old out ports) (outside new out ports) (only_read keeps out ports) not_writing o h
 
@@ -73,7 +73,7 @@ module _ (walk : Walk) {old new : ShelfSeen} (keeps : KeepsFiles old new) (not_w
   memory_ends = unbegun_ends outcome.Memory tt
 
 -- a reading is part of another: its files have the same words there, and what ends it ends the other
-pub record IsPart (part whole : Reading) (told : Option Files) : Type 0 where
+pub record IsPart (part whole : FileReading) (told : Option Files) : Type 0 where
   pub read : (f : File) → part.IsRead f → whole.IsRead f
   pub word : (f : File) → part.IsRead f → part.word f ≡ whole.word f
   pub given : (f : File) (n : ℕ) → part.HasGiven f n → whole.HasGiven f n
@@ -83,7 +83,7 @@ pub record IsPart (part whole : Reading) (told : Option Files) : Type 0 where
   pub settled : InFiles whole told (λ files. (f : File) (r : RefusalValue) → part.IsSettled files → part.IsRefused files f r → whole.IsSettled files)
 
 -- What explains an outcome by a part explains it by the whole.
-module _ (part whole : Reading) (old new : ShelfSeen) (is_part : IsPart part whole old.files) where
+module _ (part whole : FileReading) (old new : ShelfSeen) (is_part : IsPart part whole old.files) where
   long_lift : (f : File) → IsTooLongAt part old new f → IsTooLongAt whole old new f
   long_lift f h = record {
     given = h.given;

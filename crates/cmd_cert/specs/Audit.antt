@@ -8,7 +8,7 @@ use Rattle.netlist.specs.Sound.{IsSound}
 use Rattle.cert_check.specs.CertificateValue.{CertificateValue}
 use Rattle.cert_check.specs.Valid.{IsValid}
 use Rattle.cert_check.specs.LowerBound.{IsLowerBound}
-use Rattle.cmd_base.specs.Walk.{Reading, shelf_reading, Walk, portless_walk}
+use Rattle.cmd_base.specs.Walk.{FileReading, shelf_reading, CommandWalk, portless_walk}
 use Rattle.cmd_base.specs.Writing.{AreWritten, IsCutInLine}
 use Rattle.cmd_base.specs.Refusals.{too_long}
 use Rattle.cmd_base.specs.declared.outcome.File.{File}
@@ -70,10 +70,10 @@ ReachesAudit files words Cert = (source : Source) × (graph : Aig) × (roots : R
 ReachesAudit files words file = ReachesSource files words.source file
 
 -- how they are read
-abbrev pub audit_reading : CertWords → Reading
+abbrev pub audit_reading : CertWords → FileReading
 audit_reading words = shelf_reading IsOfAudit (cert_word words) Cert (λ files. ReachesAudit files words) (λ files. IsAuditRefused files words) (λ files. IsAuditSettled files words)
 
-abbrev pub audit_walk : CertWords → Walk
+abbrev pub audit_walk : CertWords → CommandWalk
 audit_walk words =
     portless_walk (audit_reading words) (λ files. HasAuditJob files words) (λ files old new. HasAudit files words (λ line. AreWritten [] line old new)) (λ files old new. HasAudit files words (λ line. IsCutInLine [] line old new))
     (λ files old new. Unit {0}) ⊥

@@ -11,7 +11,7 @@ use Rattle.cert_check.specs.Valid.{IsValid}
 use Rattle.cert_check.specs.WrittenText.{cert_text}
 use Rattle.cut_sets.specs.Labels.{label_at}
 use Rattle.flow_cert.specs.Needed.{AreLabelClaims, AreNeeded}
-use Rattle.cmd_base.specs.Walk.{Walk}
+use Rattle.cmd_base.specs.Walk.{CommandWalk}
 use Rattle.cmd_base.specs.Writing.{FileText}
 use Rattle.cmd_stations.specs.declared.source.Source.{Source}
 use Rattle.cmd_stations.specs.Source.{SourceWords, HasLabels}
@@ -43,5 +43,5 @@ pub record HasProveJob (files : Files) (words : SourceWords) : Type 0 where
   pub roots : RootsValue
   pub has : HasLabels files words source graph roots
 
-abbrev pub prove_walk : CertWords → Walk
+abbrev pub prove_walk : CertWords → CommandWalk
 prove_walk words = writing_walk ToLabels words.source (λ files. HasProveJob files words.source) (λ files P. HasProof files words P)

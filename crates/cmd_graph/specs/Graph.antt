@@ -19,7 +19,7 @@ use Rattle.aiger_io.specs.Refused.{IsNameRefused}
 use Rattle.aiger_io.specs.Run.{HasOneFit, HasSameRuns}
 use Rattle.aiger_io.specs.WrittenText.{circuit_text}
 use Rattle.aiger_io.specs.declared.header.Header.{Header}
-use Rattle.cmd_base.specs.Walk.{Walk}
+use Rattle.cmd_base.specs.Walk.{CommandWalk}
 use Rattle.cmd_base.specs.Writing.{FileText}
 use Rattle.cmd_stations.specs.declared.source.Source.{Source}
 use Rattle.cmd_stations.specs.Mapped.{ToGraph}
@@ -82,5 +82,5 @@ pub record HasGraphJob (files : Files) (words : SourceWords) : Type 0 where
   pub roots : RootsValue
   pub has : HasGraph files words source graph roots
 
-abbrev pub graph_walk : GraphWords → Walk
+abbrev pub graph_walk : GraphWords → CommandWalk
 graph_walk words = writing_walk ToGraph words.source (λ files. HasGraphJob files words.source) (λ files P. HasExport files words P)

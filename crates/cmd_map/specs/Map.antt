@@ -17,7 +17,7 @@ use Rattle.cmd_stations.specs.Packs.{HasPack, present_bytes}
 use Rattle.cmd_stations.specs.Machine.{IsStart, Stage, HasCome}
 use Rattle.cmd_stations.specs.Host.{IsHostStart, AreHostSteps}
 use Rattle.blif_write.specs.PlainNetlist.{netlist_text}
-use Rattle.cmd_base.specs.Walk.{Walk}
+use Rattle.cmd_base.specs.Walk.{CommandWalk}
 use Rattle.cmd_base.specs.Writing.{FileText}
 use Rattle.cmd_stations.specs.Mapped.{template_header, ToTables}
 use Rattle.cmd_stations.specs.WritingWalk.{writing_walk}
@@ -67,5 +67,5 @@ pub record HasMap (files : Files) (words : MapWords) (Ends : List FileText → L
   pub means : IsTuned source template pack (template_of source template)
   pub replays : ReplaysMachine source template pack
 
-abbrev pub map_walk : MapWords → Walk
+abbrev pub map_walk : MapWords → CommandWalk
 map_walk words = writing_walk ToTables words.source (λ files. IsMappedFrom files words.source) (λ files P. HasMap files words P)

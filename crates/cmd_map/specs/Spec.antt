@@ -8,7 +8,7 @@ use Rattle.cover_pick.specs.Template.{TemplateValue}
 use Rattle.bit_fun.specs.Configuration.{IsConfiguration}
 use Rattle.param_list.specs.Parameters.{param_inits}
 use Rattle.blif_write.specs.PlainNetlist.{netlist_text}
-use Rattle.cmd_base.specs.Walk.{Walk}
+use Rattle.cmd_base.specs.Walk.{CommandWalk}
 use Rattle.cmd_base.specs.Writing.{FileText}
 use Rattle.cmd_stations.specs.declared.source.Source.{Source}
 use Rattle.cmd_stations.specs.Mapped.{template_header, ToTables}
@@ -44,5 +44,5 @@ pub record HasSpec (files : Files) (words : SpecWords) (Ends : List FileText →
   pub ends : Ends (record { name = words.out; bytes = netlist_text (specialised_of source template config) } ∷ []) (template_header template)
   pub means : RunsAs source (param_inits source.params.list) (specialised_of source template config)
 
-abbrev pub spec_walk : SpecWords → Walk
+abbrev pub spec_walk : SpecWords → CommandWalk
 spec_walk words = writing_walk ToTables words.source (λ files. IsMappedFrom files words.source) (λ files P. HasSpec files words P)

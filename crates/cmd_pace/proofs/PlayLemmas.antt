@@ -1,5 +1,5 @@
 -- The playing of events: what stands behind one event more; and a job that was made ready is begun, and ends as its playing does.
-use Rattle.cmd_pace.proofs.Common.{◌≡◌, ℕ, List, [], ◌∷◌, ◌++◌, length, refl, sym, ap, ◌∙◌, subst, map-append, Shape, PackValue, PaceValue, Ask, Tick, PacerValue, Shown, shown_line, IsTicked, steps, waits, IsPaced, ArePaced, FitsPacer, Outside, HaveShown, Files, IsBegun, pace_values, Ready, HasPace, IsReadyFor, pace_walk, PaceWords}
+use Rattle.cmd_pace.proofs.Common.{◌≡◌, ℕ, List, [], ◌∷◌, ◌++◌, length, refl, sym, ap, ◌∙◌, subst, map-append, Shape, PackValue, PaceValue, Ask, Tick, PacerValue, Shown, shown_line, IsTicked, steps, waits, IsPaced, ArePaced, FitsPacer, Outside, HaveShown, Files, IsBegun, pace_values, ReadyPace, HasPace, IsReadyFor, pace_walk, PaceWords}
 use Rattle.pace_core.specs.EventValue as pace
 use Rattle.cmd_stations.proofs.RefusedLemmas.{least_mapped}
 
@@ -38,7 +38,7 @@ then_shown old mid new events lines event one come paced = record {
 }
 
 -- A job of `pace` that was made ready is begun, and ends as its playing does.
-module _ (files : Files) (words : PaceWords) (ready : Ready) (is : IsReadyFor files words ready) where
+module _ (files : Files) (words : PaceWords) (ready : ReadyPace) (is : IsReadyFor files words ready) where
   pub ready_begun : IsBegun (pace_walk words) files
   ready_begun = record { accepted = record { job = is.job; is = is.is_job }; settled = is.settled }
 

@@ -1,5 +1,5 @@
 -- Asks and ticks show the source circuit.
-use Rattle.cmd_pace.proofs.Common.{◌≡◌, ℕ, Bool, List, [], ◌∷◌, length, map, take, refl, sym, ap, ◌∙◌, subst, inl, inr, arith, length-take, In, TemplateValue, Shape, PackValue, IsConf, differences, length-assigned, PaceValue, Ask, Tick, PacerValue, Shown, shown_line, IsAsked, IsStep, IsWait, IsTicked, steps, waits, IsPaced, ArePaced, Source, width_of, shape_of, IsTunable, cycle_count, param_count, Stage, stage_of, ShowsAsk, ShowsStep, ShowsWait, ShowsTick, Shows, ShowAll, none, more, IsSourceCycle}
+use Rattle.cmd_pace.proofs.Common.{◌≡◌, ℕ, Bool, List, [], ◌∷◌, length, map, take, refl, sym, ap, ◌∙◌, subst, inl, inr, arith, length-take, In, TemplateValue, Shape, PackValue, IsConf, differences, length-assigned, PaceValue, Ask, Tick, PacerValue, Shown, shown_line, IsAsked, IsStep, IsWait, IsTicked, steps, waits, IsPaced, ArePaced, Source, width_of, shape_of, IsTunable, cycle_count, param_count, PaceStage, stage_of, ShowsAsk, ShowsStep, ShowsWait, ShowsTick, Shows, ShowAll, none, more, IsSourceCycle}
 use Rattle.tl_io.specs.Assigns.{assigned}
 use Rattle.tl_io.specs.Writes.{written}
 use Rattle.tl_io.specs.declared.Assign.{Assign}
@@ -60,7 +60,7 @@ module _ (source : Source) (template : TemplateValue) (rate : ℕ) (pack : PackV
   shows_wait old new one kept w =
       let differ = differences old.config w.wanted in
       let same : old.rate ≡ rate = kept.steady.rate_is in
-      let taken : ℕ → Stage = λ n. record { params = old.params; config = written old.config (take n differ); states = old.sim.states } in
+      let taken : ℕ → PaceStage = λ n. record { params = old.params; config = written old.config (take n differ); states = old.sim.states } in
       record {
         wanted = w.wanted;
         is = config_is old old.params w.wanted kept kept.steady.params w.conf;

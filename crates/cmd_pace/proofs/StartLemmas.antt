@@ -1,5 +1,5 @@
 -- The machine at the start: it can play each ask and tick that its script may have.
-use Rattle.cmd_pace.proofs.Common.{ℕ, List, length, refl, subst, length-map, In, EventValue, Fits, PaceValue, asks_and_ticks, Source, names_in, width_of, ◌≡◌, sym, Files, Shape, event_values, pace_values, PacerValue, ComesScripted, param_count, Ready, PaceJob, CanPace, StartsPace, StartsAt, IsReadyFor, PaceWords, scripted_of}
+use Rattle.cmd_pace.proofs.Common.{ℕ, List, length, refl, subst, length-map, In, EventValue, Fits, PaceValue, asks_and_ticks, Source, names_in, width_of, ◌≡◌, sym, Files, Shape, event_values, pace_values, PacerValue, ComesScripted, param_count, ReadyPace, PaceJob, CanPace, StartsPace, StartsAt, IsReadyFor, PaceWords, scripted_of}
 use Rattle.param_list.specs.declared.params.Param.{Param}
 use Rattle.run_text.specs.ScriptText.{IsScript}
 use Rattle.run_text.specs.declared.event.Forms.TheVariants.{Pace}
@@ -36,7 +36,7 @@ can_pace job p start read fit events are = subst (λ es. CanPace es p) (sym are)
     (subst (λ (s : Shape). pace.Fits (length job.source.params.list) s.regular paced) (sym start.shape) (kept_fit job.source job.template.bits read fit paced i)))
 
 -- what the files of a job say that was made ready
-pub ready_for : (files : Files) (words : PaceWords) (s : Scripted) (ready : Ready) → ComesScripted files (scripted_of words) s → StartsAt s.mapped.source s.mapped.tables.template words.rate ready.pacer
+pub ready_for : (files : Files) (words : PaceWords) (s : Scripted) (ready : ReadyPace) → ComesScripted files (scripted_of words) s → StartsAt s.mapped.source s.mapped.tables.template words.rate ready.pacer
     → pace_values ready.events.items ≡ asks_and_ticks (event_values s.events.items) → IsReadyFor files words ready
 ready_for files words s ready comes starts are =
     let read = event_values s.events.items in

@@ -25,25 +25,25 @@ use Rattle.cmd_stations.specs.SourceCircuit.{shape_of, IsSourceCycle}
 use Rattle.cmd_pace.specs.Job.{PaceJob, IsPaceJob, IsPaceStart, PaceWords}
 
 -- what is shown of a source circuit: the values that were asked for last, the configuration that the device has, and the latches' states
-pub record Stage : Type 0 where
+pub record PaceStage : Type 0 where
   pub params : List Bool
   pub config : List Bool
   pub states : List Bool
 
 -- what a machine shows of it
-abbrev pub stage_of : PacerValue → Stage
+abbrev pub stage_of : PacerValue → PaceStage
 stage_of p = record { params = p.params; config = p.config; states = p.sim.states }
 
 module _ (source : Source) (g : Aig) (template : TemplateValue) (rate : ℕ) where
   -- An ask: its line tells at how many addresses the device's configuration differs from the one specialised from scratch for the new values; nothing is written, and no state changes.
-  pub record ShowsAsk (asked : List Bool) (old : Stage) (line : List ℕ) (new : Stage) : Type 0 where
+  pub record ShowsAsk (asked : List Bool) (old : PaceStage) (line : List ℕ) (new : PaceStage) : Type 0 where
     pub wanted : List Bool
     pub is : IsConfiguration g template.luts asked wanted
     pub line_is : line ≡ ask_line (length (differences old.config wanted))
     pub becomes : new ≡ record old { params = asked }
 
   -- A tick that steps: the device has the configuration specialised from scratch for the values that were asked for last; the tables under it are played, and no other values fit them; the outputs and the states are those of the source circuit's cycle under the values that were asked for.
-  pub record ShowsStep (values : List Bool) (old : Stage) (line : List ℕ) (new : Stage) : Type 0 where
+  pub record ShowsStep (values : List Bool) (old : PaceStage) (line : List ℕ) (new : PaceStage) : Type 0 where
     pub is : IsConfiguration g template.luts old.params old.config
     pub outputs : List Bool
     pub is_play : IsTableCycle template (shape_of source) old.config values old.states outputs new.states
@@ -53,7 +53,7 @@ module _ (source : Source) (g : Aig) (template : TemplateValue) (rate : ℕ) whe
     pub becomes : new ≡ record old { states = new.states }
 
   -- A tick that waits: the device has another configuration; the first bits that differ are written, as many as the port takes or all where they are fewer, and no state changes.
-  pub record ShowsWait (old : Stage) (line : List ℕ) (new : Stage) : Type 0 where
+  pub record ShowsWait (old : PaceStage) (line : List ℕ) (new : PaceStage) : Type 0 where
     pub wanted : List Bool
     pub is : IsConfiguration g template.luts old.params wanted
     pub behind : 0 < length (differences old.config wanted)
@@ -61,22 +61,22 @@ module _ (source : Source) (g : Aig) (template : TemplateValue) (rate : ℕ) whe
     pub few : length (take rate (differences old.config wanted)) ≤ rate
     pub becomes : new ≡ record old { config = written old.config (take rate (differences old.config wanted)) }
 
-  pub data ShowsTick (values : List Bool) (old : Stage) (line : List ℕ) (new : Stage) : Type 0 where
+  pub data ShowsTick (values : List Bool) (old : PaceStage) (line : List ℕ) (new : PaceStage) : Type 0 where
     steps : ShowsStep values old line new → ShowsTick values old line new
     waits : ShowsWait old line new → ShowsTick values old line new
 
-  abbrev pub Shows : PaceValue → Stage → List ℕ → Stage → Type 0
+  abbrev pub Shows : PaceValue → PaceStage → List ℕ → PaceStage → Type 0
   Shows (Ask assigns) old line new = ShowsAsk (assigned old.params assigns) old line new
   Shows (Tick values) old line new = ShowsTick values old line new
 
   -- some events one after the other, with their lines
-  pub data ShowAll : Stage → List PaceValue → List (List ℕ) → Stage → Type 0 where
-    none : {old : Stage} → ShowAll old [] [] old
-    more : {old new : Stage} {events : List PaceValue} {lines : List (List ℕ)} (event : PaceValue) (line : List ℕ) (mid : Stage) → Shows event old line mid → ShowAll mid events lines new
+  pub data ShowAll : PaceStage → List PaceValue → List (List ℕ) → PaceStage → Type 0 where
+    none : {old : PaceStage} → ShowAll old [] [] old
+    more : {old new : PaceStage} {events : List PaceValue} {lines : List (List ℕ)} (event : PaceValue) (line : List ℕ) (mid : PaceStage) → Shows event old line mid → ShowAll mid events lines new
         → ShowAll old (event ∷ events) (line ∷ lines) new
 
   -- the parameters' listed values, their configuration specialised from scratch, and the latches' inits
-  pub record IsFirst (first : Stage) : Type 0 where
+  pub record IsFirst (first : PaceStage) : Type 0 where
     pub params : first.params ≡ param_inits source.params.list
     pub config : IsConfiguration g template.luts (param_inits source.params.list) first.config
     pub states : AreInits source.netlist.library first.states
@@ -93,9 +93,9 @@ pub record HasPaceHeadline (files : Files) (words : PaceWords) (old new : Outsid
   pub least : IsLeastMapping is_job.is.mapped.mapped.graph words.source.k is_job.is.mapped.mapped.roots job.template
   pub lines : List (List ℕ)
   pub bytes : new.bytes ≡ extended old.bytes (concat (template_header job.template ∷ lines))
-  pub first : Stage
+  pub first : PaceStage
   pub is_first : IsFirst job.source is_job.is.mapped.mapped.graph job.template words.rate first
-  pub end : Stage
+  pub end : PaceStage
   pub shows : ShowAll job.source is_job.is.mapped.mapped.graph job.template words.rate first job.events lines end
   pub pacer : PacerValue
   pub start : IsPaceStart job words.rate pacer

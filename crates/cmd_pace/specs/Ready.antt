@@ -8,7 +8,7 @@ use Rattle.pace_core.specs.Pace.{PacerValue, FitsPacer}
 use Rattle.cmd_stations.specs.declared.source.Source.{Source}
 use Rattle.cmd_stations.specs.Playing.{PutsAll}
 use Rattle.cmd_stations.specs.Script.{IsScriptedSettled}
-use Rattle.cmd_pace.specs.declared.prepare.Ready.{Ready}
+use Rattle.cmd_pace.specs.declared.prepare.ReadyPace.{ReadyPace}
 use Rattle.cmd_pace.specs.Job.{PaceWords, scripted_of, PaceJob, IsPaceJob, StartsPace, IsPaceStart, pacer_header}
 use Rattle.cmd_pace.specs.Verdict.{HaveShown, IsShown}
 
@@ -21,7 +21,7 @@ abbrev pub StartsAt : Source → TemplateValue → ℕ → PacerValue → Type 0
 StartsAt source template rate p = StartsPace source template p × (p.rate ≡ rate)
 
 -- what the files of its job say
-pub record IsReadyFor (files : Files) (words : PaceWords) (ready : Ready) : Type 0 where
+pub record IsReadyFor (files : Files) (words : PaceWords) (ready : ReadyPace) : Type 0 where
   pub job : PaceJob
   pub is_job : IsPaceJob files words job
   pub start : IsPaceStart job words.rate ready.pacer

@@ -4,7 +4,7 @@ use Rattle.tl_io.specs.Causes.{Rose}
 use Rattle.tl_io.specs.Shelf.{Files}
 use Rattle.pace_core.specs.EventValue.{PaceValue}
 use Rattle.pace_core.specs.Pace.{PacerValue, Shown, shown_line, IsPaced, ArePaced}
-use Rattle.cmd_base.specs.Walk.{Outside, Walk, portless_walk}
+use Rattle.cmd_base.specs.Walk.{Outside, CommandWalk, portless_walk}
 use Rattle.cmd_stations.specs.Playing.{AreAllPut, IsCutInFront, IsCutInLine}
 use Rattle.cmd_stations.specs.Script.{scripted_reading}
 use Rattle.cmd_stations.specs.Source.{IsLeastMapped}
@@ -51,7 +51,7 @@ pub record HasPaceJob (files : Files) (words : PaceWords) : Type 0 where
   pub job : PaceJob
   pub is : IsPaceJob files words job
 
-abbrev pub pace_walk : PaceWords → Walk
+abbrev pub pace_walk : PaceWords → CommandWalk
 pace_walk words =
     portless_walk (scripted_reading (scripted_of words)) (λ files. HasPaceJob files words) (λ files old new. HasPace files words old new IsAllPaced) (λ files old new. HasPace files words old new IsPaceCut)
     (λ files old new. HasPaceHeadline files words old new) ⊥

@@ -4,7 +4,7 @@ ghost use Rattle.tl_io.specs.Causes.{HasCause};
 ghost use Rattle.pace_core.specs.EventValue.{pace_values};
 ghost use Rattle.cmd_pace.specs.Ready.{CanPace, EventsEnd, PlayEnd};
 
-use crate::prepare::Ready;
+use crate::prepare::ReadyPace;
 use aig_core::Steps;
 use pace_core::{PaceEvent, Pacer};
 use std::marker::Brand;
@@ -45,7 +45,7 @@ fn play_events<O: Sink>(pacer: &mut Pacer, events: &[PaceEvent], out: &mut O) ->
 ///
 /// # Errors
 /// `Failed` only if the count of faults of `out` rose.
-pub fn play<O: Sink>(ready: &mut Ready, out: &mut O) -> Result<(), Failed>
+pub fn play<O: Sink>(ready: &mut ReadyPace, out: &mut O) -> Result<(), Failed>
     requires { CanPace (pace_values ready.old.events.items) ready.old.pacer }
     ensures ends { PlayEnd ready.old.pacer (pace_values ready.old.events.items) (O.seen out.old).bytes (O.seen out.new).bytes result }
     ensures cause { HasCause (O.seen out.old).faults (O.seen out.new).faults result }

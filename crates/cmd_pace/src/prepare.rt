@@ -11,14 +11,14 @@ ghost use Rattle.cmd_pace.specs.Ready.{CanPace, StartsAt, IsReadyFor};
 
 use crate::words::{PaceWords, scripted};
 use cmd_base::Outcome;
-use cmd_stations::{MappedSource, Scripted, Source, Tables, latch_inits, read_scripted};
+use cmd_stations::{MappedSource, Scripted, Source, SourceTables, latch_inits, read_scripted};
 use pace_core::{PaceEvent, Pacer, pace_events};
 use std::alloc::{AllocError, Global};
 use tl_io::Shelf;
 
 /// A prepared job. All its memory is allocated.
 #[derive(Drop)]
-pub struct Ready {
+pub struct ReadyPace {
     pub pacer: Pacer,
     pub events: Vec<PaceEvent>,
 }
@@ -27,7 +27,7 @@ pub struct Ready {
 fn start_pacer(
     alloc: Global,
     source: &Source,
-    tables: Tables,
+    tables: SourceTables,
     rate: u32,
 ) -> Result<Pacer, AllocError>
     requires read { IsReadSource source.now }
@@ -48,7 +48,7 @@ fn start_pacer(
 }
 
 // The machine and the asks and ticks of a mapped source circuit with its script.
-fn make_ready(alloc: Global, scripted: Scripted, rate: u32) -> Result<Ready, AllocError>
+fn make_ready(alloc: Global, scripted: Scripted, rate: u32) -> Result<ReadyPace, AllocError>
     requires read { IsReadSource scripted.mapped.source }
     requires tables { AreMade scripted.mapped.source scripted.mapped.tables }
     requires rate { 1 ≤ rate }
@@ -67,14 +67,18 @@ fn make_ready(alloc: Global, scripted: Scripted, rate: u32) -> Result<Ready, All
     let started = start_pacer(alloc, &source, tables, rate);
     drop(source);
     let pacer = started?;
-    Ok(Ready { pacer, events })
+    Ok(ReadyPace { pacer, events })
 }
 
 /// Reads and maps the files of a job in the order of work, and allocates all the memory that its events need.
 ///
 /// # Errors
 /// The outcome of the command: the first refusal, a read fault, or out of memory.
-pub fn prepare<S: Shelf>(alloc: Global, words: &PaceWords, shelf: &mut S) -> Result<Ready, Outcome>
+pub fn prepare<S: Shelf>(
+    alloc: Global,
+    words: &PaceWords,
+    shelf: &mut S,
+) -> Result<ReadyPace, Outcome>
     requires { IsInRange words.now }
     ensures ready { IfOk result (λ r. CanPace (pace_values r.events.items) r.pacer) }
     ensures prepared { IfOk result (λ r. Told (S.seen shelf.old).files (λ files. IsReadyFor files (pace_seen words.now) r)) }

@@ -5,7 +5,7 @@ use Rattle.tl_fault.specs.RefusalValue.{RefusalValue}
 use Rattle.tl_io.specs.Shelf.{Files}
 use Rattle.ppc_pack.specs.Pack.{PackValue}
 use Rattle.run_text.specs.EventValue.{EventValue}
-use Rattle.cmd_base.specs.Walk.{Reading, shelf_reading, Walk, portless_walk, Outside}
+use Rattle.cmd_base.specs.Walk.{FileReading, shelf_reading, CommandWalk, portless_walk, Outside}
 use Rattle.cmd_base.specs.Refusals.{most_bytes}
 use Rattle.cmd_base.specs.declared.outcome.File.{File}
 use Rattle.cmd_base.specs.declared.outcome.File.TheVariants.{Netlist, Params, Script, Pack, Cert}
@@ -70,7 +70,7 @@ ReachesBits files words Pack = Unit {0}
 ReachesBits files words Cert = ⊥
 
 -- how its files are read
-abbrev pub bits_reading : BitsWords → Reading
+abbrev pub bits_reading : BitsWords → FileReading
 bits_reading words = shelf_reading IsOfBits (bits_word words) Script (λ files. ReachesBits files words) (λ files. IsBitsRefused files words) (λ files. IsBitsSettled files words)
 
 -- the header line of a pack
@@ -112,7 +112,7 @@ pub record HasBitsJob (files : Files) (words : BitsWords) : Type 0 where
   pub events : List EventValue
   pub is : IsBitsJob files words pack events
 
-abbrev pub bits_walk : BitsWords → Walk
+abbrev pub bits_walk : BitsWords → CommandWalk
 bits_walk words =
     portless_walk (bits_reading words) (λ files. HasBitsJob files words) (λ files old new. HasBits files words (λ h events. AreLinesPut h events old new)) (λ files old new. HasBits files words (λ h events. AreLinesCut h events old new))
     (λ files old new. Unit {0}) ⊥

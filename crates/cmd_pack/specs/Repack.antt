@@ -5,7 +5,7 @@ use Rattle.tl_io.specs.Port.{PortSeen}
 use Rattle.tl_io.specs.Shelf.{Files, ShelfSeen}
 use Rattle.tl_io.specs.Sink.{SinkSeen}
 use Rattle.ppc_pack.specs.Pack.{PackValue}
-use Rattle.cmd_base.specs.Walk.{Walk, portless_walk, outside}
+use Rattle.cmd_base.specs.Walk.{CommandWalk, portless_walk, outside}
 use Rattle.cmd_base.specs.Writing.{FileText, AreWritten, IsCut}
 use Rattle.cmd_stations.specs.FileWrites.{WritesAll}
 use Rattle.cmd_stations.specs.Packs.{HasPack, pack_reading, present_bytes}
@@ -44,7 +44,7 @@ pub record HasRepackJob (files : Files) (words : RepackWords) : Type 0 where
   pub pack : PackValue
   pub has : HasPack files words.old pack
 
-abbrev pub repack_walk : RepackWords → Walk
+abbrev pub repack_walk : RepackWords → CommandWalk
 repack_walk words =
     portless_walk (pack_reading words.old) (λ files. HasRepackJob files words) (λ files old new. HasRepack files words (λ texts line. AreWritten texts line old new)) (λ files old new. HasRepack files words (λ texts line. IsCut texts line old new))
     (λ files old new. Unit {0}) (Unit {0})

@@ -14,7 +14,7 @@ use Rattle.blif_read.specs.Denotes.{port_names, names_in, AreModels, none, model
 use Rattle.blif_read.specs.Statement.{StatementValue, statement_of, statements}
 use Rattle.blif_read.proofs.PortLemmas.{names_in-append}
 use Rattle.gen_case.specs.declared.net.Bus.TheVariants.{Product}
-use Rattle.gen_case.specs.declared.net.Net.TheVariants.{Digit}
+use Rattle.gen_case.specs.declared.net.CaseNet.TheVariants.{Digit}
 use Rattle.gen_case.specs.Steps.{after_blanks}
 use Rattle.gen_case.proofs.LineLemmas.{joined}
 use Rattle.gen_case.proofs.PlainLemmas.{is_plain, is_plain_word, is_plain_line, netlist_plain}

@@ -5,7 +5,7 @@ use Rattle.run_text.specs.Lines.{set_line, scrub_line, image_line}
 use Rattle.bit_fun.specs.Configuration.{IsConfiguration}
 use Rattle.port_bank.specs.Send.{Sends, start, accepted, replaced, with_port, Plays}
 use Rattle.spec_core.proofs.MarkLemmas.{xor-same}
-use Rattle.cmd_run.specs.Run.Headline.{IsNoUpset, Shown, Shows, ShowsSet, ShowsCycle, ShowsScrub, ShowsImage, ShowAll, none, more}
+use Rattle.cmd_run.specs.Run.Headline.{IsNoUpset, ShownSource, Shows, ShowsSet, ShowsCycle, ShowsScrub, ShowsImage, ShowAll, none, more}
 use Rattle.cmd_stations.specs.Machine.{Stage, IsStep, AreSteps, none as no_step, more as one_more}
 use Rattle.cmd_run.proofs.KeptLemmas.{IsKept, same_config, of_tables, cycle_is, step_keeps}
 
@@ -32,14 +32,14 @@ none_played : (config : List Bool) (old new : BankSeen) → Plays config [] old 
 none_played config old new plays = (none_sent plays.sends (none_with_port old.serving)).1
 
 -- what a stage shows
-abbrev pub shown_of : Stage → Shown
+abbrev pub shown_of : Stage → ShownSource
 shown_of stage = record { params = stage.machine.host.state.params; states = stage.machine.sim.states; bank = stage.bank }
 
-same_shown : (new old : Shown) → new.params ≡ old.params → new.states ≡ old.states → new.bank ≡ old.bank → new ≡ old
+same_shown : (new old : ShownSource) → new.params ≡ old.params → new.states ≡ old.states → new.bank ≡ old.bank → new ≡ old
 same_shown new old params states bank =
-    ap (λ (p : List Bool). let s : Shown = record { params = p; states = new.states; bank = new.bank } in s) params
-    ∙ ap (λ (n : List Bool). let s : Shown = record { params = old.params; states = n; bank = new.bank } in s) states
-    ∙ ap (λ (b : BankSeen). let s : Shown = record { params = old.params; states = old.states; bank = b } in s) bank
+    ap (λ (p : List Bool). let s : ShownSource = record { params = p; states = new.states; bank = new.bank } in s) params
+    ∙ ap (λ (n : List Bool). let s : ShownSource = record { params = old.params; states = n; bank = new.bank } in s) states
+    ∙ ap (λ (b : BankSeen). let s : ShownSource = record { params = old.params; states = old.states; bank = b } in s) bank
 
 same_states : (new old : SimValue) → new ≡ old → new.states ≡ old.states
 same_states new old same = ap (λ (s : SimValue). s.states) same

@@ -26,7 +26,7 @@ pub use Rattle.blif_write.specs.Meaning.{Means, free_control, all_bit_names, inp
 pub use Rattle.blif_write.specs.OwnNames.{naming_of, literal_name, latch_name}
 pub use Rattle.blif_write.specs.PlainNetlist.{library_of, PlainNetlist, netlist_text}
 pub use Rattle.cmd_base.proofs.EndLemmas.{IsPart, Explains_lift, Explains_from, keeps_past}
-pub use Rattle.cmd_base.specs.Walk.{Told, Explains, HasWriteFault, IsBegun, IsBegunFrom, Ends, InFiles, Outside, outside, Walk, Reading}
+pub use Rattle.cmd_base.specs.Walk.{Told, Explains, HasWriteFault, IsBegun, IsBegunFrom, Ends, InFiles, Outside, outside, CommandWalk, FileReading}
 pub use Rattle.cmd_base.specs.Refusals.{too_long, most_bytes}
 pub use Rattle.cmd_base.specs.Writing.{FileText, with_texts, HasPrefix, IsCut, AreWritten, writing_outcome}
 pub use Rattle.cmd_base.specs.declared.outcome.File.{File}
@@ -95,4 +95,4 @@ pub use Rattle.cmd_stations.specs.declared.netlist_text.Netlist.{Netlist}
 pub use Rattle.cmd_stations.specs.declared.source.Source.{Source}
 pub use Rattle.cmd_stations.specs.declared.stop.Stop.{Stop}
 pub use Rattle.cmd_stations.specs.declared.stop.Stop.TheVariants.{Refused, Memory}
-pub use Rattle.cmd_stations.specs.declared.tables.Tables.{Tables}
+pub use Rattle.cmd_stations.specs.declared.tables.SourceTables.{SourceTables}

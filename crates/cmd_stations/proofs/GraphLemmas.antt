@@ -1,5 +1,5 @@
 -- A graph has one template, or is refused for one reason.
-use Rattle.cmd_stations.proofs.Common.{◌≡◌, ℕ, ◌≤◌, ◌/◌, [], ◌∷◌, length, sym, ap, subst, inl, inr, arith, In, Regular, Aig, IsSource, RootsValue, roots_of, Lut, IsTableOf, source, free, node, IsMapping, IsLeast, TemplateValue, HasFewLeaves, IsLeastMapping, ◌<◌, List, Some, ◌∙◌, most_nodes, GRAPH_ROOM, Literals, IsGraphOf, HasTooManyNodes, HasOneGraph, fun_ext, same_Some, none-some, node_count, IsLimit, CutErr, LabelsValue, label_of, AreLabelled, HasOneLabelling, Rule, IsTemplate, IsTooMuch, PickErr, RefusalValue, Source, IsChosen, IsUnchosen, cuts, work, IsMapped, IsUnmappedGraph, IsUnmapped, too_many, unchosen, IsBuilt, IsUnlabelled, unbuilt, many_cuts, IsGraphSettled, IsMappingSettled, IsBuildingSettled, IsLabellingSettled, AreMade, AreTables, Tables, HasSupply, AreLabelsBy, HasOneLimit, Supply, Rows, Sets, FewestLeaves, LeastCost, AreLeastHeights, AreLowsOf}
+use Rattle.cmd_stations.proofs.Common.{◌≡◌, ℕ, ◌≤◌, ◌/◌, [], ◌∷◌, length, sym, ap, subst, inl, inr, arith, In, Regular, Aig, IsSource, RootsValue, roots_of, Lut, IsTableOf, source, free, node, IsMapping, IsLeast, TemplateValue, HasFewLeaves, IsLeastMapping, ◌<◌, List, Some, ◌∙◌, most_nodes, GRAPH_ROOM, Literals, IsGraphOf, HasTooManyNodes, HasOneGraph, fun_ext, same_Some, none-some, node_count, IsLimit, CutErr, LabelsValue, label_of, AreLabelled, HasOneLabelling, Rule, IsTemplate, IsTooMuch, PickErr, RefusalValue, Source, IsChosen, IsUnchosen, cuts, work, IsMapped, IsUnmappedGraph, IsUnmapped, too_many, unchosen, IsBuilt, IsUnlabelled, unbuilt, many_cuts, IsGraphSettled, IsMappingSettled, IsBuildingSettled, IsLabellingSettled, AreMade, AreTables, SourceTables, HasSupply, AreLabelsBy, HasOneLimit, Supply, Rows, Sets, FewestLeaves, LeastCost, AreLeastHeights, AreLowsOf}
 use Rattle.cut_sets.specs.Cuts.{CanBeLeaf}
 use Rattle.cut_enum.specs.Table.{AreRows}
 use Rattle.cut_enum.specs.Refusals.{refusal_of as cut_refusal}
@@ -235,7 +235,7 @@ module _ (source : Source) (one : HasOneGraph source.netlist.library source.netl
       once r s (unchosen u) (unchosen v) = graph.one_refusal r s (refused_here r u) (refused_here s v)
 
 -- tables by the template that was chosen
-pub tables_as : (rule : Rule) (source : Source) (k : ℕ) (t : Tables) (template : TemplateValue) → t.template ≡ template → (m : IsMapped rule source k template) → IsLeastMapping m.graph k m.roots template → AreMade source t → AreTables rule source k t
+pub tables_as : (rule : Rule) (source : Source) (k : ℕ) (t : SourceTables) (template : TemplateValue) → t.template ≡ template → (m : IsMapped rule source k template) → IsLeastMapping m.graph k m.roots template → AreMade source t → AreTables rule source k t
 tables_as rule given k t template same m least made =
     let both : (mapped : IsMapped rule given k t.template) × IsLeastMapping mapped.graph k mapped.roots t.template =
     subst (λ x. (mapped : IsMapped rule given k x) × IsLeastMapping mapped.graph k mapped.roots x) (sym same) (m, least) in

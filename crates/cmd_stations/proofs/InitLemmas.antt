@@ -1,5 +1,5 @@
 -- The inits of a source circuit that was read: those of its latches, and the values of its parameters.
-use Rattle.cmd_stations.proofs.Common.{◌≡◌, Bool, List, length, sym, ap, ◌∙◌, subst, length-map, IsFlat, flat_inits, FlatLatch, Param, param_inits, PackValue, pack_param, Source, IsTunable, TemplateValue, HasOneConf, IsConf, Tables, AreMade, IsReadSource}
+use Rattle.cmd_stations.proofs.Common.{◌≡◌, Bool, List, length, sym, ap, ◌∙◌, subst, length-map, IsFlat, flat_inits, FlatLatch, Param, param_inits, PackValue, pack_param, Source, IsTunable, TemplateValue, HasOneConf, IsConf, SourceTables, AreMade, IsReadSource}
 use Rattle.lut_sim.specs.Sim.{SimValue}
 use Rattle.ppc_pack.specs.Pack as pack
 use Rattle.cmd_stations.specs.Machine.{IsSourceStart}
@@ -20,7 +20,7 @@ module _ (source : Source) (template : TemplateValue) (pack : PackValue) (tunabl
   init_params = length-map source.params.list (λ (p : Param). p.init) ∙ sym param_count
 
 -- a machine of a source circuit's tables, as it is made
-pub source_starts : (source : Source) (tables : Tables) (own : PackValue) (values bits : List Bool) (sim : SimValue) → IsReadSource source → AreMade source tables → ((given : List Bool) → length given ≡ length tables.pack.params → HasOneConf tables.pack given) → own ≡ tables.pack
+pub source_starts : (source : Source) (tables : SourceTables) (own : PackValue) (values bits : List Bool) (sim : SimValue) → IsReadSource source → AreMade source tables → ((given : List Bool) → length given ≡ length tables.pack.params → HasOneConf tables.pack given) → own ≡ tables.pack
     → values ≡ pack.inits_of tables.pack.params → IsConf tables.pack (pack.inits_of tables.pack.params) bits → sim.template ≡ tables.template → sim.shape ≡ tables.shape → sim.states ≡ flat_inits source.netlist.flat
     → IsSourceStart source tables.template own values bits sim
 source_starts source tables own values bits sim read made one is_pack params config template shape states = record {

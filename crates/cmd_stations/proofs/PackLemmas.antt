@@ -1,5 +1,5 @@
 -- The pack of a file: it is read or refused, for one reason, and the packs of one file are the same but for the room of their graphs.
-use Rattle.cmd_stations.proofs.Common.{◌≡◌, ℕ, ◌≤◌, List, length, Some, refl, sym, ap, ◌∙◌, subst, same_Some, RefusalValue, Files, ShelfSeen, Lit, PackParam, PackValue, IsPackFile, AreSame, HasOneReading, NamesValue, Stops, outcome_at, most_bytes, Told, Explains, File, Outcome, Stop, HasBytes, IsUnread, HasPack, IsPackRefusal, IsPackRefused, IsPackSettled, pack_reading, names_on, pack_names, param_names, Shape, Source, Tables, width_of, names_in, AreMade}
+use Rattle.cmd_stations.proofs.Common.{◌≡◌, ℕ, ◌≤◌, List, length, Some, refl, sym, ap, ◌∙◌, subst, same_Some, RefusalValue, Files, ShelfSeen, Lit, PackParam, PackValue, IsPackFile, AreSame, HasOneReading, NamesValue, Stops, outcome_at, most_bytes, Told, Explains, File, Outcome, Stop, HasBytes, IsUnread, HasPack, IsPackRefusal, IsPackRefused, IsPackSettled, pack_reading, names_on, pack_names, param_names, Shape, Source, SourceTables, width_of, names_in, AreMade}
 use Rattle.ppc_file.specs.Refusals.{refusal_of as pack_refusal}
 use Rattle.run_text.specs.declared.event.Forms.{Forms}
 use Rattle.cmd_base.specs.declared.outcome.File.TheVariants as file
@@ -44,7 +44,7 @@ same_names p q same =
 abbrev names_with : Forms → List (List ℕ) → ℕ → ℕ → NamesValue
 names_with forms params width bits = record { forms = forms; params = params; width = Some width; bits = bits }
 
-pub made_names : (forms : Forms) (source : Source) (t : Tables) → AreMade source t → names_on forms t.pack (Some t.shape.regular) ≡ names_in forms source t.template.bits
+pub made_names : (forms : Forms) (source : Source) (t : SourceTables) → AreMade source t → names_on forms t.pack (Some t.shape.regular) ≡ names_in forms source t.template.bits
 made_names forms source t made =
     ap (λ params. names_with forms params t.shape.regular (length t.pack.bits)) made.names
     ∙ ap (λ (s : Shape). names_with forms (param_names source.params.list) s.regular (length t.pack.bits)) made.shape

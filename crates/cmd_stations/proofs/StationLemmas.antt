@@ -1,5 +1,5 @@
 -- What a station answers explains how a command ends there.
-use Rattle.cmd_stations.proofs.Common.{◌≡◌, ℕ, ◌≤◌, List, refl, sym, subst, MOST_BYTES, RefusalValue, too_long, most_bytes, File, Files, ShelfSeen, NamesValue, Stops, outcome_at, Told, Explains, Outcome, Stop, Refused, Memory, Source, SourceWords, HasText, IsLongText, IsNetlistText, NetlistRefusal, IsParamsRefusal, IsScriptRefusal, Aim, IsUnmade, HasNetlist, HasParams, HasSource, long_netlist, netlist, long_params, params, unmade, script_reading, IsTextSettled, IsNetlistSettled, AreParamsSettled, IsMakingSettled, IsSourceSettled, source_reading, ComesFrom, ComesWith, IsUnread, InFiles, Reading, IsOverlong}
+use Rattle.cmd_stations.proofs.Common.{◌≡◌, ℕ, ◌≤◌, List, refl, sym, subst, MOST_BYTES, RefusalValue, too_long, most_bytes, File, Files, ShelfSeen, NamesValue, Stops, outcome_at, Told, Explains, Outcome, Stop, Refused, Memory, Source, SourceWords, HasText, IsLongText, IsNetlistText, NetlistRefusal, IsParamsRefusal, IsScriptRefusal, Aim, IsUnmade, HasNetlist, HasParams, HasSource, long_netlist, netlist, long_params, params, unmade, script_reading, IsTextSettled, IsNetlistSettled, AreParamsSettled, IsMakingSettled, IsSourceSettled, source_reading, ComesFrom, ComesWith, IsUnread, InFiles, FileReading, IsOverlong}
 use Rattle.param_list.specs.ParamsText.{IsParamsText, HasOneReading}
 use Rattle.run_text.specs.ScriptText as script_text
 use Rattle.cmd_base.specs.declared.outcome.File.TheVariants as file
@@ -12,7 +12,7 @@ use Rattle.cmd_stations.proofs.LengthLemmas.{netlist_not_long, params_not_long, 
 use Rattle.cmd_stations.proofs.RefusedLemmas.{netlist_once, source_once}
 
 -- how a reading ends at a file that isn't read, or whose content is refused
-module _ (reading : Reading) (f : File) (old new : ShelfSeen) (is_read : reading.IsRead f) (given : new.given ≤ most_bytes f → reading.HasGiven f new.given) where
+module _ (reading : FileReading) (f : File) (old new : ShelfSeen) (is_read : reading.IsRead f) (given : new.given ≤ most_bytes f → reading.HasGiven f new.given) where
   pub unread_ends : (Told old.files (λ files. IsOverlong (most_bytes f) files (reading.word f)) → InFiles reading old.files (λ files. reading.IsRefused files f too_long × reading.IsSettled files))
       → InFiles reading old.files (λ files. reading.Reaches files f) → (o : Outcome) → IsUnread (reading.word f) f old new o → Explains reading old new o
   unread_ends long reached o (unread.IsUnread.too_long at over told) =

@@ -1,5 +1,5 @@
 -- What is written: a file, the files of a job one after the other and then its line, and the job of a command that does so.
-use Rattle.cmd_stations.proofs.Common.{◌≡◌, take, Option, Result, Ok, Err, inl, inr, ◌⊎◌, sym, ap, ◌∙◌, subst, option_map, Puts, FileText, HasPrefix, WritesFile, ℕ, List, ◌∷◌, ◌++◌, refl, PortSeen, SinkSeen, IsPut, HasWriteFault, Outside, outside, Walk, with_texts, IsCut, WritesAll, ◌≤◌, Some, MOST_BYTES, AreWritten, writing_outcome, Told, IsBegun, IsBegunFrom, Ends, Outcome, Aim, SourceWords, Files, ShelfSeen, apart, written, emptied}
+use Rattle.cmd_stations.proofs.Common.{◌≡◌, take, Option, Result, Ok, Err, inl, inr, ◌⊎◌, sym, ap, ◌∙◌, subst, option_map, Puts, FileText, HasPrefix, WritesFile, ℕ, List, ◌∷◌, ◌++◌, refl, PortSeen, SinkSeen, IsPut, HasWriteFault, Outside, outside, CommandWalk, with_texts, IsCut, WritesAll, ◌≤◌, Some, MOST_BYTES, AreWritten, writing_outcome, Told, IsBegun, IsBegunFrom, Ends, Outcome, Aim, SourceWords, Files, ShelfSeen, apart, written, emptied}
 use Rattle.tl_io.proofs.WrittenLemmas.{files_written}
 use Rattle.tl_io.specs.Causes.{Rose}
 use Rattle.cmd_base.specs.declared.outcome.Outcome.TheVariants as outcome
@@ -45,13 +45,13 @@ line_ends texts line old new before after ports (Ok done) files put = record { f
 line_ends texts line old new before after ports (Err e) files put = inr (record { part = put.grown.0; within = put.grown.1; files = files; bytes = put.grown.2; cause = put.cause.failed; ports = refl })
 
 -- so a job that was cut off has the cause of its fault
-pub cut_cause : (walk : Walk) (texts : List FileText) (line : List ℕ) (old new : Outside) → walk.WritesFiles → IsCut texts line old new → HasWriteFault walk old new
+pub cut_cause : (walk : CommandWalk) (texts : List FileText) (line : List ℕ) (old new : Outside) → walk.WritesFiles → IsCut texts line old new → HasWriteFault walk old new
 cut_cause walk texts line old new writes (inl cut) = inr (writes, cut.cause)
 cut_cause walk texts line old new writes (inr cut) = inl cut.cause
 
 -- A job of a command that makes files of its source circuit: once all is made, it is done or cut off.
 module _ (aim : Aim) (words : SourceWords) (IsAccepted : Files → Type 0) (HasMade : Files → (List FileText → List ℕ → Type 0) → Type 0) where
-  abbrev walk : Walk
+  abbrev walk : CommandWalk
   walk = writing_walk aim words IsAccepted HasMade
 
   module _ (texts : List FileText) (line : List ℕ) (old mid new : ShelfSeen) (same : (out : SinkSeen) (ports : List PortSeen) → outside mid out ports ≡ outside old out ports) (few : mid.given ≤ MOST_BYTES) (given : new.given ≡ mid.given)

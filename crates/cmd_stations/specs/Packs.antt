@@ -12,7 +12,7 @@ use Rattle.ppc_file.specs.PackFile.{IsPackFile, IsPackFault, HasOneReading}
 use Rattle.run_text.specs.NamesValue.{NamesValue}
 use Rattle.run_text.specs.declared.event.Forms.{Forms}
 use Rattle.run_text.specs.declared.event.Forms.TheVariants as forms
-use Rattle.cmd_base.specs.Walk.{Reading, shelf_reading}
+use Rattle.cmd_base.specs.Walk.{FileReading, shelf_reading}
 use Rattle.cmd_base.specs.Refusals.{most_bytes, too_long}
 use Rattle.cmd_base.specs.declared.outcome.File.{File}
 use Rattle.cmd_base.specs.declared.outcome.File.TheVariants.{Netlist, Params, Script, Pack, Cert}
@@ -47,7 +47,7 @@ IsPackItself Pack = Unit {0}
 IsPackItself Cert = ⊥
 
 -- how it is read
-abbrev pub pack_reading : List ℕ → Reading
+abbrev pub pack_reading : List ℕ → FileReading
 pack_reading name = shelf_reading IsPackItself (λ file. name) Pack (λ files file. Unit {0}) (λ files. IsPackRefused files name) (λ files. IsPackSettled files name)
 
 -- what a script by these forms may name that is played on a pack, where the circuit has so many regular inputs

@@ -8,7 +8,7 @@ use Rattle.run_text.specs.declared.event.Forms.{Forms}
 use Rattle.run_text.specs.declared.event.Forms.TheVariants.{Run}
 use Rattle.param_list.specs.Parameters.{param_names}
 use Rattle.run_text.specs.ScriptText.{IsScript, HasOneReading}
-use Rattle.cmd_base.specs.Walk.{Reading, shelf_reading}
+use Rattle.cmd_base.specs.Walk.{FileReading, shelf_reading}
 use Rattle.cmd_base.specs.Refusals.{too_long}
 use Rattle.cmd_base.specs.declared.outcome.File.{File}
 use Rattle.cmd_base.specs.declared.outcome.File.TheVariants.{Netlist, Params, Script, Pack, Cert}
@@ -56,7 +56,7 @@ IsScriptFile Pack = ⊥
 IsScriptFile Cert = ⊥
 
 -- how it is read
-abbrev pub script_reading : List ℕ → NamesValue → Reading
+abbrev pub script_reading : List ℕ → NamesValue → FileReading
 script_reading name names = shelf_reading IsScriptFile (λ file. name) Script (λ files file. Unit {0}) (λ files. IsScriptRefused files name names) (λ files. IsScriptSettled files name names)
 
 -- the source circuit, the word that names the script, and its forms
@@ -97,5 +97,5 @@ scripted_word words Script = words.script
 scripted_word words file = source_word words.source file
 
 -- how its files are read
-abbrev pub scripted_reading : ScriptedWords → Reading
+abbrev pub scripted_reading : ScriptedWords → FileReading
 scripted_reading words = shelf_reading IsOfScripted (scripted_word words) Script (λ files. ReachesSource files words.source) (λ files. IsScriptedRefused files words) (λ files. IsScriptedSettled files words)

@@ -21,7 +21,7 @@ use Rattle.cmd_stations.specs.Texts.{HasText, IsLongText, IsNetlistText, Netlist
 use Rattle.cmd_stations.specs.Mapped.{AreLabelsBy, IsLeastMapping, IsMapped, Aim, IsBuilt, IsUnmade, IsChosen, IsUnchosen, IsUnmapped, ToGraph, ToLabels, ToTables, IsUnbuilt, IsUnlabelled}
 use Rattle.aig_build.specs.NetlistGraph.{HasOneGraph}
 use Rattle.aiger_io.specs.Reading.{HasRunsOf}
-use Rattle.cmd_base.specs.Walk.{Reading, shelf_reading}
+use Rattle.cmd_base.specs.Walk.{FileReading, shelf_reading}
 
 -- the rule by which cuts are chosen, the size of the tables, and the words that name the netlist and the parameters
 pub record SourceWords : Type 0 where
@@ -175,5 +175,5 @@ source_word words Netlist = words.netlist
 source_word words file = words.params
 
 -- how its files are read
-abbrev pub source_reading : Aim → SourceWords → Reading
+abbrev pub source_reading : Aim → SourceWords → FileReading
 source_reading aim words = shelf_reading IsOfSource (source_word words) Params (λ files. ReachesSource files words) (λ files. IsSourceRefused aim files words) (λ files. IsSourceSettled aim files words)

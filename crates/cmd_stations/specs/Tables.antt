@@ -18,7 +18,7 @@ use Rattle.cover_pick.specs.declared.rule.Rule.{Rule}
 use Rattle.cover_pick.specs.Template.{TemplateValue}
 use Rattle.cmd_stations.specs.declared.limits.TheConstants.{GRAPH_ROOM}
 use Rattle.cmd_stations.specs.declared.source.Source.{Source}
-use Rattle.cmd_stations.specs.declared.tables.Tables.{Tables}
+use Rattle.cmd_stations.specs.declared.tables.SourceTables.{SourceTables}
 use Rattle.cmd_stations.specs.declared.mapped.MappedSource.{MappedSource}
 use Rattle.ppc_pack.specs.declared.pack.PackParam.{PackParam}
 use Rattle.ppc_pack.specs.Pack.{inits_of}
@@ -34,7 +34,7 @@ use Rattle.cmd_stations.specs.Tunable.{IsTunable}
 use Rattle.cmd_stations.specs.declared.graphs.BuiltSource.{BuiltSource}
 use Rattle.cmd_stations.specs.declared.labelling.LabelledSource.{LabelledSource}
 use Rattle.blif_write.specs.Writable.{CanBeNamed}
-use Rattle.cmd_stations.specs.declared.drafts.Draft.{Draft}
+use Rattle.cmd_stations.specs.declared.drafts.WritableSource.{WritableSource}
 use Rattle.run_text.specs.EventValue.{event_values}
 use Rattle.cmd_stations.specs.declared.scripted.Scripted.{Scripted}
 use Rattle.cmd_stations.specs.Script.{ScriptedWords, HasScripted, IsScriptedSettled}
@@ -61,7 +61,7 @@ pub record HasTables (source : Source) (g : Aig) (t : TemplateValue) : Type 0 wh
   pub least : IsLeastMapping g k roots t
 
 -- the tables of a source circuit by a template of its graph: the pack of their bits, and their shape, which can be played and written; and the file of the pack is its own
-pub record AreMade (source : Source) (t : Tables) : Type 0 where
+pub record AreMade (source : Source) (t : SourceTables) : Type 0 where
   pub tunable : IsTunable source t.template t.pack
   pub names : map (λ (p : PackParam). p.name) t.pack.params ≡ param_names source.params.list
   pub inits : inits_of t.pack.params ≡ param_inits source.params.list
@@ -73,7 +73,7 @@ pub record AreMade (source : Source) (t : Tables) : Type 0 where
   pub file : IsPackFile (present_bytes t.pack) t.pack
 
 -- its tables by the chosen template
-pub record AreTables (rule : Rule) (source : Source) (k : ℕ) (t : Tables) : Type 0 where
+pub record AreTables (rule : Rule) (source : Source) (k : ℕ) (t : SourceTables) : Type 0 where
   pub mapped : IsMapped rule source k t.template
   pub least : IsLeastMapping mapped.graph k mapped.roots t.template
   pub made : AreMade source t
@@ -124,7 +124,7 @@ pub record ComesToLabels (files : Files) (words : SourceWords) (l : LabelledSour
   pub settled : IsSourceSettled ToLabels files words
 
 -- its source circuit was read and mapped to its tables, and its regular inputs stand at its places
-pub record IsDraft (d : Draft) : Type 0 where
+pub record IsDraft (d : WritableSource) : Type 0 where
   pub read : IsReadSource d.mapped.source
   pub made : AreMade d.mapped.source d.mapped.tables
   pub named : CanBeNamed d.mapped.source.netlist.flat d.mapped.source.params.list d.regular.items

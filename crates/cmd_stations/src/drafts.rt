@@ -18,7 +18,7 @@ use tl_io::Shelf;
 
 /// A mapped source circuit with everything that its files and its line need: the places of its regular inputs, and a buffer.
 #[derive(Drop)]
-pub struct Draft {
+pub struct WritableSource {
     pub mapped: MappedSource,
     pub regular: Vec<u32>,
     pub buf: LineBuf,
@@ -34,7 +34,7 @@ fn regular_places(alloc: Global, source: &Source) -> Result<Vec<u32>, AllocError
 }
 
 // The draft of a mapped source circuit.
-fn make_draft(alloc: Global, mapped: MappedSource) -> Result<Draft, AllocError>
+fn make_draft(alloc: Global, mapped: MappedSource) -> Result<WritableSource, AllocError>
     requires { IsReadSource mapped.source }
     ensures mapped { IfOk result (λ d. d.mapped ≡ mapped) }
     ensures named { IfOk result (λ d. CanBeNamed mapped.source.netlist.flat mapped.source.params.list d.regular.items) }
@@ -47,7 +47,7 @@ fn make_draft(alloc: Global, mapped: MappedSource) -> Result<Draft, AllocError>
         }
     };
     match LineBuf::make(alloc) {
-        Ok(buf) => Ok(Draft {
+        Ok(buf) => Ok(WritableSource {
             mapped,
             regular,
             buf,
@@ -67,7 +67,7 @@ pub fn read_draft<S: Shelf>(
     alloc: Global,
     words: &SourceWords,
     shelf: &mut S,
-) -> Result<Draft, Outcome>
+) -> Result<WritableSource, Outcome>
     requires least { 2 ≤ words.now.k }
     requires most { words.now.k ≤ MOST_LEAVES }
     ensures draft { IfOk result IsDraft }

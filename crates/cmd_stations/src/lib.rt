@@ -36,7 +36,7 @@ mod stop;
 mod tables;
 mod words;
 
-pub use drafts::{Draft, read_draft};
+pub use drafts::{WritableSource, read_draft};
 pub use files::read_file;
 pub use graphs::{BuiltSource, read_graph};
 pub use header::put_template_header;
@@ -53,5 +53,5 @@ pub use script::{list_events, read_script_file};
 pub use scripted::{Scripted, ScriptedWords, mapped_names, read_scripted};
 pub use source::{Source, latch_inits};
 pub use stop::Stop;
-pub use tables::Tables;
+pub use tables::SourceTables;
 pub use words::{SourceWords, read_source_words, source_name, table_size};

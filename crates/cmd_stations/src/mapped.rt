@@ -11,7 +11,7 @@ ghost use Rattle.cmd_stations.specs.Tables.{IsReadSource, AreTables, ComesPast};
 use crate::mapping::map_source;
 use crate::params::read_source;
 use crate::source::Source;
-use crate::tables::Tables;
+use crate::tables::SourceTables;
 use crate::words::SourceWords;
 use cmd_base::{File, Outcome};
 use std::alloc::Global;
@@ -21,7 +21,7 @@ use tl_io::Shelf;
 #[derive(Drop)]
 pub struct MappedSource {
     pub source: Source,
-    pub tables: Tables,
+    pub tables: SourceTables,
 }
 
 /// Reads a source circuit, and maps it.

@@ -20,7 +20,7 @@ ghost use Rattle.cmd_stations.specs.Tables.{HasTables, IsReadSource, AreMade, Ar
 use crate::graphs::source_graph;
 use crate::source::Source;
 use crate::stop::Stop;
-use crate::tables::Tables;
+use crate::tables::SourceTables;
 use aig_core::{Graph, Roots};
 use bit_fun::functions;
 use cover_pick::{Rule, Template, pick, pick_compact};
@@ -104,7 +104,7 @@ fn tabulate(
     source: &Source,
     graph: &Graph,
     template: Template,
-) -> Result<Tables, AllocError>
+) -> Result<SourceTables, AllocError>
     requires read { IsReadSource source.now }
     requires normal { AreNormal (first_and graph.now) graph.now.pairs }
     requires tables { HasTables source.now graph.now template }
@@ -114,7 +114,7 @@ fn tabulate(
 {
     let pack = functions(alloc, graph, &template, &source.params)?;
     let shape = source_shape(graph, source);
-    Ok(Tables {
+    Ok(SourceTables {
         template,
         pack,
         shape,
@@ -125,7 +125,7 @@ fn tabulate(
 ///
 /// # Errors
 /// `Refused` for the first limit that its graph exceeds; `Memory` if memory runs out.
-pub fn map_source(alloc: Global, rule: Rule, source: &Source, k: u8) -> Result<Tables, Stop>
+pub fn map_source(alloc: Global, rule: Rule, source: &Source, k: u8) -> Result<SourceTables, Stop>
     requires least { 2 ≤ k }
     requires most { k ≤ MOST_LEAVES }
     requires read { IsReadSource source.now }

@@ -8,12 +8,16 @@ ghost use Rattle.cmd_stations.specs.WrittenFiles.{specialised_text, RunsSpeciali
 ghost use Rattle.cmd_stations.specs.FileWrites.{WritesFile};
 ghost use Rattle.cmd_stations.specs.Tables.{IsDraft};
 
-use crate::drafts::Draft;
+use crate::drafts::WritableSource;
 use blif_write::{specialised, template};
 use tl_io::{Failed, FileSink, Shelf, Sink};
 
 // Writes the netlist of the LUTs under a configuration.
-fn put_specialised<O: Sink>(draft: &Draft, config: &[bool], out: &mut O) -> Result<(), Failed>
+fn put_specialised<O: Sink>(
+    draft: &WritableSource,
+    config: &[bool],
+    out: &mut O,
+) -> Result<(), Failed>
     requires { IsDraft draft.now }
     ensures { IsPut (O.seen out.old) (netlist_text (specialised_of draft.now.mapped.source draft.now.mapped.tables.template config.now)) (O.seen out.new) result }
 {
@@ -29,7 +33,7 @@ fn put_specialised<O: Sink>(draft: &Draft, config: &[bool], out: &mut O) -> Resu
 }
 
 // Writes the netlist of the LUTs with their bits as inputs.
-fn put_template<O: Sink>(draft: &Draft, out: &mut O) -> Result<(), Failed>
+fn put_template<O: Sink>(draft: &WritableSource, out: &mut O) -> Result<(), Failed>
     requires { IsDraft draft.now }
     ensures { IsPut (O.seen out.old) (netlist_text (template_of draft.now.mapped.source draft.now.mapped.tables.template)) (O.seen out.new) result }
 {
@@ -52,7 +56,7 @@ fn put_template<O: Sink>(draft: &Draft, out: &mut O) -> Result<(), Failed>
 /// `Failed` only if the count of write faults rose. The file then is unchanged or empty, or has a prefix of its bytes that is
 /// not all of them.
 pub fn write_specialised<S: Shelf>(
-    draft: &Draft,
+    draft: &WritableSource,
     config: &[bool],
     name: &str,
     shelf: &mut S,
@@ -76,7 +80,11 @@ pub fn write_specialised<S: Shelf>(
 /// # Errors
 /// `Failed` only if the count of write faults rose. The file then is unchanged or empty, or has a prefix of its bytes that is
 /// not all of them.
-pub fn write_template<S: Shelf>(draft: &Draft, name: &str, shelf: &mut S) -> Result<(), Failed>
+pub fn write_template<S: Shelf>(
+    draft: &WritableSource,
+    name: &str,
+    shelf: &mut S,
+) -> Result<(), Failed>
     requires { IsDraft draft.now }
     ensures cause { HasCause (S.seen shelf.old).write_faults (S.seen shelf.new).write_faults result }
     ensures written { WritesFile (template_text draft.now.mapped name.now) (S.seen shelf.old).files (S.seen shelf.new).files result }

@@ -13,7 +13,7 @@ use crate::stop::Stop;
 use cmd_base::{File, Outcome};
 use ppc_file::decode;
 use ppc_pack::{Pack, PackParam};
-use run_text::{Forms, Names};
+use run_text::{Forms, ScriptNames};
 use std::alloc::{AllocError, Global};
 use tl_io::Shelf;
 use tl_text::Name;
@@ -78,13 +78,13 @@ pub fn script_names(
     forms: Forms,
     pack: &Pack,
     width: Option<u32>,
-) -> Result<Names, AllocError>
+) -> Result<ScriptNames, AllocError>
     ensures names { IfOk result (λ names. names ≡ names_on forms pack.now width) }
     ensures kept { IsPack pack.now.params pack.now.graph pack.now.bits }
 {
     let params = names_of_params(alloc, pack.params())?;
     let bits = bit_count(pack);
-    Ok(Names {
+    Ok(ScriptNames {
         forms,
         params,
         width,

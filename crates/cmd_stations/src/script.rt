@@ -16,7 +16,7 @@ ghost use Rattle.cmd_stations.specs.Script.{HasScript, IsScriptSettled, script_r
 use crate::files::read_file;
 use crate::stop::Stop;
 use cmd_base::{File, Outcome};
-use run_text::{Event, Names, read_script};
+use run_text::{Event, ScriptNames, read_script};
 use std::alloc::Global;
 use tl_io::Shelf;
 
@@ -24,7 +24,7 @@ use tl_io::Shelf;
 ///
 /// # Errors
 /// `Refused` with the refusal of the text; `Memory` if memory runs out.
-pub fn list_events(alloc: Global, text: &[u8], names: &Names) -> Result<Vec<Event>, Stop>
+pub fn list_events(alloc: Global, text: &[u8], names: &ScriptNames) -> Result<Vec<Event>, Stop>
     requires short { length text.now ≤ MOST_BYTES }
     requires few { length names.now.params ≤ MOST_PARAMETERS }
     requires once { AreOnce names.now.params }
@@ -44,7 +44,7 @@ pub fn list_events(alloc: Global, text: &[u8], names: &Names) -> Result<Vec<Even
 pub fn read_script_file<S: Shelf>(
     alloc: Global,
     name: &str,
-    names: &Names,
+    names: &ScriptNames,
     shelf: &mut S,
 ) -> Result<Vec<Event>, Outcome>
     requires few { length names.now.params ≤ MOST_PARAMETERS }

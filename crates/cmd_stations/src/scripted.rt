@@ -14,7 +14,7 @@ use crate::packs::script_names;
 use crate::script::read_script_file;
 use crate::words::SourceWords;
 use cmd_base::Outcome;
-use run_text::{Event, Forms, Names};
+use run_text::{Event, Forms, ScriptNames};
 use std::alloc::{AllocError, Global};
 use tl_io::Shelf;
 
@@ -36,7 +36,11 @@ pub struct Scripted {
 /// What the script of a mapped source circuit may name.
 ///
 /// `Err` only if memory runs out.
-pub fn mapped_names(alloc: Global, forms: Forms, mapped: &MappedSource) -> Result<Names, AllocError>
+pub fn mapped_names(
+    alloc: Global,
+    forms: Forms,
+    mapped: &MappedSource,
+) -> Result<ScriptNames, AllocError>
     requires { AreMade mapped.now.source mapped.now.tables }
     ensures { IfOk result (λ names. names ≡ names_in forms mapped.now.source mapped.now.tables.template.bits) }
 {

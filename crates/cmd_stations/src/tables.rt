@@ -5,7 +5,7 @@ use ppc_pack::Pack;
 
 /// The LUTs of a source circuit: their template, the pack of their bits, and the shape of the circuit's sources.
 #[derive(Drop)]
-pub struct Tables {
+pub struct SourceTables {
     pub template: Template,
     pub pack: Pack,
     pub shape: Shape,

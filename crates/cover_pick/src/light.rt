@@ -11,7 +11,7 @@ ghost use Rattle.cover_pick.specs.Picked.{CanMakeTables, IsPastSharing};
 use crate::cuts::ChosenCuts;
 use crate::free::free_nodes;
 use crate::lut::PickErr;
-use crate::tables::{Tables, make_tables};
+use crate::tables::{LutList, make_tables};
 use crate::work::limit_work;
 use aig_core::{Graph, Lit};
 use std::alloc::Global;
@@ -25,7 +25,7 @@ pub fn apart_tables(
     graph: &Graph,
     cuts: &ChosenCuts,
     roots: &[Lit],
-) -> Result<Tables, PickErr>
+) -> Result<LutList, PickErr>
     requires { CanMakeTables graph.now (lits_of roots.now) cuts.now }
     ensures ok { IfOk result (λ made. made ≡ tables_of graph.now (lits_of roots.now) cuts.now) }
     ensures light { IfOk result (λ made. IsWithin graph.now (λ n. ⊥) made.luts) }
@@ -46,7 +46,7 @@ pub fn sharing_tables(
     graph: &Graph,
     cuts: &ChosenCuts,
     roots: &[Lit],
-) -> Result<Tables, PickErr>
+) -> Result<LutList, PickErr>
     requires { CanMakeTables graph.now (lits_of roots.now) cuts.now }
     ensures ok { IfOk result (λ made. made ≡ tables_of graph.now (lits_of roots.now) cuts.now) }
     ensures light { IfOk result (λ made. IsWithin graph.now (IsFree graph.now made.luts) made.luts) }

@@ -14,7 +14,7 @@ use crate::flow::fan_outs;
 use crate::light::sharing_tables;
 use crate::lut::PickErr;
 use crate::rounds::{cheaper, six_rounds};
-use crate::tables::Tables;
+use crate::tables::LutList;
 use crate::uses::{needed_nodes, uses};
 use aig_core::{Graph, Lit};
 use bounded_cuts::{Wanted, bounded_sets};
@@ -58,7 +58,7 @@ pub fn cheapest_tables(
     labels: &NodeLabels,
     lows: &[FlatCut],
     roots: &[Lit],
-) -> Result<Tables, PickErr>
+) -> Result<LutList, PickErr>
     requires sets { CanMakeSets graph.now k labels.now lows.now }
     requires roots { AreRoots graph.now (lits_of roots.now) }
     ensures { ArePicked (Sets k (low_in lows.now)) graph.now (label_at labels.now) (lits_of roots.now) result }

@@ -19,12 +19,12 @@ use std::marker::Model;
 
 /// LUTs, and the sum of their bits.
 #[derive(Drop)]
-pub struct Tables {
+pub struct LutList {
     pub luts: Vec<Lut>,
     pub bits: u32,
 }
 
-impl Model for Tables {
+impl Model for LutList {
     ghost use Rattle.cover_pick.specs.Marks.{Made};
 
     ghost Value = { Made };
@@ -66,7 +66,7 @@ pub fn table_bits(leaves: usize) -> u32
 }
 
 // Appends a LUT, unless the bits would exceed the limit on the work, which is no less than they are.
-fn add_table(made: &mut Tables, lit: Lit, leaves: Cut) -> Result<(), PickErr>
+fn add_table(made: &mut LutList, lit: Lit, leaves: Cut) -> Result<(), PickErr>
     requires bits { made.old.bits ≤ MOST_WORK }
     ensures ok { OnOk result (made.new ≡ with_table made.old lit.0 (Some leaves)) }
     ensures within { OnOk result (made.new.bits ≤ MOST_WORK) }
@@ -87,7 +87,7 @@ fn add_marked(
     alloc: Global,
     graph: &Graph,
     cuts: &ChosenCuts,
-    made: &mut Tables,
+    made: &mut LutList,
     lit: Lit,
     needed: bool,
 ) -> Result<(), PickErr>
@@ -112,13 +112,13 @@ fn marked_tables(
     graph: &Graph,
     cuts: &ChosenCuts,
     marks: &[bool],
-) -> Result<Tables, PickErr>
+) -> Result<LutList, PickErr>
     requires { length marks.now ≡ 2 * node_count graph.now }
     ensures ok { IfOk result (λ made. made ≡ tables_from graph.now cuts.now (record { luts = []; bits = 0 }) 0 marks.now) }
     ensures err { IfErr result (OrMemory refusal_of (λ _. MOST_WORK < (tables_from graph.now cuts.now (record { luts = []; bits = 0 }) 0 marks.now).bits)) }
 {
     let _count = graph.len();
-    let mut made = Tables {
+    let mut made = LutList {
         luts: Vec::new(alloc),
         bits: 0,
     };
@@ -136,7 +136,7 @@ pub fn make_tables(
     graph: &Graph,
     cuts: &ChosenCuts,
     roots: &[Lit],
-) -> Result<Tables, PickErr>
+) -> Result<LutList, PickErr>
     requires cuts { length cuts.now ≡ node_count graph.now }
     requires roots { AreRoots graph.now (lits_of roots.now) }
     requires leaves { (c : List ℕ) (m : ℕ) → In cuts.now (Some c) → In c m → m < node_count graph.now }

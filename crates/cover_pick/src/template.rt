@@ -20,7 +20,7 @@ use crate::light::apart_tables;
 use crate::lut::{Lut, PickErr};
 use crate::makings::cheapest_tables;
 use crate::rule::Rule;
-use crate::tables::Tables;
+use crate::tables::LutList;
 use crate::target::target;
 use aig_core::{Graph, Lit, Roots};
 use bounded_cuts::set_laws;
@@ -65,7 +65,7 @@ fn fewest_tables(
     table: &CutTable,
     labels: &Labels,
     roots: &[Lit],
-) -> Result<Tables, PickErr>
+) -> Result<LutList, PickErr>
     requires { CanPickFewest graph.now table.now labels.now (lits_of roots.now) }
     ensures { ArePicked (Rows table.now) graph.now (label_of labels.now) (lits_of roots.now) result }
 {
@@ -90,7 +90,7 @@ fn template_of(
     labels: &NodeLabels,
     roots: &Roots,
     all: &[Lit],
-    made: Tables,
+    made: LutList,
 ) -> Result<Template, AllocError>
     requires all { lits_of all.now ≡ roots_of roots.now }
     requires roots { AreRoots graph.now (roots_of roots.now) }
@@ -116,7 +116,7 @@ fn template_for(
     labels: &NodeLabels,
     roots: &Roots,
     all: &[Lit],
-    picked: Result<Tables, PickErr>,
+    picked: Result<LutList, PickErr>,
 ) -> Result<Template, PickErr>
     requires all { lits_of all.now ≡ roots_of roots.now }
     requires roots { AreRoots graph.now (roots_of roots.now) }

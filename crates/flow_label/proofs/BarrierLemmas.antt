@@ -1,5 +1,5 @@
 -- What blocks a node: the ends do, and so does what a blocked search has met and not passed, which is no more than there are paths.
-use Rattle.flow_label.proofs.Common.{◌≡◌, ℕ, zero, suc, cond, ltb, choose, take, slice_get-get_or, ◌+◌, ◌<◌, ◌≤◌, Bool, true, false, List, [], ◌∷◌, ◌++◌, length, get_or, map, refl, sym, ap, ◌∙◌, subst, inl, inr, eqb, arith, length-append, eqb-true, eqb-false, cases_lt, cases_Bool, source_below, Regular, IsAnd, In, Within, IsAscending, Blocks, member, AreApart, joined_apart, apart_short, In-append, In-map, In-place, from_map, union, ascending_of, unmarked, IsLowCut, Net, IsInner, IsUpper, IsEnd, IsNet, AreEnds, IsChoice, HasChosen, IsLinked, IsHandedOn, AreMet, ArePassed, SiteValue, net_of, owner_in, AreLinks, IsBlocked, label_at}
+use Rattle.flow_label.proofs.Common.{◌≡◌, ℕ, zero, suc, cond, ltb, choose, take, slice_get-get_or, ◌+◌, ◌<◌, ◌≤◌, Bool, true, false, List, [], ◌∷◌, ◌++◌, length, get_or, map, refl, sym, ap, ◌∙◌, subst, inl, inr, eqb, arith, length-append, eqb-true, eqb-false, cases_lt, cases_Bool, source_below, Regular, IsAnd, In, Within, IsAscending, Blocks, member, AreApart, joined_apart, apart_short, In-append, In-map, In-place, from_map, union, ascending_of, unmarked, IsLowCut, FlowNet, IsInner, IsUpper, IsEnd, IsNet, AreEnds, IsChoice, HasChosen, IsLinked, IsHandedOn, AreMet, ArePassed, SiteValue, net_of, owner_in, AreLinks, IsBlocked, label_at}
 use Rattle.std.proofs.Common.{append-nil, drop, not}
 use Rattle.std.proofs.lemmas.Bool.{not-true}
 use Rattle.std.proofs.lemmas.List.{length-map}
@@ -23,7 +23,7 @@ mapped_apart f back (u ∷ us) d is = (
   mapped_apart f back us d.1 (λ v i. is v (inr i)),
 )
 
-module _ (net : Net) (is : IsNet net) (c : List ℕ) (by_ends : (u : ℕ) → IsEnd net u → Blocks net.graph c u) where
+module _ (net : FlowNet) (is : IsNet net) (c : List ℕ) (by_ends : (u : ℕ) → IsEnd net u → Blocks net.graph c u) where
   upper_and : (v : ℕ) → IsUpper net v → IsAnd net.graph v
   upper_and v (inl e) = subst (λ x. IsAnd net.graph x) (sym e) is.and
   upper_and v (inr u) = elim (is.readers.met v u.0).live [
@@ -52,7 +52,7 @@ module _ (net : Net) (is : IsNet net) (c : List ℕ) (by_ends : (u : ℕ) → Is
   node_blocked = upper_blocked (suc net.node) net.node (omega arith) (inl refl)
 
 -- The ends are a low cut, where they are few.
-pub ends_cut : (net : Net) → IsNet net → (k : ℕ) (ends : List ℕ) → AreEnds net ends → length (ascending_of ends) ≤ k → IsLowCut net.graph k net.node net.height net.label (ascending_of ends)
+pub ends_cut : (net : FlowNet) → IsNet net → (k : ℕ) (ends : List ℕ) → AreEnds net ends → length (ascending_of ends) ≤ k → IsLowCut net.graph k net.node net.height net.label (ascending_of ends)
 ends_cut net is k ends are few =
     let end_of : (m : ℕ) → In (union ends []) m → IsEnd net m = (λ m i. elim (In-union ends [] m i) [ inl j ↦ are.only m j | inr b ↦ absurd b ]) in
     record {
@@ -65,7 +65,7 @@ ends_cut net is k ends are few =
       low = λ m i. (end_of m i).low;
     }
 
-module _ (net : Net) (is : IsNet net) (owner chosen : ℕ → ℕ) (count : ℕ) (k : IsLinked net 0 owner chosen count) (queue backs marks : List ℕ) (met : AreMet net owner queue backs)
+module _ (net : FlowNet) (is : IsNet net) (owner chosen : ℕ → ℕ) (count : ℕ) (k : IsLinked net 0 owner chosen count) (queue backs marks : List ℕ) (met : AreMet net owner queue backs)
     (ends : (u : ℕ) → IsEnd net u → In queue u) (handed : (u : ℕ) → In queue u → IsHandedOn net owner queue u) (passes : ArePassed net owner queue [] marks) where
   -- does the node own it, or another one
   abbrev own : ℕ → Bool

@@ -1,11 +1,11 @@
 -- The ends of a net, as the definition of low cuts has them.
-use Rattle.flow_label.proofs.Common.{◌≡◌, ℕ, zero, suc, ◌+◌, ◌-◌, ◌<◌, ◌≤◌, List, [], length, subst, inl, inr, arith, ascending_of, Net, IsUpper, IsEnd, IsNet, AreEnds}
+use Rattle.flow_label.proofs.Common.{◌≡◌, ℕ, zero, suc, ◌+◌, ◌-◌, ◌<◌, ◌≤◌, List, [], length, subst, inl, inr, arith, ascending_of, FlowNet, IsUpper, IsEnd, IsNet, AreEnds}
 use Rattle.cut_sets.proofs.SetLemmas.{In-union, union_left, IsAscending-union}
 use Rattle.flow_label.specs.LowCuts.{IsFlowCut, by_walk, by_search}
 use Rattle.flow_label.specs.Lows.{IsDeep, top, down, IsEndOf, AreEndsOf, IsNearest}
 use Rattle.flow_label.proofs.GraphLemmas.{fan_in_below}
 
-module _ (net : Net) (is : IsNet net) (p : ℕ) (at : net.height ≡ p + 1) where
+module _ (net : FlowNet) (is : IsNet net) (p : ℕ) (at : net.height ≡ p + 1) where
   -- upper nodes are those through which a low cut is looked for
   upper_deep : (b v : ℕ) → net.node ≤ v + b → IsUpper net v → IsDeep net.graph net.label net.node p v
   upper_deep b v l (inl e) = top e
@@ -36,14 +36,14 @@ module _ (net : Net) (is : IsNet net) (p : ℕ) (at : net.height ≡ p + 1) wher
     all = λ u e. union_left ends [] u (are.all u (is_end u e));
   }
 
-height_at : (net : Net) → IsNet net → net.height ≡ (net.height - 1) + 1
+height_at : (net : FlowNet) → IsNet net → net.height ≡ (net.height - 1) + 1
 height_at net is = let h : 2 ≤ net.height = is.high in omega arith
 
 -- few ends are the low cut that is looked for
-pub walk_found : (net : Net) → IsNet net → (k : ℕ) (ends : List ℕ) → AreEnds net ends → length (ascending_of ends) ≤ k → IsFlowCut net.graph k net.label net.node (net.height - 1) (ascending_of ends)
+pub walk_found : (net : FlowNet) → IsNet net → (k : ℕ) (ends : List ℕ) → AreEnds net ends → length (ascending_of ends) ≤ k → IsFlowCut net.graph k net.label net.node (net.height - 1) (ascending_of ends)
 walk_found net is k ends are few = by_walk (ends_are net is (net.height - 1) (height_at net is) ends are) few
 
 -- and otherwise the nearest least one is
-pub search_found : (net : Net) → IsNet net → (k : ℕ) (ends c : List ℕ) → AreEnds net ends → k < length (ascending_of ends) → IsNearest net.graph k net.node net.height net.label c → IsFlowCut net.graph k net.label net.node (net.height - 1) c
+pub search_found : (net : FlowNet) → IsNet net → (k : ℕ) (ends c : List ℕ) → AreEnds net ends → k < length (ascending_of ends) → IsNearest net.graph k net.node net.height net.label c → IsFlowCut net.graph k net.label net.node (net.height - 1) c
 search_found net is k ends c are many near =
     by_search (record { ends = ascending_of ends; are = ends_are net is (net.height - 1) (height_at net is) ends are; many = many }) (subst (λ h. IsNearest net.graph k net.node h net.label c) (height_at net is) near)

@@ -1,11 +1,11 @@
 -- K + 1 paths of a matching show that no cut of at most K leaves is low.
-use Rattle.flow_label.proofs.Common.{◌≡◌, ℕ, zero, suc, ◌+◌, ◌<◌, ◌≤◌, List, [], ◌∷◌, length, get_or, refl, subst, inl, inr, arith, cases_eq, IsSource, Regular, In, Net, IsNet, SiteValue, net_of, IsLinked, next_of, IsWayTo, AreWays, owner_in, AreLinks, IsHigh, label_at, slice_get, Some, same_Some, none-some, ◌++◌}
+use Rattle.flow_label.proofs.Common.{◌≡◌, ℕ, zero, suc, ◌+◌, ◌<◌, ◌≤◌, List, [], ◌∷◌, length, get_or, refl, subst, inl, inr, arith, cases_eq, IsSource, Regular, In, FlowNet, IsNet, SiteValue, net_of, IsLinked, next_of, IsWayTo, AreWays, owner_in, AreLinks, IsHigh, label_at, slice_get, Some, same_Some, none-some, ◌++◌}
 use Rattle.cut_sets.specs.Paths.{ArePathsTo}
 use Rattle.cut_sets.proofs.PickLemmas.{paths_high}
 use Rattle.flow_label.proofs.GraphLemmas.{fan_in_below}
 use Rattle.flow_label.proofs.WayLemmas.{way_start, way_push, on_below, next_above, ways_share, ways_paths}
 
-module _ (net : Net) (is : IsNet net) (owner chosen : ℕ → ℕ) (count : ℕ) (k : IsLinked net 0 owner chosen count) where
+module _ (net : FlowNet) (is : IsNet net) (owner chosen : ℕ → ℕ) (count : ℕ) (k : IsLinked net 0 owner chosen count) where
   -- a way goes on up to the node
   way_up : (f s m : ℕ) (path : List ℕ) → net.node ≤ m + f → IsWayTo net owner s m path → (p : List ℕ) × IsWayTo net owner s net.node p
   way_up zero s m path top w =

@@ -1,26 +1,26 @@
 -- A node without an owner, and one choice after another, give one more path.
-use Rattle.flow_label.proofs.Common.{◌≡◌, ℕ, ◌+◌, ◌<◌, ◌≤◌, ◌∷◌, length, sym, ap, ◌∙◌, subst, inl, inr, ◌⊎◌, arith, cases_eq, In, Net, IsInner, IsEnd, IsChoice, HasChosen, IsLinked, IsUpdated, rules, true, cond, eqb, [], get_or, refl, eqb-false, cases_Bool, first_and, node_count, IsAnd, choose, SiteValue, net_of, is_inner, AreRouted, first_owner, owner_in, AreLinks, zeros, length-replicate, ◌-◌, List, ◌++◌, set, get_or-set_other, get_or-set_same, length-append, eqb-true, IsSource, Regular, In-get_or, In-push, pushed_apart, AreMet, CanTurn}
+use Rattle.flow_label.proofs.Common.{◌≡◌, ℕ, ◌+◌, ◌<◌, ◌≤◌, ◌∷◌, length, sym, ap, ◌∙◌, subst, inl, inr, ◌⊎◌, arith, cases_eq, In, FlowNet, IsInner, IsEnd, IsChoice, HasChosen, IsLinked, IsUpdated, rules, true, cond, eqb, [], get_or, refl, eqb-false, cases_Bool, first_and, node_count, IsAnd, choose, SiteValue, net_of, is_inner, AreRouted, first_owner, owner_in, AreLinks, zeros, length-replicate, ◌-◌, List, ◌++◌, set, get_or-set_other, get_or-set_same, length-append, eqb-true, IsSource, Regular, In-get_or, In-push, pushed_apart, AreMet, CanTurn}
 use Rattle.flow_label.proofs.GraphLemmas.{live_pos, live_inside}
 use Rattle.flow_label.proofs.StampLemmas.{zero_at}
 use Rattle.flow_label.proofs.OnceLemmas.{once_places}
 
 -- inner nodes and their choices are not the constant
-pub inner_pos : (net : Net) (a : ℕ) → IsInner net a → 0 < a
+pub inner_pos : (net : FlowNet) (a : ℕ) → IsInner net a → 0 < a
 inner_pos net a i = let l : 1 + length net.graph.kinds ≤ a = i.and.0 in omega arith
 
-pub choice_pos : (net : Net) (a u : ℕ) → IsInner net a → IsChoice net a u → 0 < u
+pub choice_pos : (net : FlowNet) (a u : ℕ) → IsInner net a → IsChoice net a u → 0 < u
 choice_pos net a u i (inl e) = let p : 0 < a = inner_pos net a i in omega arith
 choice_pos net a u i (inr f) = live_pos net.graph net.label u f.1
 
 -- a node without an owner is nobody's choice
-pub take_up : (net : Net) (owner chosen : ℕ → ℕ) (count u : ℕ) → IsLinked net 0 owner chosen count → 0 < net.node → owner u ≡ 0 → IsLinked net u owner chosen count
+pub take_up : (net : FlowNet) (owner chosen : ℕ → ℕ) (count u : ℕ) → IsLinked net 0 owner chosen count → 0 < net.node → owner u ≡ 0 → IsLinked net u owner chosen count
 take_up net owner chosen count u k pos free = search (rules, inner_pos)
 
 pub owned_kept : (owner owner' : ℕ → ℕ) (u a s : ℕ) → 0 < a → IsUpdated owner owner' u a → 0 < owner s → 0 < owner' s
 owned_kept owner owner' u a s pos new p = search (rules, cases_eq)
 
 -- The owner a of w chooses the loose node u in place of w, which is loose then.
-module _ (net : Net) (owner chosen owner' chosen' : ℕ → ℕ) (count u w a : ℕ) (k : IsLinked net u owner chosen count)
+module _ (net : FlowNet) (owner chosen owner' chosen' : ℕ → ℕ) (count u w a : ℕ) (k : IsLinked net u owner chosen count)
     (is : owner w ≡ a) (inner : IsInner net a) (choice : IsChoice net a u) (other : w ≡ u → ⊥)
     (new_owner : IsUpdated owner owner' u a) (new_chosen : IsUpdated chosen chosen' a u) where
   a_pos : 0 < a
@@ -70,7 +70,7 @@ module _ (net : Net) (owner chosen owner' chosen' : ℕ → ℕ) (count u w a : 
   }
 
 -- The node chooses the loose node as the end of one more path.
-module _ (net : Net) (owner chosen owner' : ℕ → ℕ) (count u : ℕ) (k : IsLinked net u owner chosen count) (end : IsEnd net u) (node : 0 < net.node) (pos : 0 < u)
+module _ (net : FlowNet) (owner chosen owner' : ℕ → ℕ) (count u : ℕ) (k : IsLinked net u owner chosen count) (end : IsEnd net u) (node : 0 < net.node) (pos : 0 < u)
     (new_owner : IsUpdated owner owner' u net.node) where
   end_owned : (v : ℕ) → 0 < owner' v → ((owner' v ≡ net.node) × IsEnd net v) ⊎ HasChosen net chosen (owner' v) v
   end_owned v p = search (rules, cases_eq)
@@ -147,7 +147,7 @@ owner_set s owners i v l pos = record {
 }
 
 -- In the middle of it: before the place j the owners are as they were, and the node at j is loose.
-pub record IsTurning (net : Net) (count : ℕ) (before : ℕ → ℕ) (queue : List ℕ) (from : ℕ) (owner : ℕ → ℕ) (j : ℕ) : Type 0 where
+pub record IsTurning (net : FlowNet) (count : ℕ) (before : ℕ → ℕ) (queue : List ℕ) (from : ℕ) (owner : ℕ → ℕ) (j : ℕ) : Type 0 where
   pub chosen : ℕ → ℕ
   pub linked : IsLinked net (get_or queue j 0) owner chosen count
   pub place : j < length queue
@@ -155,7 +155,7 @@ pub record IsTurning (net : Net) (count : ℕ) (before : ℕ → ℕ) (queue : L
   pub kept : (s : ℕ) → 0 < before s → 0 < owner s
   pub begun : (j ≡ from) ⊎ (0 < owner (get_or queue from 0))
 
-module _ (net : Net) (count : ℕ) (before : ℕ → ℕ) (queue backs : List ℕ) (from : ℕ) (s : AreMet net before queue backs) (place : from < length queue) where
+module _ (net : FlowNet) (count : ℕ) (before : ℕ → ℕ) (queue backs : List ℕ) (from : ℕ) (s : AreMet net before queue backs) (place : from < length queue) where
   -- what the search found of the node that is to be owned next
   pub record IsNext (owner : ℕ → ℕ) (j : ℕ) : Type 0 where
     pub back : get_or backs j 0 - 1 < j

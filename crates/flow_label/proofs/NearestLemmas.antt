@@ -3,7 +3,7 @@
 -- Let d be any low cut. Of the inner nodes, those that d blocks and does not have choose only nodes that d blocks. So what d does not block of
 -- the other inner nodes and of the starts is owned by these others, each by a different one. Therefore d has no fewer leaves than there are
 -- paths. If it has as few, the others own nothing that d blocks, and so d blocks all that the search has met.
-use Rattle.flow_label.proofs.Common.{◌≡◌, ℕ, zero, suc, ◌+◌, ◌-◌, ◌<◌, ◌≤◌, Bool, true, false, List, [], ◌∷◌, ◌++◌, length, get_or, map, refl, sym, subst, inl, inr, ◌⊎◌, arith, length-append, cases_lt, cases_eq, eqb, first_and, node_count, In, Blocks, AreApart, joined_apart, apart_short, In-append, In-place, In-get_or, from_map, ascending_of, unmarked, IsLowCut, Net, IsInner, IsUpper, IsEnd, IsNet, IsFanIn, IsChoice, HasChosen, IsLinked, AreStarts, AreMet, SiteValue, net_of, owner_in, AreLinks, IsBlocked, label_at}
+use Rattle.flow_label.proofs.Common.{◌≡◌, ℕ, zero, suc, ◌+◌, ◌-◌, ◌<◌, ◌≤◌, Bool, true, false, List, [], ◌∷◌, ◌++◌, length, get_or, map, refl, sym, subst, inl, inr, ◌⊎◌, arith, length-append, cases_lt, cases_eq, eqb, first_and, node_count, In, Blocks, AreApart, joined_apart, apart_short, In-append, In-place, In-get_or, from_map, ascending_of, unmarked, IsLowCut, FlowNet, IsInner, IsUpper, IsEnd, IsNet, IsFanIn, IsChoice, HasChosen, IsLinked, AreStarts, AreMet, SiteValue, net_of, owner_in, AreLinks, IsBlocked, label_at}
 use Rattle.std.proofs.Common.{not}
 use Rattle.std.proofs.lemmas.Bool.{not-true}
 use Rattle.std.proofs.lemmas.List.{length-map}
@@ -36,7 +36,7 @@ yes_is : {P : Type 0} (d : P ⊎ (P → ⊥)) → P → yes d ≡ true
 yes_is (inl p) q = refl
 yes_is (inr n) q = absurd (n q)
 
-decide_inner : (net : Net) (a : ℕ) → IsInner net a ⊎ (IsInner net a → ⊥)
+decide_inner : (net : FlowNet) (a : ℕ) → IsInner net a ⊎ (IsInner net a → ⊥)
 decide_inner net a = elim (cases_lt a (first_and net.graph)) [
   | inl s ↦ inr (λ i. let f : first_and net.graph ≤ a = i.and.0 in absurd (omega arith))
   | inr f ↦ elim (cases_lt a (node_count net.graph)) [
@@ -54,7 +54,7 @@ decide_inner net a = elim (cases_lt a (first_and net.graph)) [
   ]
 ]
 
-module _ (net : Net) (is : IsNet net) (owner chosen : ℕ → ℕ) (count : ℕ) (k : IsLinked net 0 owner chosen count) (starts : List ℕ) (begin : AreStarts net owner starts) (size : length starts ≡ count)
+module _ (net : FlowNet) (is : IsNet net) (owner chosen : ℕ → ℕ) (count : ℕ) (k : IsLinked net 0 owner chosen count) (starts : List ℕ) (begin : AreStarts net owner starts) (size : length starts ≡ count)
     (most : ℕ) (d : List ℕ) (is_low : IsLowCut net.graph most net.node net.height net.label d) where
   -- d has no upper node, so it blocks what these read
   upper_out : (v : ℕ) → IsUpper net v → In d v → ⊥

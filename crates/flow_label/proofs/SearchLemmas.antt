@@ -1,5 +1,5 @@
 -- The search, step by step.
-use Rattle.flow_label.proofs.Common.{◌≡◌, ℕ, ◌+◌, ◌-◌, ◌<◌, ◌≤◌, Bool, true, false, List, [], ◌∷◌, ◌++◌, length, get_or, set, refl, sym, ap, ◌∙◌, subst, inl, inr, ◌⊎◌, arith, length-append, get_or-set_other, get_or-set_same, length-set, cases_eq, cases_lt, get_or_push, get_or-append, node_count, In, In-append, In-get_or, In-left, In-right, In-push, IsLive, IsFanIn, pushed_apart, Net, IsLow, IsInner, IsEnd, IsNet, IsChoice, IsLinked, ComesFrom, IsHandedOn, AreMet, IsSearching, Extends, zeros, length-replicate}
+use Rattle.flow_label.proofs.Common.{◌≡◌, ℕ, ◌+◌, ◌-◌, ◌<◌, ◌≤◌, Bool, true, false, List, [], ◌∷◌, ◌++◌, length, get_or, set, refl, sym, ap, ◌∙◌, subst, inl, inr, ◌⊎◌, arith, length-append, get_or-set_other, get_or-set_same, length-set, cases_eq, cases_lt, get_or_push, get_or-append, node_count, In, In-append, In-get_or, In-left, In-right, In-push, IsLive, IsFanIn, pushed_apart, FlowNet, IsLow, IsInner, IsEnd, IsNet, IsChoice, IsLinked, ComesFrom, IsHandedOn, AreMet, IsSearching, Extends, zeros, length-replicate}
 use Rattle.std.proofs.lemmas.Bool.{false≢true}
 use Rattle.flow_label.specs.Search.{HasMet, free, old, end, new}
 use Rattle.flow_label.proofs.GraphLemmas.{fan_in_below, live_inside, live_pos}
@@ -7,7 +7,7 @@ use Rattle.flow_label.proofs.OnceLemmas.{once_few}
 use Rattle.flow_label.proofs.StampLemmas.{zero_at}
 
 -- all choices that were met are met still
-handed_more : (net : Net) (owner : ℕ → ℕ) (queue queue' : List ℕ) (u : ℕ) → ((x : ℕ) → In queue x → In queue' x) → IsHandedOn net owner queue u → IsHandedOn net owner queue' u
+handed_more : (net : FlowNet) (owner : ℕ → ℕ) (queue queue' : List ℕ) (u : ℕ) → ((x : ℕ) → In queue x → In queue' x) → IsHandedOn net owner queue u → IsHandedOn net owner queue' u
 handed_more net owner queue queue' u part (inl e) = inl e
 handed_more net owner queue queue' u part (inr h) = inr (h.0, (λ m c. part m (h.1 m c)))
 
@@ -30,10 +30,10 @@ extends_twice a b c e f = record {
 }
 
 -- a search meets no more nodes than there are
-pub met_short : (net : Net) (owner : ℕ → ℕ) (queue backs : List ℕ) → AreMet net owner queue backs → length queue ≤ net.node
+pub met_short : (net : FlowNet) (owner : ℕ → ℕ) (queue backs : List ℕ) → AreMet net owner queue backs → length queue ≤ net.node
 met_short net owner queue backs s = once_few queue net.node s.once (λ m i. (s.nodes m i).0)
 
-module _ (net : Net) (owner : ℕ → ℕ) where
+module _ (net : FlowNet) (owner : ℕ → ℕ) where
   -- places that are as before
   comes_same : (queue queue' : List ℕ) (back back' j : ℕ) → back' ≡ back → ((i : ℕ) → i ≤ j → get_or queue' i 0 ≡ get_or queue i 0) → ComesFrom net owner queue back j → ComesFrom net owner queue' back' j
   comes_same queue queue' back back' j e same c =
@@ -273,7 +273,7 @@ module _ (net : Net) (owner : ℕ → ℕ) where
         | inr h ↦ h.inner
       ]
 
-module _ (net : Net) (owner : ℕ → ℕ) (is : IsNet net) (a : ℕ) (inner : IsInner net a) where
+module _ (net : FlowNet) (owner : ℕ → ℕ) (is : IsNet net) (a : ℕ) (inner : IsInner net a) where
   -- what an inner node may choose can be met
   pub choice_node : (m : ℕ) → IsChoice net a m → IsLive net.graph net.label m → (m < net.node) × IsLive net.graph net.label m × IsLow net m
   choice_node m (inl e) l = ((let b : a < net.node = inner.below in omega arith), l, subst (λ x. IsLow net x) (sym e) inner.low)
@@ -290,14 +290,14 @@ module _ (net : Net) (owner : ℕ → ℕ) (is : IsNet net) (a : ℕ) (inner : I
   fan_in_node m f l = choice_node m (inr (f, l)) l
 
 -- an end can be met
-pub end_node : (net : Net) → IsNet net → (m : ℕ) → IsEnd net m → IsLive net.graph net.label m → (m < net.node) × IsLive net.graph net.label m × IsLow net m
+pub end_node : (net : FlowNet) → IsNet net → (m : ℕ) → IsEnd net m → IsLive net.graph net.label m → (m < net.node) × IsLive net.graph net.label m × IsLow net m
 end_node net is m e l = ((is.readers.met m e.met).below, l, e.low)
 
-pub end_live : (net : Net) → IsNet net → (m : ℕ) → IsEnd net m → IsLive net.graph net.label m
+pub end_live : (net : FlowNet) → IsNet net → (m : ℕ) → IsEnd net m → IsLive net.graph net.label m
 end_live net is m e = (is.readers.met m e.met).live
 
 -- a search that has met nothing
-pub search_begun : (net : Net) (owner : ℕ → ℕ) (a b : ℕ) → a ≡ node_count net.graph → b ≡ node_count net.graph → IsSearching net owner (zeros a) [] [] (zeros b) []
+pub search_begun : (net : FlowNet) (owner : ℕ → ℕ) (a b : ℕ) → a ≡ node_count net.graph → b ≡ node_count net.graph → IsSearching net owner (zeros a) [] [] (zeros b) []
 search_begun net owner a b e f = record {
   met = record { once = tt; nodes = λ u i. absurd i; count = refl; whence = λ j l. absurd (omega arith) };
   owned = λ u i. absurd i;

@@ -1,5 +1,5 @@
 -- The walk down through deep nodes, reading by reading.
-use Rattle.flow_label.proofs.Common.{◌≡◌, ℕ, ◌+◌, ◌/◌, ◌<◌, ◌≤◌, List, [], ◌∷◌, ◌++◌, length, get_or, set, get_or-set_other, get_or-set_same, length-set, length-append, refl, sym, ap, ◌∙◌, subst, inl, inr, ◌⊎◌, arith, cases_eq, cases_lt, get_or-append, Aig, first_and, node_count, IsAnd, IsNode, AreNormal, Pair, In, In-get_or, In-left, In-right, In-push, IsLive, AreKnownTo, label_at, source_below, Regular, IsFanIn, first, second, pushed_apart, In-place, Net, net_at, IsUpper, IsEnd, IsMet, AreReaders}
+use Rattle.flow_label.proofs.Common.{◌≡◌, ℕ, ◌+◌, ◌/◌, ◌<◌, ◌≤◌, List, [], ◌∷◌, ◌++◌, length, get_or, set, get_or-set_other, get_or-set_same, length-set, length-append, refl, sym, ap, ◌∙◌, subst, inl, inr, ◌⊎◌, arith, cases_eq, cases_lt, get_or-append, Aig, first_and, node_count, IsAnd, IsNode, AreNormal, Pair, In, In-get_or, In-left, In-right, In-push, IsLive, AreKnownTo, label_at, source_below, Regular, IsFanIn, first, second, pushed_apart, In-place, FlowNet, net_at, IsUpper, IsEnd, IsMet, AreReaders}
 use Rattle.flow_label.specs.Walks.{HasRead, free, again, low, deep, IsWalked}
 use Rattle.flow_label.proofs.OnceLemmas.{once_few}
 use Rattle.flow_label.proofs.GraphLemmas.{fan_in_below, fan_in_cases, live_inside}
@@ -193,12 +193,12 @@ module _ (g : Aig) (ls : List ℕ) (n h : ℕ) (normal : AreNormal (first_and g)
   read_size m v readers uppers ends readers' uppers' ends' (deep live fresh l r u e) = ap length r ∙ length-set readers m v
 
 -- all upper nodes have read
-pub walk_all : (net : Net) (uppers ends : List ℕ) (done : ℕ) → IsWalked net uppers ends done → length uppers ≤ done → AreReaders net
+pub walk_all : (net : FlowNet) (uppers ends : List ℕ) (done : ℕ) → IsWalked net uppers ends done → length uppers ≤ done → AreReaders net
 walk_all net uppers ends done w all = record {
   met = w.met;
   all = λ m v u f live. let r = In-place uppers v (w.uppers_are.all v u) in let l : r.0 < length uppers = r.1 in w.read r.0 m (omega arith) (subst (λ x. IsFanIn net.graph m x) (sym r.2) f) live;
 }
 
 -- there are no more upper nodes than nodes
-pub uppers_short : (net : Net) (uppers ends : List ℕ) (done : ℕ) → IsWalked net uppers ends done → length uppers ≤ net.node + 1
+pub uppers_short : (net : FlowNet) (uppers ends : List ℕ) (done : ℕ) → IsWalked net uppers ends done → length uppers ≤ net.node + 1
 uppers_short net uppers ends done w = once_few uppers (net.node + 1) w.uppers_are.once (λ x i. let l : x ≤ net.node = (w.uppers_are.only x i).2 in omega arith)

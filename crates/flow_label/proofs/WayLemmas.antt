@@ -1,15 +1,15 @@
 -- The ways up from the starts are paths, and share no low node.
-use Rattle.flow_label.proofs.Common.{◌≡◌, ℕ, ◌+◌, ◌<◌, ◌≤◌, cond, ltb, List, [], ◌∷◌, ◌++◌, length, get_or, Some, refl, sym, ap, ◌∙◌, subst, inl, inr, eqb, arith, length-append, eqb-true, eqb-false, ltb-true, ltb-false, cases_lt, IsAnd, IsSource, Regular, In, choose, In-get_or, In-push, place_in, get_pushed, slice_get, slice_get_within, IsLive, source_below, IsFanIn, IsPath, Net, IsLow, IsInner, IsUpper, IsNet, IsChoice, HasChosen, IsLinked, AreStarts, next_of, IsOnWay, low, upper, Passes, start, onward, IsWayTo, AreWays, AreWaysTo, ◌≢◌}
+use Rattle.flow_label.proofs.Common.{◌≡◌, ℕ, ◌+◌, ◌<◌, ◌≤◌, cond, ltb, List, [], ◌∷◌, ◌++◌, length, get_or, Some, refl, sym, ap, ◌∙◌, subst, inl, inr, eqb, arith, length-append, eqb-true, eqb-false, ltb-true, ltb-false, cases_lt, IsAnd, IsSource, Regular, In, choose, In-get_or, In-push, place_in, get_pushed, slice_get, slice_get_within, IsLive, source_below, IsFanIn, IsPath, FlowNet, IsLow, IsInner, IsUpper, IsNet, IsChoice, HasChosen, IsLinked, AreStarts, next_of, IsOnWay, low, upper, Passes, start, onward, IsWayTo, AreWays, AreWaysTo, ◌≢◌}
 use Rattle.flow_label.proofs.OnceLemmas.{once_places}
 use Rattle.flow_label.proofs.GraphLemmas.{fan_in_below, live_pos, source_not_and, path_push, path_last}
 
 -- one step up
-record IsStep (net : Net) (owner : ℕ → ℕ) (m x : ℕ) : Type 0 where
+record IsStep (net : FlowNet) (owner : ℕ → ℕ) (m x : ℕ) : Type 0 where
   reads : IsFanIn net.graph m x
   on : IsOnWay net owner x
   by_owner : (x ≡ net.node → ⊥) → IsLow net x → IsLow net m × (owner m ≡ x) × IsInner net x
 
-module _ (net : Net) (is : IsNet net) (owner chosen : ℕ → ℕ) (count : ℕ) (k : IsLinked net 0 owner chosen count) where
+module _ (net : FlowNet) (is : IsNet net) (owner chosen : ℕ → ℕ) (count : ℕ) (k : IsLinked net 0 owner chosen count) where
   live_zero : (u : ℕ) → IsLive net.graph net.label u → u ≡ 0 → ⊥
   live_zero u l e = let p : 0 < u = live_pos net.graph net.label u l in absurd (omega arith)
 
@@ -132,7 +132,7 @@ module _ (net : Net) (is : IsNet net) (owner chosen : ℕ → ℕ) (count : ℕ)
   on_below m (upper (inr u)) = let b : m < net.node = (is.readers.met m u.0).below in omega arith
 
 -- The paths of a linking share no low node.
-pub ways_share : (net : Net) → IsNet net → (owner chosen : ℕ → ℕ) (count : ℕ) → IsLinked net 0 owner chosen count → (starts : List ℕ) (paths : List (List ℕ)) → AreStarts net owner starts → AreWays net owner starts paths
+pub ways_share : (net : FlowNet) → IsNet net → (owner chosen : ℕ → ℕ) (count : ℕ) → IsLinked net 0 owner chosen count → (starts : List ℕ) (paths : List (List ℕ)) → AreStarts net owner starts → AreWays net owner starts paths
     → (i j m : ℕ) (p q : List ℕ) → i < j → slice_get paths i ≡ Some p → slice_get paths j ≡ Some q → In p m → In q m → m ≢ net.node → net.height ≤ net.label m + 1
 ways_share net is owner chosen count k starts paths s w i j m p q l e f a b other =
     let n : length paths ≡ length starts = w.count in
@@ -141,11 +141,11 @@ ways_share net is owner chosen count k starts paths s w i j m p q l e f a b othe
     (s.source (get_or starts i 0) (In-get_or starts i 0 (omega arith))) (s.source (get_or starts j 0) (In-get_or starts j 0 (omega arith)))
     (once_places starts i j s.once l (omega arith)) (w.each i p e) (w.each j q f) m a b other
 
-pub ways_paths : (net : Net) (owner : ℕ → ℕ) (starts : List ℕ) (paths : List (List ℕ)) → AreWays net owner starts paths → (p : List ℕ) → In paths p → IsPath net.graph net.node p
+pub ways_paths : (net : FlowNet) (owner : ℕ → ℕ) (starts : List ℕ) (paths : List (List ℕ)) → AreWays net owner starts paths → (p : List ℕ) → In paths p → IsPath net.graph net.node p
 ways_paths net owner starts paths w p i = let r = place_in paths p i in (w.each r.0 p r.1).is
 
 -- one more path
-pub ways_push : (net : Net) (owner : ℕ → ℕ) (starts : List ℕ) (limit : ℕ) (paths : List (List ℕ)) (path : List ℕ) → AreWaysTo net owner starts limit paths → IsWayTo net owner (get_or starts limit 0) net.node path → AreWaysTo net owner starts (limit + 1) (paths ++ path ∷ [])
+pub ways_push : (net : FlowNet) (owner : ℕ → ℕ) (starts : List ℕ) (limit : ℕ) (paths : List (List ℕ)) (path : List ℕ) → AreWaysTo net owner starts limit paths → IsWayTo net owner (get_or starts limit 0) net.node path → AreWaysTo net owner starts (limit + 1) (paths ++ path ∷ [])
 ways_push net owner starts limit paths path k w =
     let c : length paths ≡ limit = k.count in
     record {

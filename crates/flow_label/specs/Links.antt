@@ -10,20 +10,20 @@ use Rattle.list_laws.specs.Apart.{AreApart}
 use Rattle.list_laws.specs.Members.{In}
 use Rattle.flow_label.specs.Known.{IsLive}
 use Rattle.cut_sets.specs.Paths.{IsFanIn, IsPath}
-use Rattle.flow_label.specs.Net.{Net, SiteValue, net_of, is_inner, IsInner, IsEnd, IsLow, IsUpper}
+use Rattle.flow_label.specs.Net.{FlowNet, SiteValue, net_of, is_inner, IsInner, IsEnd, IsLow, IsUpper}
 
 -- what an inner node may choose: itself or a live node that it reads
-abbrev pub IsChoice : Net → ℕ → ℕ → Type 0
+abbrev pub IsChoice : FlowNet → ℕ → ℕ → Type 0
 IsChoice net a u = (u ≡ a) ⊎ (IsFanIn net.graph u a × IsLive net.graph net.label u)
 
 -- an inner node that has chosen u
-pub record HasChosen (net : Net) (chosen : ℕ → ℕ) (a u : ℕ) : Type 0 where
+pub record HasChosen (net : FlowNet) (chosen : ℕ → ℕ) (a u : ℕ) : Type 0 where
   pub inner : IsInner net a
   pub is : chosen a ≡ u
 
 -- Each inner node owns its choice, and each node that is owned is its owner's choice, apart from the loose one, which nobody has
 -- (0 is none). The node has chosen count ends.
-pub record IsLinked (net : Net) (loose : ℕ) (owner chosen : ℕ → ℕ) (count : ℕ) : Type 0 where
+pub record IsLinked (net : FlowNet) (loose : ℕ) (owner chosen : ℕ → ℕ) (count : ℕ) : Type 0 where
   pub none : owner 0 ≡ 0
   pub full : (a : ℕ) → IsInner net a → 0 < owner a
   pub choice : (a : ℕ) → IsInner net a → IsChoice net a (chosen a)
@@ -35,7 +35,7 @@ pub record IsLinked (net : Net) (loose : ℕ) (owner chosen : ℕ → ℕ) (coun
   pub count_ends : length ends ≡ count
 
 -- where the paths start: regular sources with an owner
-pub record AreStarts (net : Net) (owner : ℕ → ℕ) (starts : List ℕ) : Type 0 where
+pub record AreStarts (net : FlowNet) (owner : ℕ → ℕ) (starts : List ℕ) : Type 0 where
   pub once : AreApart starts
   pub source : (s : ℕ) → In starts s → IsSource net.graph Regular s
   pub owned : (s : ℕ) → In starts s → 0 < owner s
@@ -46,7 +46,7 @@ pub record IsUpdated (old new : ℕ → ℕ) (at value : ℕ) : Type 0 where
   pub elsewhere : (m : ℕ) → m ≢ at → new m ≡ old m
 
 -- the paths that there are: how they run, and where they start
-pub record AreRouted (net : Net) (owner chosen : ℕ → ℕ) (starts : List ℕ) : Type 0 where
+pub record AreRouted (net : FlowNet) (owner chosen : ℕ → ℕ) (starts : List ℕ) : Type 0 where
   pub linked : IsLinked net 0 owner chosen (length starts)
   pub begin : AreStarts net owner starts
 
@@ -65,30 +65,30 @@ pub record AreLinks (site : SiteValue) (owners starts : List ℕ) : Type 0 where
   pub size : length owners ≡ node_count site.graph
 
 -- the next node up: the owner of a low node, but for an end, and otherwise the reader
-abbrev pub next_of : Net → (ℕ → ℕ) → ℕ → ℕ
+abbrev pub next_of : FlowNet → (ℕ → ℕ) → ℕ → ℕ
 next_of net owner m = if nat_lt (net.label m + 1) net.height then (if owner m == net.node then net.reader m else owner m) else net.reader m
 
 -- a path comes to m: a low node that another one owns, or an upper one
-pub data IsOnWay (net : Net) (owner : ℕ → ℕ) (m : ℕ) : Type 0 where
+pub data IsOnWay (net : FlowNet) (owner : ℕ → ℕ) (m : ℕ) : Type 0 where
   low : IsLive net.graph net.label m → IsLow net m → 0 < owner m → owner m ≢ m → IsOnWay net owner m
   upper : IsUpper net m → IsOnWay net owner m
 
 -- the path that starts at s passes x, from owner to owner
-pub data Passes (net : Net) (owner : ℕ → ℕ) (s : ℕ) : ℕ → Type 0 where
+pub data Passes (net : FlowNet) (owner : ℕ → ℕ) (s : ℕ) : ℕ → Type 0 where
   start : {x : ℕ} → x ≡ s → Passes net owner s x
   onward : {x : ℕ} (v : ℕ) → Passes net owner s v → owner v ≡ x → IsInner net x → Passes net owner s x
 
 -- a path from s up to m, on low nodes from owner to owner
-pub record IsWayTo (net : Net) (owner : ℕ → ℕ) (s m : ℕ) (path : List ℕ) : Type 0 where
+pub record IsWayTo (net : FlowNet) (owner : ℕ → ℕ) (s m : ℕ) (path : List ℕ) : Type 0 where
   pub is : IsPath net.graph m path
   pub on : IsOnWay net owner m
   pub low : (x : ℕ) → In path x → x ≢ net.node → IsLow net x → Passes net owner s x
 
 -- the paths that start at the first of these nodes
-pub record AreWaysTo (net : Net) (owner : ℕ → ℕ) (starts : List ℕ) (limit : ℕ) (paths : List (List ℕ)) : Type 0 where
+pub record AreWaysTo (net : FlowNet) (owner : ℕ → ℕ) (starts : List ℕ) (limit : ℕ) (paths : List (List ℕ)) : Type 0 where
   pub count : length paths ≡ limit
   pub each : (i : ℕ) (p : List ℕ) → slice_get paths i ≡ Some p → IsWayTo net owner (slice_index starts i) net.node p
 
 -- the paths that start at all of them
-abbrev pub AreWays : Net → (ℕ → ℕ) → List ℕ → List (List ℕ) → Type 0
+abbrev pub AreWays : FlowNet → (ℕ → ℕ) → List ℕ → List (List ℕ) → Type 0
 AreWays net owner starts paths = AreWaysTo net owner starts (length starts) paths

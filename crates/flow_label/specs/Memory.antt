@@ -3,9 +3,9 @@ use Rattle.std.specs.Prelude.{◌≡◌, ℕ, ◌+◌, ◌-◌, Bool, List, leng
 use Rattle.aig_core.specs.Aig.{Aig}
 use Rattle.cut_sets.specs.Labels.{label_at}
 use Rattle.flow_label.specs.declared.scratch.Links.{Links}
-use Rattle.flow_label.specs.declared.scratch.Search.{Search}
-use Rattle.flow_label.specs.declared.scratch.Walk.{Walk}
-use Rattle.flow_label.specs.declared.search.Outcome.{Outcome}
+use Rattle.flow_label.specs.declared.scratch.PathSearch.{PathSearch}
+use Rattle.flow_label.specs.declared.scratch.ConeWalk.{ConeWalk}
+use Rattle.flow_label.specs.declared.search.SearchEnd.{SearchEnd}
 use Rattle.flow_label.specs.Links.{owner_in}
 use Rattle.flow_label.specs.Net.{SiteValue, net_of}
 use Rattle.flow_label.specs.Outcome.{AreAdded}
@@ -13,36 +13,36 @@ use Rattle.flow_label.specs.Search.{HasMet, IsSearching}
 use Rattle.flow_label.specs.Walks.{HasRead}
 
 -- a node is read, or not, where the walk is down to this height
-abbrev pub Reads : Aig → List ℕ → ℕ → ℕ → ℕ → Walk → Walk → Type 0
+abbrev pub Reads : Aig → List ℕ → ℕ → ℕ → ℕ → ConeWalk → ConeWalk → Type 0
 Reads g labels height m v old new = HasRead g (label_at labels) height m v old.readers old.uppers.items old.ends.items new.readers new.uppers.items new.ends.items
 
 -- a search is under way, and these places wait
-abbrev pub Searches : SiteValue → Links → Search → List ℕ → Type 0
+abbrev pub Searches : SiteValue → Links → PathSearch → List ℕ → Type 0
 Searches site links search waiting = IsSearching (net_of site) (owner_in site links.owners) search.seen search.queue.items search.backs.items search.passed waiting
 
 -- one more node is met, or not
-abbrev pub Meets : SiteValue → Links → ℕ → ℕ → Search → Search → Bool → Type 0
+abbrev pub Meets : SiteValue → Links → ℕ → ℕ → PathSearch → PathSearch → Bool → Type 0
 Meets site links m back old new ends =
     HasMet (net_of site) (owner_in site links.owners) m back old.seen old.queue.items old.backs.items old.stack.items new.seen new.queue.items new.backs.items new.stack.items ends
 
 -- as many places more wait as nodes more were met
-abbrev pub WaitForAll : Search → Search → Type 0
+abbrev pub WaitForAll : PathSearch → PathSearch → Type 0
 WaitForAll old new = length new.stack.items + length old.queue.items ≡ length old.stack.items + length new.queue.items
 
 -- the marks keep their number
-pub record KeepsMarks (old new : Search) : Type 0 where
+pub record KeepsMarks (old new : PathSearch) : Type 0 where
   pub room : length new.passed ≡ length old.passed
   pub size : length new.seen ≡ length old.seen
 
 -- there are n marks of each kind
-pub record HasMarks (n : ℕ) (search : Search) : Type 0 where
+pub record HasMarks (n : ℕ) (search : PathSearch) : Type 0 where
   pub room : length search.passed ≡ n
   pub size : length search.seen ≡ n
 
 -- the owners after one step back along a search: the owner of the place before chooses the node of this place
-abbrev pub turned : SiteValue → List ℕ → Search → ℕ → List ℕ
+abbrev pub turned : SiteValue → List ℕ → PathSearch → ℕ → List ℕ
 turned site owners search j = slice_set owners (slice_index search.queue.items j) (owner_in site owners (slice_index search.queue.items (slice_index search.backs.items j - 1)))
 
 -- there are k + 1 paths, or fewer and a blocked search
-abbrev pub Adds : SiteValue → ℕ → Links → Search → Outcome → Type 0
+abbrev pub Adds : SiteValue → ℕ → Links → PathSearch → SearchEnd → Type 0
 Adds site k links search outcome = AreAdded site k links.owners links.starts.items search.queue.items search.backs.items search.passed outcome

@@ -7,35 +7,35 @@ use Rattle.aig_core.specs.Aig.{node_count}
 use Rattle.list_laws.specs.Apart.{AreApart}
 use Rattle.list_laws.specs.Members.{In}
 use Rattle.flow_label.specs.Known.{IsLive}
-use Rattle.flow_label.specs.Net.{Net, SiteValue, net_of, IsLow, IsInner, IsEnd}
+use Rattle.flow_label.specs.Net.{FlowNet, SiteValue, net_of, IsLow, IsInner, IsEnd}
 use Rattle.flow_label.specs.Links.{IsChoice, owner_in}
 
 -- where a node of the queue comes from: an end from nowhere (0), another from the place before `back`, whose owner may choose it
-pub record ComesFrom (net : Net) (owner : ℕ → ℕ) (queue : List ℕ) (back j : ℕ) : Type 0 where
+pub record ComesFrom (net : FlowNet) (owner : ℕ → ℕ) (queue : List ℕ) (back j : ℕ) : Type 0 where
   pub end : back ≡ 0 → IsEnd net (slice_index queue j)
   pub earlier : back ≤ j
   pub inner : 0 < back → IsInner net (owner (slice_index queue (back - 1)))
   pub choice : 0 < back → IsChoice net (owner (slice_index queue (back - 1))) (slice_index queue j)
 
 -- the nodes that a search has met, and whence
-pub record AreMet (net : Net) (owner : ℕ → ℕ) (queue backs : List ℕ) : Type 0 where
+pub record AreMet (net : FlowNet) (owner : ℕ → ℕ) (queue backs : List ℕ) : Type 0 where
   pub once : AreApart queue
   pub nodes : (u : ℕ) → In queue u → (u < net.node) × IsLive net.graph net.label u × IsLow net u
   pub count : length backs ≡ length queue
   pub whence : (j : ℕ) → j < length queue → ComesFrom net owner queue (slice_index backs j) j
 
 -- all choices of the owner were met
-abbrev pub IsHandedOn : Net → (ℕ → ℕ) → List ℕ → ℕ → Type 0
+abbrev pub IsHandedOn : FlowNet → (ℕ → ℕ) → List ℕ → ℕ → Type 0
 IsHandedOn net owner queue u = (owner u ≡ net.node) ⊎ (IsInner net (owner u) × ((m : ℕ) → IsChoice net (owner u) m → In queue m))
 
 -- the marks of the inner nodes whose choices were met
-pub record ArePassed (net : Net) (owner : ℕ → ℕ) (queue open' passed : List ℕ) : Type 0 where
+pub record ArePassed (net : FlowNet) (owner : ℕ → ℕ) (queue open' passed : List ℕ) : Type 0 where
   pub size : length passed ≡ node_count net.graph
   pub only : (m : ℕ) → 0 < slice_index passed m → (u : ℕ) × In queue u × (owner u ≡ m) × (m < net.node)
   pub all : (j : ℕ) → j < length queue → In open' j ⊎ ((owner (slice_index queue j) ≡ net.node) ⊎ (0 < slice_index passed (owner (slice_index queue j))))
 
 -- The search, with the marks of the nodes that it met. All places have been handed on but these.
-pub record IsSearching (net : Net) (owner : ℕ → ℕ) (seen queue backs passed open' : List ℕ) : Type 0 where
+pub record IsSearching (net : FlowNet) (owner : ℕ → ℕ) (seen queue backs passed open' : List ℕ) : Type 0 where
   pub met : AreMet net owner queue backs
   pub owned : (u : ℕ) → In queue u → 0 < owner u
   pub inside : (j : ℕ) → In open' j → j < length queue
@@ -52,7 +52,7 @@ pub record Extends (queue queue' : List ℕ) : Type 0 where
   pub longer : length queue ≤ length queue'
 
 -- One more node is met, unless it is free or was seen. If nobody has chosen it, it ends the search; otherwise its place waits.
-pub data HasMet (net : Net) (owner : ℕ → ℕ) (m back : ℕ) (seen queue backs stack seen' queue' backs' stack' : List ℕ) : Bool → Type 0 where
+pub data HasMet (net : FlowNet) (owner : ℕ → ℕ) (m back : ℕ) (seen queue backs stack seen' queue' backs' stack' : List ℕ) : Bool → Type 0 where
   free : {b : Bool} → b ≡ false → (IsLive net.graph net.label m → ⊥) → seen' ≡ seen → queue' ≡ queue → backs' ≡ backs → stack' ≡ stack → HasMet net owner m back seen queue backs stack seen' queue' backs' stack' b
   old : {b : Bool} → b ≡ false → 0 < slice_index seen m → seen' ≡ seen → queue' ≡ queue → backs' ≡ backs → stack' ≡ stack → HasMet net owner m back seen queue backs stack seen' queue' backs' stack' b
   end : {b : Bool} → b ≡ true → IsLive net.graph net.label m → slice_index seen m ≡ 0 → owner m ≡ 0 → seen' ≡ slice_set seen m 1 → queue' ≡ queue ++ m ∷ [] → backs' ≡ backs ++ back ∷ [] → stack' ≡ stack

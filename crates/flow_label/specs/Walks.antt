@@ -5,7 +5,7 @@ use Rattle.list_laws.specs.Apart.{AreApart}
 use Rattle.list_laws.specs.Members.{In}
 use Rattle.flow_label.specs.Known.{IsLive}
 use Rattle.cut_sets.specs.Paths.{IsFanIn}
-use Rattle.flow_label.specs.Net.{Net, IsUpper, IsMet, AreEnds}
+use Rattle.flow_label.specs.Net.{FlowNet, IsUpper, IsMet, AreEnds}
 
 -- m is read by v: it may have been met before or be free, and else it is one more upper node or one more end
 pub data HasRead (g : Aig) (label : ℕ → ℕ) (height m v : ℕ) (readers uppers ends readers' uppers' ends' : List ℕ) : Type 0 where
@@ -15,13 +15,13 @@ pub data HasRead (g : Aig) (label : ℕ → ℕ) (height m v : ℕ) (readers upp
   deep : IsLive g label m → slice_index readers m ≡ 0 → height ≤ label m + 1 → readers' ≡ slice_set readers m v → uppers' ≡ uppers ++ m ∷ [] → ends' ≡ ends → HasRead g label height m v readers uppers ends readers' uppers' ends'
 
 -- the upper nodes that wait, or have read
-pub record AreUppers (net : Net) (uppers : List ℕ) : Type 0 where
+pub record AreUppers (net : FlowNet) (uppers : List ℕ) : Type 0 where
   pub once : AreApart uppers
   pub only : (v : ℕ) → In uppers v → IsUpper net v × IsAnd net.graph v × (v ≤ net.node)
   pub all : (v : ℕ) → IsUpper net v → In uppers v
 
 -- the first `done` of the upper nodes have read their live fan-ins
-pub record IsWalked (net : Net) (uppers ends : List ℕ) (done : ℕ) : Type 0 where
+pub record IsWalked (net : FlowNet) (uppers ends : List ℕ) (done : ℕ) : Type 0 where
   pub met : (m : ℕ) → 0 < net.reader m → IsMet net m
   pub uppers_are : AreUppers net uppers
   pub ends_are : AreEnds net ends

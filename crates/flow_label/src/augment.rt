@@ -6,13 +6,13 @@ ghost use Rattle.flow_label.specs.Memory.{turned};
 ghost use Rattle.flow_label.specs.Search.{IsFound, CanTurn};
 
 use crate::links::owner;
-use crate::scratch::{Links, Search};
+use crate::scratch::{Links, PathSearch};
 use crate::site::Site;
 use std::alloc::AllocError;
 
 // Reassigns one step of the search: the owner of the place before chooses the node of this place instead of its old one.
 // Returns the place before.
-fn turn(site: &Site, links: &mut Links, search: &Search, j: u32) -> u32
+fn turn(site: &Site, links: &mut Links, search: &PathSearch, j: u32) -> u32
     requires size { length links.old.owners ≡ node_count site.now.graph }
     requires inside { j < length search.now.queue.items }
     requires count { length search.now.backs.items ≡ length search.now.queue.items }
@@ -34,7 +34,7 @@ fn turn(site: &Site, links: &mut Links, search: &Search, j: u32) -> u32
 ///
 /// # Errors
 /// Only if there is no memory for the start of the path.
-pub fn add_path(site: &Site, links: &mut Links, search: &Search) -> Result<(), AllocError>
+pub fn add_path(site: &Site, links: &mut Links, search: &PathSearch) -> Result<(), AllocError>
     requires linked { AreLinks site.now links.old.owners links.old.starts.items }
     requires found { IsFound site.now links.old.owners search.now.queue.items search.now.backs.items }
     ensures linked { OnOk result (AreLinks site.now links.new.owners links.new.starts.items) }

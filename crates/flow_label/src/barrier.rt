@@ -2,7 +2,7 @@
 ghost use Rattle.std.specs.Prelude.{◌≡◌, ◌<◌, ◌≤◌, length, MatchOption, OnOk};
 ghost use Rattle.flow_label.specs.Barriers.{ascending_of, unmarked};
 
-use crate::scratch::Search;
+use crate::scratch::PathSearch;
 use crate::stamped::Stamped;
 use cut_sets::{FlatCut, MOST_LEAVES, joined_within};
 use std::alloc::AllocError;
@@ -39,7 +39,7 @@ fn keep_unmarked(nodes: &[u32], marks: &Stamped, kept: &mut Vec<u32>) -> Result<
 ///
 /// # Errors
 /// Only if memory runs out.
-pub fn keep_unpassed(search: &mut Search) -> Result<(), AllocError>
+pub fn keep_unpassed(search: &mut PathSearch) -> Result<(), AllocError>
     ensures kept { OnOk result (search.new.kept.items ≡ unmarked search.old.passed search.old.queue.items) }
     ensures seen { search.new.seen ≡ search.old.seen }
     ensures passed { search.new.passed ≡ search.old.passed }

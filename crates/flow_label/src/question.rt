@@ -14,8 +14,8 @@ ghost use Rattle.flow_label.specs.Memory.{Adds};
 use crate::augment::add_path;
 use crate::barrier::{cut_of, keep_unpassed};
 use crate::links::clear_links;
-use crate::scratch::{Links, Scratch, Search};
-use crate::search::{Outcome, find};
+use crate::scratch::{Links, PathSearch, Scratch};
+use crate::search::{SearchEnd, find};
 use crate::site::Site;
 use crate::walk::walk_down;
 use crate::ways::paths_of;
@@ -27,9 +27,9 @@ use std::alloc::{AllocError, Global};
 fn add_paths(
     site: &Site,
     links: &mut Links,
-    search: &mut Search,
+    search: &mut PathSearch,
     k: u8,
-) -> Result<Outcome, AllocError>
+) -> Result<SearchEnd, AllocError>
     requires linked { AreLinks site.now links.old.owners links.old.starts.items }
     requires none { length links.old.starts.items ≡ 0 }
     requires seen { length search.old.seen ≡ node_count site.now.graph }
@@ -41,11 +41,11 @@ fn add_paths(
 {
     for _i in 0..u32::from(k) + 1 {
         match find(site, links, search)? {
-            Outcome::Found => add_path(site, links, search)?,
-            Outcome::Blocked => return Ok(Outcome::Blocked),
+            SearchEnd::Found => add_path(site, links, search)?,
+            SearchEnd::Blocked => return Ok(SearchEnd::Blocked),
         }
     }
-    Ok(Outcome::Found)
+    Ok(SearchEnd::Found)
 }
 
 // The cut of what a blocked search met and did not pass. It has no more leaves than there are paths, and is the least low cut
@@ -68,7 +68,7 @@ fn low_cut(site: &Site, links: &Links, kept: &[u32], k: u8) -> FlatCut
 fn answer(
     site: &Site,
     links: &mut Links,
-    search: &mut Search,
+    search: &mut PathSearch,
     k: u8,
 ) -> Result<Option<FlatCut>, AllocError>
     requires few { k ≤ MOST_LEAVES }
@@ -87,8 +87,8 @@ fn answer(
     }
     clear_links(site, links);
     match add_paths(site, links, search, k)? {
-        Outcome::Found => Ok(None),
-        Outcome::Blocked => {
+        SearchEnd::Found => Ok(None),
+        SearchEnd::Blocked => {
             keep_unpassed(search)?;
             Ok(Some(low_cut(site, links, &search.kept, k)))
         }
@@ -100,7 +100,7 @@ fn all_paths(
     alloc: Global,
     site: &Site,
     links: &mut Links,
-    search: &mut Search,
+    search: &mut PathSearch,
     k: u8,
 ) -> Result<Vec<Vec<u32>>, AllocError>
     requires least { IsHigh site.now.graph k site.now.node site.now.height (label_at site.now.labels) }
@@ -116,8 +116,8 @@ fn all_paths(
     let _node = site.node();
     clear_links(site, links);
     match add_paths(site, links, search, k)? {
-        Outcome::Found => paths_of(alloc, site, links),
-        Outcome::Blocked => unreachable!(),
+        SearchEnd::Found => paths_of(alloc, site, links),
+        SearchEnd::Blocked => unreachable!(),
     }
 }
 

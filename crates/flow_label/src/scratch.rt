@@ -11,7 +11,7 @@ use std::alloc::{AllocError, Global};
 /// The walk down from a node: the first reader of each node, the upper nodes in the order in which they were met, and the
 /// ends.
 #[derive(Drop)]
-pub struct Walk {
+pub struct ConeWalk {
     pub readers: Stamped,
     pub uppers: Vec<u32>,
     pub ends: Vec<u32>,
@@ -28,7 +28,7 @@ pub struct Links {
 /// which each was met, the places that wait, and whether each inner node was passed. `kept` is for the nodes that were met
 /// and not passed.
 #[derive(Drop)]
-pub struct Search {
+pub struct PathSearch {
     pub seen: Stamped,
     pub queue: Vec<u32>,
     pub backs: Vec<u32>,
@@ -40,18 +40,18 @@ pub struct Search {
 /// All of it, and for each node the fewest steps down to a regular source.
 #[derive(Drop)]
 pub struct Scratch {
-    pub(crate) walk: Walk,
+    pub(crate) walk: ConeWalk,
     pub(crate) links: Links,
-    pub(crate) search: Search,
+    pub(crate) search: PathSearch,
     pub(crate) steps: Vec<u32>,
 }
 
 // The memory of a walk that has met nothing.
-fn new_walk(alloc: Global, count: u32) -> Result<Walk, AllocError>
+fn new_walk(alloc: Global, count: u32) -> Result<ConeWalk, AllocError>
     ensures { IfOk result (λ walk. length walk.readers ≡ count) }
 {
     let readers = Stamped::new(alloc, count)?;
-    Ok(Walk {
+    Ok(ConeWalk {
         readers,
         uppers: Vec::new(alloc),
         ends: Vec::new(alloc),
@@ -70,13 +70,13 @@ fn new_links(alloc: Global, count: u32) -> Result<Links, AllocError>
 }
 
 // The memory of a search that has met nothing.
-fn new_search(alloc: Global, count: u32) -> Result<Search, AllocError>
+fn new_search(alloc: Global, count: u32) -> Result<PathSearch, AllocError>
     ensures seen { IfOk result (λ search. length search.seen ≡ count) }
     ensures passed { IfOk result (λ search. length search.passed ≡ count) }
 {
     let seen = Stamped::new(alloc, count)?;
     let passed = Stamped::new(alloc, count)?;
-    Ok(Search {
+    Ok(PathSearch {
         seen,
         queue: Vec::new(alloc),
         backs: Vec::new(alloc),

@@ -9,13 +9,13 @@ ghost use Rattle.flow_label.specs.Search.{IsFound};
 ghost use Rattle.flow_label.specs.Outcome.{IsEnded};
 
 use crate::links::owner;
-use crate::scratch::{Links, Search};
+use crate::scratch::{Links, PathSearch};
 use crate::site::Site;
 use std::alloc::AllocError;
 
 /// How a search ends.
 #[derive(Clone, Copy, PartialEq, Eq)]
-pub enum Outcome {
+pub enum SearchEnd {
     /// The last node that it met is on no path.
     Found,
     /// Each node that it met is on a path.
@@ -26,7 +26,7 @@ pub enum Outcome {
 fn meet(
     site: &Site,
     links: &Links,
-    search: &mut Search,
+    search: &mut PathSearch,
     m: u32,
     back: u32,
 ) -> Result<bool, AllocError>
@@ -51,7 +51,12 @@ fn meet(
 }
 
 // Meets everything that the owner of the node at this place may choose. Returns whether the search ends.
-fn hand_on(site: &Site, links: &Links, search: &mut Search, place: u32) -> Result<bool, AllocError>
+fn hand_on(
+    site: &Site,
+    links: &Links,
+    search: &mut PathSearch,
+    place: u32,
+) -> Result<bool, AllocError>
     requires linked { AreLinks site.now links.now.owners links.now.starts.items }
     requires searching { Searches site.now links.now search.old (place ∷ search.old.stack.items) }
     ensures on { IfOk result (λ ends. ends ≡ false → Searches site.now links.now search.new search.new.stack.items) }
@@ -78,7 +83,7 @@ fn hand_on(site: &Site, links: &Links, search: &mut Search, place: u32) -> Resul
 }
 
 // A search that has met nothing.
-fn begin(site: &Site, links: &Links, search: &mut Search)
+fn begin(site: &Site, links: &Links, search: &mut PathSearch)
     requires seen { length search.old.seen ≡ node_count site.now.graph }
     requires passed { length search.old.passed ≡ node_count site.now.graph }
     ensures searching { Searches site.now links.now search.new [] }
@@ -93,7 +98,12 @@ fn begin(site: &Site, links: &Links, search: &mut Search)
 }
 
 // Goes on from an end, until nothing waits. Returns whether the search ends.
-fn search_from(site: &Site, links: &Links, search: &mut Search, m: u32) -> Result<bool, AllocError>
+fn search_from(
+    site: &Site,
+    links: &Links,
+    search: &mut PathSearch,
+    m: u32,
+) -> Result<bool, AllocError>
     requires linked { AreLinks site.now links.now.owners links.now.starts.items }
     requires end { IsEnd (net_of site.now) m }
     requires searching { Searches site.now links.now search.old [] }
@@ -123,7 +133,7 @@ fn search_from(site: &Site, links: &Links, search: &mut Search, m: u32) -> Resul
 ///
 /// # Errors
 /// Only if memory runs out.
-pub fn find(site: &Site, links: &Links, search: &mut Search) -> Result<Outcome, AllocError>
+pub fn find(site: &Site, links: &Links, search: &mut PathSearch) -> Result<SearchEnd, AllocError>
     requires linked { AreLinks site.now links.now.owners links.now.starts.items }
     requires seen { length search.old.seen ≡ node_count site.now.graph }
     requires passed { length search.old.passed ≡ node_count site.now.graph }
@@ -134,8 +144,8 @@ pub fn find(site: &Site, links: &Links, search: &mut Search) -> Result<Outcome, 
     let ends = site.ends();
     for m in ends {
         if search_from(site, links, search, *m)? {
-            return Ok(Outcome::Found);
+            return Ok(SearchEnd::Found);
         }
     }
-    Ok(Outcome::Blocked)
+    Ok(SearchEnd::Blocked)
 }

@@ -8,7 +8,7 @@ ghost use Rattle.flow_label.specs.Memory.{Reads};
 ghost use Rattle.flow_label.specs.Walks.{IsWalked};
 
 use crate::live::is_live;
-use crate::scratch::Walk;
+use crate::scratch::ConeWalk;
 use aig_core::Graph;
 use cut_sets::NodeLabels;
 use std::alloc::AllocError;
@@ -18,7 +18,7 @@ fn read(
     graph: &Graph,
     labels: &NodeLabels,
     height: u32,
-    walk: &mut Walk,
+    walk: &mut ConeWalk,
     m: u32,
     v: u32,
 ) -> Result<(), AllocError>
@@ -44,7 +44,7 @@ fn read_at(
     labels: &NodeLabels,
     n: u32,
     height: u32,
-    walk: &mut Walk,
+    walk: &mut ConeWalk,
     place: u32,
 ) -> Result<(), AllocError>
     requires node { IsAnd graph.now n }
@@ -73,7 +73,7 @@ pub fn walk_down(
     labels: &NodeLabels,
     n: u32,
     height: u32,
-    walk: &mut Walk,
+    walk: &mut ConeWalk,
 ) -> Result<(), AllocError>
     requires node { IsAnd graph.now n }
     requires high { 2 ≤ height }

@@ -12,5 +12,5 @@ pub use Rattle.gen_case.specs.Script.{coefficient_of, data_of, digit_text, first
 pub use Rattle.gen_case.specs.Steps.{after_blanks}
 pub use Rattle.gen_case.specs.declared.net.Bus.{Bus}
 pub use Rattle.gen_case.specs.declared.net.Bus.TheVariants.{Data, Coefficient, Product}
-pub use Rattle.gen_case.specs.declared.net.Net.{Net}
-pub use Rattle.gen_case.specs.declared.net.Net.TheVariants.{Zero, Partial, Sum, Carry, Digit}
+pub use Rattle.gen_case.specs.declared.net.CaseNet.{CaseNet}
+pub use Rattle.gen_case.specs.declared.net.CaseNet.TheVariants.{Zero, Partial, Sum, Carry, Digit}

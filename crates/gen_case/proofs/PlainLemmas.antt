@@ -1,5 +1,5 @@
 -- The words of a netlist's lines: each line has one, and each has a byte and only bytes from `-` (45) to `z` (122), of which none is a `\` (92).
-use Rattle.gen_case.proofs.Common.{◌≡◌, ℕ, zero, suc, ◌+◌, ◌-◌, ◌*◌, ◌%◌, ◌<◌, ◌≤◌, Bool, true, false, ◌&&◌, not, leb, eqb, List, [], ◌∷◌, ◌++◌, map, decimal, codes, refl, ◌∙◌, arith, flat_map, list_all, range_with_len, decimal_by_steps, list_all-append, Bus, Data, Coefficient, Product, Net, Zero, Digit, Partial, Sum, Carry, pair_text, net_name}
+use Rattle.gen_case.proofs.Common.{◌≡◌, ℕ, zero, suc, ◌+◌, ◌-◌, ◌*◌, ◌%◌, ◌<◌, ◌≤◌, Bool, true, false, ◌&&◌, not, leb, eqb, List, [], ◌∷◌, ◌++◌, map, decimal, codes, refl, ◌∙◌, arith, flat_map, list_all, range_with_len, decimal_by_steps, list_all-append, Bus, Data, Coefficient, Product, CaseNet, Zero, Digit, Partial, Sum, Carry, pair_text, net_name}
 use Rattle.std.proofs.lemmas.Bool.{and_from}
 use Rattle.gen_case.specs.Netlist.{head_lines, partial_lines, adder_line, source_of, output_lines, all_partials, all_adders, all_outputs, netlist_lines}
 use Rattle.gen_case.proofs.SizeLemmas.{IsLow, from_before_low, carry_in_low, source_low}
@@ -47,7 +47,7 @@ number_plain n h =
 pair_plain : (a b : ℕ) → a < 100 → b < 100 → list_all is_plain (pair_text a b) ≡ true
 pair_plain a b h k = joined_all is_plain (decimal a) (codes "_" ++ decimal b) (number_plain a h) (number_plain b k)
 
-net_plain : (net : Net) → IsLow net → is_plain_word (net_name net) ≡ true
+net_plain : (net : CaseNet) → IsLow net → is_plain_word (net_name net) ≡ true
 net_plain Zero h = refl
 net_plain (Digit Data place) h = number_plain place h
 net_plain (Digit Coefficient place) h = number_plain place h
@@ -56,7 +56,7 @@ net_plain (Partial i j) h = pair_plain i j h.0 h.1
 net_plain (Sum j i) h = pair_plain j i h.0 h.1
 net_plain (Carry j i) h = pair_plain j i h.0 h.1
 
-bytes_of : (net : Net) → IsLow net → list_all is_plain (net_name net) ≡ true
+bytes_of : (net : CaseNet) → IsLow net → list_all is_plain (net_name net) ≡ true
 bytes_of net h = bytes_plain (net_name net) (net_plain net h)
 
 bus_plain : (bus : Bus) (a k : ℕ) → a + k ≤ 64 → list_all is_plain_word (map (λ place. net_name (Digit bus place)) (range_with_len a k)) ≡ true
@@ -75,7 +75,7 @@ partial_plain j i h k =
     (net_plain (Digit Data i) (omega arith), (net_plain (Digit Coefficient j) (omega arith), (net_plain (Partial i j) (omega arith, omega arith), tt))) in
     each_all is_plain_line (partial_lines j i) (names, (refl, tt))
 
-adder_plain : (before carry : Net) (j i : ℕ) → IsLow before → IsLow carry → j < 32 → i < 32 → list_all is_plain_line (adder_line before carry j i ∷ []) ≡ true
+adder_plain : (before carry : CaseNet) (j i : ℕ) → IsLow before → IsLow carry → j < 32 → i < 32 → list_all is_plain_line (adder_line before carry j i ∷ []) ≡ true
 adder_plain before carry j i b c h k =
     let sum = bytes_of (Sum j i) (omega arith, omega arith) in
     let carried = bytes_of (Carry j i) (omega arith, omega arith) in

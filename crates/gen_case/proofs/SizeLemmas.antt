@@ -1,5 +1,5 @@
 -- How long the texts are: the lengths of words, of lines, and of all lines.
-use Rattle.gen_case.proofs.Common.{◌≡◌, ℕ, zero, suc, ◌+◌, ◌-◌, ◌*◌, ◌^◌, ◌<◌, ◌≤◌, Bool, true, false, eqb, List, [], ◌∷◌, ◌++◌, map, length, decimal, ap, ◌∙◌, arith, refl, codes, flat_map, range_with_len, length-decimal-le, flat_map-append, length-append, flat_map-map, digit, Bus, Data, Net, Zero, Digit, Partial, Sum, Carry, pair_text, net_name, line_text, text_of, below, digit_text, first_coefficient, coefficient_of, data_of, after_blanks, rules}
+use Rattle.gen_case.proofs.Common.{◌≡◌, ℕ, zero, suc, ◌+◌, ◌-◌, ◌*◌, ◌^◌, ◌<◌, ◌≤◌, Bool, true, false, eqb, List, [], ◌∷◌, ◌++◌, map, length, decimal, ap, ◌∙◌, arith, refl, codes, flat_map, range_with_len, length-decimal-le, flat_map-append, length-append, flat_map-map, digit, Bus, Data, CaseNet, Zero, Digit, Partial, Sum, Carry, pair_text, net_name, line_text, text_of, below, digit_text, first_coefficient, coefficient_of, data_of, after_blanks, rules}
 use Rattle.std.proofs.Math.Nat.{mul-le-mul_left}
 use Rattle.list_laws.proofs.Choice.{choose_one}
 use Rattle.gen_case.specs.Netlist.{bus_names, head_lines, partial_lines, from_before, carry_in, adder_line, adder_lines, source_of, output_lines, end_lines, all_partials, all_adders, all_outputs, netlist_lines}
@@ -8,7 +8,7 @@ use Rattle.gen_case.specs.Case.{IsShort}
 use Rattle.gen_case.proofs.LineLemmas.{joined}
 
 -- a net whose numbers have two digits at most
-abbrev pub IsLow : Net → Type 0
+abbrev pub IsLow : CaseNet → Type 0
 IsLow Zero = Unit {0}
 IsLow (Digit bus place) = place < 100
 IsLow (Partial i j) = (i < 100) × (j < 100)
@@ -25,7 +25,7 @@ digit_short bus place h = let d = number_short place h in omega arith
 pair_short : (a b : ℕ) → a < 100 → b < 100 → length (pair_text a b) ≤ 5
 pair_short a b h k = simp length-append (omega (arith, number_short a h, number_short b k))
 
-net_short : (net : Net) → IsLow net → length (net_name net) ≤ 6
+net_short : (net : CaseNet) → IsLow net → length (net_name net) ≤ 6
 net_short Zero h = omega arith
 net_short (Digit bus place) h = let d = digit_short bus place h in omega arith
 net_short (Partial i j) h = let d = pair_short i j h.0 h.1 in omega arith
@@ -77,7 +77,7 @@ from_before_low n j i h k l = grind arith
 pub carry_in_low : (j i : ℕ) → j < 32 → i < 32 → IsLow (carry_in j i)
 carry_in_low j i h k = choose_one IsLow (eqb i 0) Zero (Carry j (i - 1)) tt (omega arith, omega arith)
 
-adder_short : (before carry : Net) (j i : ℕ) → IsLow before → IsLow carry → j < 32 → i < 32 → length (line_text (adder_line before carry j i) ++ []) ≤ 80
+adder_short : (before carry : CaseNet) (j i : ℕ) → IsLow before → IsLow carry → j < 32 → i < 32 → length (line_text (adder_line before carry j i) ++ []) ≤ 80
 adder_short before carry j i b c h k = grind (arith, length-append, number_short, net_short)
 
 adders_short : (n : ℕ) → n ≤ 32 → length (text_of (all_adders n)) ≤ 81920

@@ -6,8 +6,8 @@
 use Rattle.std.specs.Prelude.{ℕ, List, ◌++◌, codes, decimal, ◌+◌, ◌-◌, ◌*◌, if◌then◌else◌, ◌==◌, nat_lt, [], ◌∷◌, map}
 use Rattle.gen_case.specs.declared.net.Bus.{Bus}
 use Rattle.gen_case.specs.declared.net.Bus.TheVariants.{Data, Coefficient, Product}
-use Rattle.gen_case.specs.declared.net.Net.{Net}
-use Rattle.gen_case.specs.declared.net.Net.TheVariants.{Zero, Digit, Partial, Sum, Carry}
+use Rattle.gen_case.specs.declared.net.CaseNet.{CaseNet}
+use Rattle.gen_case.specs.declared.net.CaseNet.TheVariants.{Zero, Digit, Partial, Sum, Carry}
 use Rattle.std.specs.List.{flat_map, range_with_len}
 use Rattle.gen_case.specs.Lines.{below}
 
@@ -21,7 +21,7 @@ bus_letter Product = codes "y"
 abbrev pub pair_text : ℕ → ℕ → List ℕ
 pair_text a b = decimal a ++ (codes "_" ++ decimal b)
 
-abbrev pub net_name : Net → List ℕ
+abbrev pub net_name : CaseNet → List ℕ
 net_name Zero = codes "zero"
 net_name (Digit bus place) = bus_letter bus ++ decimal place
 net_name (Partial i j) = codes "p" ++ pair_text i j
@@ -56,21 +56,21 @@ partial_lines j i =
 
 -- What row j finds at its place i in the rows before it: the sum bit one place higher of the row before, and at the last
 -- place that row's last carry bit. Before row 1 stands row 0, which has partial products alone and no carry.
-abbrev pub from_before : ℕ → ℕ → ℕ → Net
+abbrev pub from_before : ℕ → ℕ → ℕ → CaseNet
 from_before n j i =
     if j == 1 then (if i == n - 1 then Zero else Partial (i + 1) 0)
     else (if i == n - 1 then Carry (j - 1) (n - 1) else Sum (j - 1) (i + 1))
 
 -- the carry bit from one place lower in the row
-abbrev pub carry_in : ℕ → ℕ → Net
+abbrev pub carry_in : ℕ → ℕ → CaseNet
 carry_in j i = if i == 0 then Zero else Carry j (i - 1)
 
 -- `formal=actual`
-abbrev pub link : List ℕ → Net → List ℕ
+abbrev pub link : List ℕ → CaseNet → List ℕ
 link formal net = formal ++ (codes "=" ++ net_name net)
 
 -- the full adder of row j at place i, which adds its partial product to these two nets
-abbrev pub adder_line : Net → Net → ℕ → ℕ → List (List ℕ)
+abbrev pub adder_line : CaseNet → CaseNet → ℕ → ℕ → List (List ℕ)
 adder_line before carry j i =
     codes ".subckt" ∷ codes "fa" ∷ link (codes "a") before ∷ link (codes "b") (Partial i j)
     ∷ link (codes "c") carry ∷ link (codes "s") (Sum j i) ∷ link (codes "k") (Carry j i) ∷ []
@@ -81,7 +81,7 @@ adder_lines n j i = adder_line (from_before n j i) (carry_in j i) j i ∷ []
 -- The net of digit t of the product: the lowest one is a partial product. Below n a digit is the lowest sum bit of its row,
 -- and above these the last row has the others, with its last carry bit as the highest. Where there is one row alone, the
 -- digit above it is 0.
-abbrev pub source_of : ℕ → ℕ → Net
+abbrev pub source_of : ℕ → ℕ → CaseNet
 source_of n t =
     if t == 0 then Partial 0 0
     else if n == 1 then Zero

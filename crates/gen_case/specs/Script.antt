@@ -4,7 +4,7 @@ pub use Rattle.list_laws.specs.Digits.{digit_text}
 use Rattle.std.specs.List.{flat_map, range_with_len}
 use Rattle.list_laws.specs.Digits.{digit}
 use Rattle.gen_case.specs.declared.net.Bus.TheVariants.{Coefficient}
-use Rattle.gen_case.specs.declared.net.Net.TheVariants.{Digit}
+use Rattle.gen_case.specs.declared.net.CaseNet.TheVariants.{Digit}
 use Rattle.gen_case.specs.Lines.{below}
 use Rattle.gen_case.specs.Netlist.{net_name}
 

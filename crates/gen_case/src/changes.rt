@@ -4,7 +4,7 @@ ghost use Rattle.gen_case.specs.Lines.{line_text, text_of, below};
 ghost use Rattle.gen_case.specs.Script.{param_lines, all_params, setting, digits_text, set_line, cycle_line, round_lines, rounds};
 ghost use Rattle.gen_case.specs.Steps.{after_blanks};
 
-use crate::net::{Bus, Net};
+use crate::net::{Bus, CaseNet};
 use crate::numbers::{coefficient_of, data_of, digit_text, first_coefficient};
 use std::alloc::AllocError;
 
@@ -16,7 +16,7 @@ fn add_param(text: &mut String, value: u32, place: u32) -> Result<(), AllocError
     write!(
         text,
         "{} {}\n",
-        Net::Digit(Bus::Coefficient, place),
+        CaseNet::Digit(Bus::Coefficient, place),
         digit_text(value, place)
     )
 }
@@ -41,7 +41,7 @@ fn add_setting(text: &mut String, value: u32, place: u32) -> Result<(), AllocErr
     write!(
         text,
         " {}={}",
-        Net::Digit(Bus::Coefficient, place),
+        CaseNet::Digit(Bus::Coefficient, place),
         digit_text(value, place)
     )
 }

@@ -4,7 +4,7 @@ ghost use Rattle.gen_case.specs.Lines.{line_text, text_of};
 ghost use Rattle.gen_case.specs.Netlist.{bus_names, inputs_line, outputs_line, head_lines, end_lines};
 ghost use Rattle.gen_case.specs.Steps.{after_blanks};
 
-use crate::net::{Bus, Net};
+use crate::net::{Bus, CaseNet};
 use std::alloc::AllocError;
 
 // Adds the names of the first `n` digits of a number, each after a blank.
@@ -12,7 +12,7 @@ fn add_bus(text: &mut String, bus: Bus, n: u32) -> Result<(), AllocError>
     ensures { OnOk result (string_bytes text.new ≡ string_bytes text.old ++ after_blanks (bus_names bus n)) }
 {
     for place in 0..n {
-        write!(text, " {}", Net::Digit(bus, place))?;
+        write!(text, " {}", CaseNet::Digit(bus, place))?;
     }
     Ok(())
 }

@@ -29,7 +29,7 @@ impl fmt::Display for Bus {
 
 /// A net of the multiplier, printed as its name.
 #[derive(Clone, Copy)]
-pub enum Net {
+pub enum CaseNet {
     /// The constant 0.
     Zero,
     /// The digit of a number at a place, counted from 0.
@@ -42,7 +42,7 @@ pub enum Net {
     Carry(u32, u32),
 }
 
-impl fmt::Display for Net {
+impl fmt::Display for CaseNet {
     ghost use Rattle.std.specs.Prelude.{Some};
     ghost use Rattle.gen_case.specs.Netlist.{net_name};
 
@@ -50,11 +50,11 @@ impl fmt::Display for Net {
 
     fn fmt<W: fmt::Write>(&self, f: &mut fmt::Formatter<W>) -> fmt::Result {
         match self {
-            Net::Zero => write!(f, "zero"),
-            Net::Digit(bus, place) => write!(f, "{bus}{place}"),
-            Net::Partial(i, j) => write!(f, "p{i}_{j}"),
-            Net::Sum(j, i) => write!(f, "s{j}_{i}"),
-            Net::Carry(j, i) => write!(f, "k{j}_{i}"),
+            CaseNet::Zero => write!(f, "zero"),
+            CaseNet::Digit(bus, place) => write!(f, "{bus}{place}"),
+            CaseNet::Partial(i, j) => write!(f, "p{i}_{j}"),
+            CaseNet::Sum(j, i) => write!(f, "s{j}_{i}"),
+            CaseNet::Carry(j, i) => write!(f, "k{j}_{i}"),
         }
     }
 }

@@ -4,7 +4,7 @@ ghost use Rattle.std.specs.List.{flat_map};
 ghost use Rattle.gen_case.specs.Lines.{line_text, text_of, below};
 ghost use Rattle.gen_case.specs.Netlist.{partial_lines, from_before as from_before_of, carry_in as carry_in_of, adder_line, adder_lines, source_of as source_net, output_lines, all_partials, all_adders, all_outputs};
 
-use crate::net::{Bus, Net};
+use crate::net::{Bus, CaseNet};
 use std::alloc::AllocError;
 
 // Adds the AND of the digit `i` of the data and the digit `j` of the coefficient.
@@ -14,9 +14,9 @@ fn add_partial(text: &mut String, j: u32, i: u32) -> Result<(), AllocError>
     write!(
         text,
         ".names {} {} {}\n11 1\n",
-        Net::Digit(Bus::Data, i),
-        Net::Digit(Bus::Coefficient, j),
-        Net::Partial(i, j)
+        CaseNet::Digit(Bus::Data, i),
+        CaseNet::Digit(Bus::Coefficient, j),
+        CaseNet::Partial(i, j)
     )
 }
 
@@ -41,41 +41,41 @@ pub fn add_partials(text: &mut String, n: u32) -> Result<(), AllocError>
 }
 
 // The net that a row adds to at a place: a result of the rows before it.
-fn from_before(n: u32, j: u32, i: u32) -> Net
+fn from_before(n: u32, j: u32, i: u32) -> CaseNet
     requires row { 1 ≤ j }
     requires place { i < n }
     ensures { result ≡ from_before_of n j i }
 {
     if j == 1 {
         return if i == n - 1 {
-            Net::Zero
+            CaseNet::Zero
         } else {
-            Net::Partial(i + 1, 0)
+            CaseNet::Partial(i + 1, 0)
         };
     }
     if i == n - 1 {
-        Net::Carry(j - 1, n - 1)
+        CaseNet::Carry(j - 1, n - 1)
     } else {
-        Net::Sum(j - 1, i + 1)
+        CaseNet::Sum(j - 1, i + 1)
     }
 }
 
 // The carry bit from the next lower place in a row.
-fn carry_in(j: u32, i: u32) -> Net
+fn carry_in(j: u32, i: u32) -> CaseNet
     ensures { result ≡ carry_in_of j i }
 {
     if i == 0 {
-        Net::Zero
+        CaseNet::Zero
     } else {
-        Net::Carry(j, i - 1)
+        CaseNet::Carry(j, i - 1)
     }
 }
 
 // Adds the full adder of a row at a place, which adds its partial product and two nets.
 fn add_adder_of(
     text: &mut String,
-    before: Net,
-    carry: Net,
+    before: CaseNet,
+    carry: CaseNet,
     j: u32,
     i: u32,
 ) -> Result<(), AllocError>
@@ -84,9 +84,9 @@ fn add_adder_of(
     write!(
         text,
         ".subckt fa a={before} b={} c={carry} s={} k={}\n",
-        Net::Partial(i, j),
-        Net::Sum(j, i),
-        Net::Carry(j, i)
+        CaseNet::Partial(i, j),
+        CaseNet::Sum(j, i),
+        CaseNet::Carry(j, i)
     )
 }
 
@@ -122,24 +122,24 @@ pub fn add_adders(text: &mut String, n: u32) -> Result<(), AllocError>
 }
 
 // The net that drives a digit of the product.
-fn source_of(n: u32, t: u32) -> Net
+fn source_of(n: u32, t: u32) -> CaseNet
     requires low { 1 ≤ n }
     requires high { n ≤ 32 }
     ensures { result ≡ source_net n t }
 {
     if t == 0 {
-        return Net::Partial(0, 0);
+        return CaseNet::Partial(0, 0);
     }
     if n == 1 {
-        return Net::Zero;
+        return CaseNet::Zero;
     }
     if t < n {
-        return Net::Sum(t, 0);
+        return CaseNet::Sum(t, 0);
     }
     if t < 2 * n - 1 {
-        return Net::Sum(n - 1, t - n + 1);
+        return CaseNet::Sum(n - 1, t - n + 1);
     }
-    Net::Carry(n - 1, n - 1)
+    CaseNet::Carry(n - 1, n - 1)
 }
 
 // Adds the buffer of a digit of the product.
@@ -152,7 +152,7 @@ fn add_output(text: &mut String, n: u32, t: u32) -> Result<(), AllocError>
         text,
         ".names {} {}\n1 1\n",
         source_of(n, t),
-        Net::Digit(Bus::Product, t)
+        CaseNet::Digit(Bus::Product, t)
     )
 }
 

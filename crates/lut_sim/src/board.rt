@@ -13,7 +13,7 @@ use cover_pick::{Lut, Template};
 
 // A circuit, the values of its literals, and the results of its last cycle.
 #[derive(Drop)]
-pub struct Board {
+pub struct PlayedCircuit {
     pub template: Template,
     pub shape: Shape,
     pub values: Vec<bool>,
@@ -42,7 +42,7 @@ pub fn literal_count(template: &Template, shape: &Shape) -> usize
     tables.max(2 * last_source + 2)
 }
 
-impl Board {
+impl PlayedCircuit {
     // Computes the values of the literals in a cycle that begins in the current states.
     pub fn play(&mut self, config: &[bool], inputs: &[bool])
         requires playable { IsPlayable self.old.template self.old.shape }

@@ -2,7 +2,7 @@
 ghost use Rattle.std.specs.Prelude.{◌≡◌, length, IfOk, replicate, false};
 ghost use Rattle.lut_sim.specs.Playable.{IsPlayable};
 
-use crate::board::{Board, literal_count};
+use crate::board::{PlayedCircuit, literal_count};
 use crate::shape::Shape;
 use cover_pick::Template;
 use std::alloc::{AllocError, Global};
@@ -11,7 +11,7 @@ use std::marker::Model;
 /// A circuit of LUTs, the states of its latches, and the outputs of its last cycle.
 #[derive(Drop)]
 pub struct Sim {
-    board: Board,
+    board: PlayedCircuit,
 }
 
 impl Model for Sim {
@@ -45,7 +45,7 @@ impl Sim {
         let values = vec![in alloc; false; literal_count(&template, &shape)]?;
         let outputs = vec![in alloc; false; template.outputs.len()]?;
         let states = Vec::from_slice(alloc, inits)?;
-        let board = Board {
+        let board = PlayedCircuit {
             template,
             shape,
             values,

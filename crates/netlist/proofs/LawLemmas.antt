@@ -1,5 +1,5 @@
 -- The values of nets and of covers, under values of the main inputs, the latches and the covers.
-use Rattle.netlist.proofs.Common.{◌≡◌, ℕ, Bool, false, List, [], ◌∷◌, map, Option, Some, None, refl, ap, ap₂, inl, inr, In, sym, ◌∙◌, subst, ◌⊎◌, IsTrue, CoverValue, LibraryValue, cover_value, Path, Net, input_net, latch_net, cover_net, Place, cover_at, with_cover, covers_among, reads_in, reads_of, Pair, is_input, is_output, CoverAt, ConnectionAt, IsMainInput, Drives, main_input, latch_output, cover_output, from_inside, from_outside, IsClock, input_actual, model_output, IsRead, cover_input, same_place, Fits, AreNets, Ordered, IsSound, HasOneCycle}
+use Rattle.netlist.proofs.Common.{◌≡◌, ℕ, Bool, false, List, [], ◌∷◌, map, Option, Some, None, refl, ap, ap₂, inl, inr, In, sym, ◌∙◌, subst, ◌⊎◌, IsTrue, CoverValue, LibraryValue, cover_value, Path, Net, input_net, latch_net, cover_net, Place, cover_at, with_cover, covers_among, reads_in, reads_of, Connection, is_input, is_output, CoverAt, ConnectionAt, IsMainInput, Drives, main_input, latch_output, cover_output, from_inside, from_outside, IsClock, input_actual, model_output, IsRead, cover_input, same_place, Fits, AreNets, Ordered, IsSound, HasOneCycle}
 use Rattle.netlist.proofs.ControlLemmas.{is_clock}
 use Rattle.netlist.proofs.NetLemmas.{nets, are_nets}
 use Rattle.netlist.proofs.PlaceLemmas.{place_of, same_place-is, same_place-refl, cover_at-is, child_at}
@@ -95,8 +95,8 @@ module _ (library : LibraryValue) (net : Path → List ℕ → Option Net) (nets
       ordered.order (place_of path i) ordered.after (ordered.all path i c a)
       ∙ ap (λ o. value_in given_inputs s (net path) o covers) (cover_at-is library path i c a)
 
-  made-connection : ((path : Path) (k : ℕ) (pair : Pair) (at : ConnectionAt library path k pair) → IsTrue (is_input at.child pair.formal) ⊎ IsTrue (is_output at.child pair.formal))
-      → (path : Path) (k : ℕ) (pair : Pair) → ConnectionAt library path k pair → made path pair.actual ≡ made (k ∷ path) pair.formal
+  made-connection : ((path : Path) (k : ℕ) (pair : Connection) (at : ConnectionAt library path k pair) → IsTrue (is_input at.child pair.formal) ⊎ IsTrue (is_output at.child pair.formal))
+      → (path : Path) (k : ℕ) (pair : Connection) → ConnectionAt library path k pair → made path pair.actual ≡ made (k ∷ path) pair.formal
   made-connection formals path k pair a = elim (formals path k pair a) [
     | inl i ↦ (let r = nets.reads path pair.actual (input_actual k pair a i refl) in
         made-net path pair.actual r.0 r.1 ∙ sym (made-net (k ∷ path) pair.formal r.0 (from_outside k path pair a i refl refl r.1)))
@@ -104,7 +104,7 @@ module _ (library : LibraryValue) (net : Path → List ℕ → Option Net) (nets
         made-net path pair.actual r.0 (from_inside k pair a out refl r.1) ∙ sym (made-net (k ∷ path) pair.formal r.0 r.1))
   ]
 
-  pub made-fits : ((path : Path) (k : ℕ) (pair : Pair) (at : ConnectionAt library path k pair) → IsTrue (is_input at.child pair.formal) ⊎ IsTrue (is_output at.child pair.formal)) → Fits library x s made
+  pub made-fits : ((path : Path) (k : ℕ) (pair : Connection) (at : ConnectionAt library path k pair) → IsTrue (is_input at.child pair.formal) ⊎ IsTrue (is_output at.child pair.formal)) → Fits library x s made
   made-fits formals = record {
     inputs = λ name m off. made-net [] name (input_net name) (main_input refl m refl) ∙ elim (clock name) as (λ d. input_value (x name) d ≡ x name) [ inl on ↦ absurd (off on) | inr o ↦ refl ];
     clocks = λ name m on. made-net [] name (input_net name) (main_input refl m refl) ∙ elim (clock name) as (λ d. input_value (x name) d ≡ false) [ inl o ↦ refl | inr off ↦ absurd (off on) ];

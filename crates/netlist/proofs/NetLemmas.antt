@@ -1,5 +1,5 @@
 -- Each driven name has one net, where no name is driven twice and each connection has a driver.
-use Rattle.netlist.proofs.Common.{◌≡◌, ℕ, not, List, [], ◌∷◌, Option, Some, None, refl, sym, ap, ap₂, ◌∙◌, subst, subst₂, inl, inr, IsTrue, both_ways, and_parts, not-true, none-some, same_Some, Pair, ModelValue, Path, placed, model_at, has_name, is_input, is_output, ConnectionAt, IsMainInput, Net, input_net, latch_net, cover_net, Drives, main_input, latch_output, cover_output, from_inside, from_outside, Driver, by_input, by_latch, by_cover, by_subckt, IsDriver, input, latch, cover, output, input_actual, model_output, Ends, ends, IsDriven, AreNets, LibraryValue, slice_get, cases_Bool, Body, Cover, Latch, Subckt, Command, body_at, subckts_of, model_named, SubcktValue}
+use Rattle.netlist.proofs.Common.{◌≡◌, ℕ, not, List, [], ◌∷◌, Option, Some, None, refl, sym, ap, ap₂, ◌∙◌, subst, subst₂, inl, inr, IsTrue, both_ways, and_parts, not-true, none-some, same_Some, Connection, ModelValue, Path, placed, model_at, has_name, is_input, is_output, ConnectionAt, IsMainInput, Net, input_net, latch_net, cover_net, Drives, main_input, latch_output, cover_output, from_inside, from_outside, Driver, by_input, by_latch, by_cover, by_subckt, IsDriver, input, latch, cover, output, input_actual, model_output, Ends, ends, IsDriven, AreNets, LibraryValue, slice_get, cases_Bool, Body, Cover, Latch, Subckt, Command, body_at, subckts_of, model_named, SubcktValue}
 use Rattle.netlist.proofs.PlaceLemmas.{child_at, child_placed, command_of, body_of}
 use Rattle.netlist.proofs.NameLemmas.{Decided, same_name, Found, find, Member, find_member}
 
@@ -18,11 +18,11 @@ has_output name (Latch l) = same_name name l.output
 has_output name (Subckt s) = inr (λ e. e)
 
 -- an output connection to a placed model, by its actual
-record OutputOf (child : ModelValue) (name : List ℕ) (pair : Pair) : Type 0 where
+record OutputOf (child : ModelValue) (name : List ℕ) (pair : Connection) : Type 0 where
   actual : name ≡ pair.actual
   formal : IsTrue (is_output child pair.formal)
 
-output_of : (child : ModelValue) (name : List ℕ) (pair : Pair) → Decided (OutputOf child name pair)
+output_of : (child : ModelValue) (name : List ℕ) (pair : Connection) → Decided (OutputOf child name pair)
 output_of child name pair = elim (same_name name pair.actual) [
   | inl e ↦ (elim (cases_Bool (is_output child pair.formal)) [ inl t ↦ inl (record { actual = e; formal = t }) | inr f ↦ inr (λ p. both_ways (is_output child pair.formal) f p.formal) ])
   | inr o ↦ inr (λ p. o p.actual)
@@ -114,7 +114,7 @@ module _ (library : LibraryValue) (driven : IsDriven library) where
   HasNet path name = (net : Net) × Drives library path name net
 
   -- an output isn't driven by being an input
-  pub no_input : (path : Path) (k : ℕ) (pair : Pair) (a : ConnectionAt library path k pair) → IsTrue (is_output a.child pair.formal) → (driver : Driver) → IsDriver library (k ∷ path) pair.formal driver → driver ≡ by_input → ⊥
+  pub no_input : (path : Path) (k : ℕ) (pair : Connection) (a : ConnectionAt library path k pair) → IsTrue (is_output a.child pair.formal) → (driver : Driver) → IsDriver library (k ∷ path) pair.formal driver → driver ≡ by_input → ⊥
   no_input path k pair a out driver (input at i q) e = not_both a.child pair.formal (subst (λ m. IsTrue (is_input m pair.formal)) (same_Some at.model a.child (sym at.at ∙ child_at library path k pair a)) i) out
   no_input path k pair a out driver (latch i l at p q) e = cc
   no_input path k pair a out driver (cover i c at p q) e = cc
@@ -131,7 +131,7 @@ module _ (library : LibraryValue) (driven : IsDriven library) where
       let z = net_inside a.child (t k a.child here) (k ∷ path) (child_at library path k pair a) pair.formal r.0 r.1 (no_input path k pair a out r.0 r.1) in
       (z.0, from_inside k pair a out p z.1)
 
-  outwards : {name : List ℕ} (k : ℕ) (outer : Path) (pair : Pair) (a : ConnectionAt library outer k pair) → IsTrue (is_input a.child pair.formal) → name ≡ pair.formal → HasNet outer pair.actual → HasNet (k ∷ outer) name
+  outwards : {name : List ℕ} (k : ℕ) (outer : Path) (pair : Connection) (a : ConnectionAt library outer k pair) → IsTrue (is_input a.child pair.formal) → name ≡ pair.formal → HasNet outer pair.actual → HasNet (k ∷ outer) name
   outwards k outer pair a i q z = (z.0, from_outside k outer pair a i refl q z.1)
 
   -- the net of a driver; that of an input is found outwards
@@ -143,7 +143,7 @@ module _ (library : LibraryValue) (driven : IsDriven library) where
   net_of_driver [] name driver (input a i q) = (input_net name, main_input refl (record { model = a.model; at = a.at; is = i }) refl)
   net_of_driver (k ∷ outer) name driver (input a i q) =
       let c = driven.connected outer k a.model name a.at i in
-      let pair : Pair = c.0 in
+      let pair : Connection = c.0 in
       let b : ConnectionAt library outer k pair = c.1 in
       let e : pair.formal ≡ name = c.2 in
       let same : a.model ≡ b.child = same_Some a.model b.child (sym a.at ∙ child_at library outer k pair b) in
@@ -154,7 +154,7 @@ module _ (library : LibraryValue) (driven : IsDriven library) where
   -- where the net of an input comes from
   pub data Outside (path : Path) (name : List ℕ) (net : Net) : Type 0 where
     at_main : path ≡ [] → net ≡ input_net name → Outside path name net
-    at_actual : (k : ℕ) (outer : Path) (pair : Pair) → ConnectionAt library outer k pair → path ≡ k ∷ outer → name ≡ pair.formal → Drives library outer pair.actual net → Outside path name net
+    at_actual : (k : ℕ) (outer : Path) (pair : Connection) → ConnectionAt library outer k pair → path ≡ k ∷ outer → name ≡ pair.formal → Drives library outer pair.actual net → Outside path name net
 
   -- what a driver says of the net
   abbrev Through : Path → List ℕ → Net → Driver → Type 0
@@ -166,7 +166,7 @@ module _ (library : LibraryValue) (driven : IsDriven library) where
   main_driver : {path : Path} {name : List ℕ} → path ≡ [] → (main : IsMainInput library name) → IsDriver library path name by_input
   main_driver p main = input (record { model = main.model; at = ap (model_at library) p ∙ main.at }) main.is refl
 
-  formal_driver : {path : Path} {name : List ℕ} (k : ℕ) (outer : Path) (pair : Pair) (a : ConnectionAt library outer k pair) → IsTrue (is_input a.child pair.formal) → path ≡ k ∷ outer → name ≡ pair.formal → IsDriver library path name by_input
+  formal_driver : {path : Path} {name : List ℕ} (k : ℕ) (outer : Path) (pair : Connection) (a : ConnectionAt library outer k pair) → IsTrue (is_input a.child pair.formal) → path ≡ k ∷ outer → name ≡ pair.formal → IsDriver library path name by_input
   formal_driver k outer pair a i p q = input (record { model = a.child; at = ap (model_at library) p ∙ child_at library outer k pair a }) (ap (is_input a.child) q ∙ i) refl
 
   pub driver_of : {path : Path} {name : List ℕ} {net : Net} → Drives library path name net → (driver : Driver) × (IsDriver library path name driver) × (Through path name net driver)
@@ -195,7 +195,7 @@ module _ (library : LibraryValue) (driven : IsDriven library) where
         let j : k2 ≡ k = cc in
         let b : ConnectionAt library outer k pair2 = subst₂ (λ (x : Path) (y : ℕ). ConnectionAt library x y pair2) o j a2 in
         let same : pair ≡ pair2 = driven.apart outer k pair pair2 a b (sym q ∙ q2) in
-        one_net t (subst₂ (λ (x : Path) (y : Pair). Drives library x y.actual other) o (sym same) t2))
+        one_net t (subst₂ (λ (x : Path) (y : Connection). Drives library x y.actual other) o (sym same) t2))
   ]
 
   abbrev net_from : (path : Path) (name : List ℕ) → Decided (HasDriver library path name) → Option Net

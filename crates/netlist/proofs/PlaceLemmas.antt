@@ -1,5 +1,5 @@
 -- Places, and what stands at them: a place has one cover or latch, and a connection leads to the model that it places.
-use Rattle.netlist.proofs.Common.{◌≡◌, ℕ, true, eqb, ◌∷◌, Option, Some, None, refl, sym, ap, ap₂, ◌∙◌, inl, inr, bytes_eq, slice_get, option_map, option_and_then, and_parts, and_from, none-some, same_Some, option_and_then_some, bytes_decides, Body, Latch, Command, LatchValue, Pair, ModelValue, Path, body_at, subckts_of, model_named, placed, model_at, CoverAt, LatchAt, ConnectionAt, Place, same_place, latch_in, cover_at, latch_at, CoverValue, SubcktValue, LibraryValue, eqb-true, eq-eqb}
+use Rattle.netlist.proofs.Common.{◌≡◌, ℕ, true, eqb, ◌∷◌, Option, Some, None, refl, sym, ap, ap₂, ◌∙◌, inl, inr, bytes_eq, slice_get, option_map, option_and_then, and_parts, and_from, none-some, same_Some, option_and_then_some, bytes_decides, Body, Latch, Command, LatchValue, Connection, ModelValue, Path, body_at, subckts_of, model_named, placed, model_at, CoverAt, LatchAt, ConnectionAt, Place, same_place, latch_in, cover_at, latch_at, CoverValue, SubcktValue, LibraryValue, eqb-true, eq-eqb}
 use Rattle.netlist.proofs.NameLemmas.{Decided}
 
 abbrev pub place_of : Path → ℕ → Place
@@ -40,10 +40,10 @@ module _ (library : LibraryValue) where
   cover_at-is path i c a = rw (a.at, a.is) refl
 
   -- the instance of a connection's formal
-  pub child_at : (path : Path) (k : ℕ) (pair : Pair) (a : ConnectionAt library path k pair) → model_at library (k ∷ path) ≡ Some a.child
+  pub child_at : (path : Path) (k : ℕ) (pair : Connection) (a : ConnectionAt library path k pair) → model_at library (k ∷ path) ≡ Some a.child
   child_at path k pair a = rw (a.at, a.is) a.places
 
-  pub child_placed : (path : Path) (k : ℕ) (pair : Pair) (a : ConnectionAt library path k pair) → placed library k a.model ≡ Some a.child
+  pub child_placed : (path : Path) (k : ℕ) (pair : Connection) (a : ConnectionAt library path k pair) → placed library k a.model ≡ Some a.child
   child_placed path k pair a = rw (a.is) a.places
 
   -- an instance inside another one

@@ -1,5 +1,5 @@
 -- The words of libraries, instances, places and nets, passed on from one place.
-pub use Rattle.netlist.specs.Words.{Latch, LatchValue, LibraryValue, ModelValue, Cover, Subckt, CoverValue, Body, Command, Pair, SubcktValue, input_ports, clock_ports, output_ports, cover_value}
+pub use Rattle.netlist.specs.Words.{Latch, LatchValue, LibraryValue, ModelValue, Cover, Subckt, CoverValue, Body, Command, Connection, SubcktValue, input_ports, clock_ports, output_ports, cover_value}
 pub use Rattle.netlist.specs.Models.{has_name, Path, model_at, body_at, inputs_of, subckts_of, model_named, is_input, is_output, placed, with_subckt}
 pub use Rattle.netlist.specs.Instances.{LatchAt, CoverAt, ConnectionAt, IsMainInput}
 pub use Rattle.netlist.specs.Nets.{input_net, Drives, IsClock, listed, controls, Net, latch_net, cover_net, main_input, latch_output, cover_output, from_inside, from_outside}

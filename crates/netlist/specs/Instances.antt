@@ -2,7 +2,7 @@
 use Rattle.std.specs.Prelude.{◌≡◌, ℕ, List, [], Some, slice_get, IsTrue}
 use Rattle.list_laws.specs.Members.{In}
 use Rattle.netlist.specs.Models.{Path, body_at, subckts_of, model_named, model_at, is_input}
-use Rattle.netlist.specs.Words.{Cover, Latch, LatchValue, Pair, CoverValue, SubcktValue, ModelValue, LibraryValue}
+use Rattle.netlist.specs.Words.{Cover, Latch, LatchValue, Connection, CoverValue, SubcktValue, ModelValue, LibraryValue}
 
 -- an instance has this cover as its command i
 pub record CoverAt (library : LibraryValue) (path : Path) (i : ℕ) (cover : CoverValue) : Type 0 where
@@ -17,7 +17,7 @@ pub record LatchAt (library : LibraryValue) (path : Path) (i : ℕ) (latch : Lat
   pub is : body_at model i ≡ Some (Latch latch)
 
 -- a connection of the subcircuit of ordinal k of an instance, which places the child
-pub record ConnectionAt (library : LibraryValue) (path : Path) (k : ℕ) (pair : Pair) : Type 0 where
+pub record ConnectionAt (library : LibraryValue) (path : Path) (k : ℕ) (pair : Connection) : Type 0 where
   pub model : ModelValue
   pub subckt : SubcktValue
   pub child : ModelValue

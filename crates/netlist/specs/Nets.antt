@@ -2,7 +2,7 @@
 use Rattle.std.specs.Prelude.{◌≡◌, ℕ, List, [], ◌∷◌, Some, IsTrue}
 use Rattle.netlist.specs.Instances.{CoverAt, LatchAt, ConnectionAt, IsMainInput}
 use Rattle.netlist.specs.Models.{Path, model_at, has_name, is_input, is_output}
-use Rattle.netlist.specs.Words.{LatchValue, Pair, CoverValue, ModelValue, LibraryValue}
+use Rattle.netlist.specs.Words.{LatchValue, Connection, CoverValue, ModelValue, LibraryValue}
 
 -- the driver of a net: an input of the main model, or a latch or cover of an instance by its place among the commands
 pub data Net : Type 0 where
@@ -16,9 +16,9 @@ pub data Drives (library : LibraryValue) : Path → List ℕ → Net → Type 0 
   main_input : {path : Path} {name : List ℕ} {net : Net} → path ≡ [] → IsMainInput library name → net ≡ input_net name → Drives library path name net
   latch_output : {path : Path} {name : List ℕ} {net : Net} (i : ℕ) (l : LatchValue) → LatchAt library path i l → name ≡ l.output → net ≡ latch_net path i → Drives library path name net
   cover_output : {path : Path} {name : List ℕ} {net : Net} (i : ℕ) (c : CoverValue) → CoverAt library path i c → name ≡ c.output → net ≡ cover_net path i → Drives library path name net
-  from_inside : {path : Path} {name : List ℕ} {net : Net} (k : ℕ) (pair : Pair) (at : ConnectionAt library path k pair) → IsTrue (is_output at.child pair.formal) → name ≡ pair.actual
+  from_inside : {path : Path} {name : List ℕ} {net : Net} (k : ℕ) (pair : Connection) (at : ConnectionAt library path k pair) → IsTrue (is_output at.child pair.formal) → name ≡ pair.actual
       → Drives library (k ∷ path) pair.formal net → Drives library path name net
-  from_outside : {path : Path} {name : List ℕ} {net : Net} (k : ℕ) (outer : Path) (pair : Pair) (at : ConnectionAt library outer k pair) → IsTrue (is_input at.child pair.formal)
+  from_outside : {path : Path} {name : List ℕ} {net : Net} (k : ℕ) (outer : Path) (pair : Connection) (at : ConnectionAt library outer k pair) → IsTrue (is_input at.child pair.formal)
       → path ≡ k ∷ outer → name ≡ pair.formal → Drives library outer pair.actual net → Drives library path name net
 
 -- a clock net: a name of the main model's `.clock`, or the main input that drives a latch's control

@@ -40,4 +40,4 @@ pub use latch::Latch;
 pub use law::{cycle_law, flat_law};
 pub use library::{BlifModel, Library};
 pub use row::Row;
-pub use subckt::{Pair, Subckt};
+pub use subckt::{Connection, Subckt};

@@ -4,7 +4,7 @@ use tl_text::Name;
 
 /// A connection of a subcircuit.
 #[derive(Drop)]
-pub struct Pair {
+pub struct Connection {
     /// The name in the placed model.
     pub formal: Name,
     /// The name in the model that contains the subcircuit.
@@ -17,7 +17,7 @@ pub struct Subckt {
     /// The name of the placed model.
     pub model: Name,
     /// Its connections, in the line's order. No formal is repeated.
-    pub pairs: Vec<Pair>,
+    pub pairs: Vec<Connection>,
 }
 
 impl Model for Subckt {

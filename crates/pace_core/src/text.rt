@@ -13,7 +13,7 @@ ghost use Rattle.pace_core.specs.EventValue.{PaceValue, pace_value, pace_values,
 ghost use Rattle.pace_core.specs.PaceText.{IsPaceScript, HasOneReading};
 
 use crate::event::PaceEvent;
-use run_text::{Event, Forms, Names, ScriptErr, read_script};
+use run_text::{Event, Forms, ScriptErr, ScriptNames, read_script};
 use std::alloc::{AllocError, Global};
 
 // The event of a line, and `None` for a form that has no word.
@@ -54,7 +54,11 @@ pub fn pace_events(alloc: Global, read: Vec<Event>) -> Result<Vec<PaceEvent>, Al
 /// The text's first refusal, as [`read_script`] reports it: T1 and T2 of its physical lines, and otherwise L7, S1, S2, S3 or S4 of
 /// the first logical line that has one. `Memory` if memory runs out. A text is at most one script, or has at most one refusal, and
 /// never both.
-pub fn read_pace(alloc: Global, text: &[u8], names: &Names) -> Result<Vec<PaceEvent>, ScriptErr>
+pub fn read_pace(
+    alloc: Global,
+    text: &[u8],
+    names: &ScriptNames,
+) -> Result<Vec<PaceEvent>, ScriptErr>
     requires forms { names.now.forms ≡ Forms.Pace }
     requires short { length text.now ≤ MOST_BYTES }
     requires few { length names.now.params ≤ MOST_PARAMETERS }

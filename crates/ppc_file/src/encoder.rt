@@ -8,7 +8,7 @@ use crate::add_parts::{add_bits, add_head, add_nodes, add_params};
 use crate::version::Version;
 use ppc_pack::Pack;
 use tl_io::{Failed, Sink};
-use tl_piece::{Piece, Writer};
+use tl_piece::{WriteBuffer, Writer};
 
 // Writes the file of a pack in the given version.
 fn add_pack<O: Sink>(version: Version, pack: &Pack, writer: &mut Writer<'_, O>)
@@ -29,7 +29,7 @@ fn put_pack<O: Sink>(version: Version, pack: &Pack, out: &mut O) -> Result<(), F
     ensures put { IsPut (O.seen out.old) (bytes_of version pack.now) (O.seen out.new) result }
     ensures file { IsPackFile (bytes_of version pack.now) pack.now }
 {
-    let mut piece = Piece::new();
+    let mut piece = WriteBuffer::new();
     let mut writer = Writer::over(out, &mut piece);
     add_pack(version, pack, &mut writer);
     writer.finish()

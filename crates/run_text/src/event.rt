@@ -32,7 +32,7 @@ pub enum Forms {
 
 /// What a script may name, and the words with which its lines begin.
 #[derive(Drop)]
-pub struct Names {
+pub struct ScriptNames {
     pub forms: Forms,
     /// The names of the parameters, in order.
     pub params: Vec<Name>,
@@ -42,7 +42,7 @@ pub struct Names {
     pub bits: u32,
 }
 
-impl Model for Names {
+impl Model for ScriptNames {
     ghost use Rattle.run_text.specs.NamesValue.{NamesValue};
 
     ghost Value = { NamesValue };

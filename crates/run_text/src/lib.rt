@@ -2,7 +2,7 @@
 //! exported here.
 //!
 //! [`read_script`] reads a script, one line for each [`Event`], or returns the first refusal of the text
-//! (`specs/ScriptText.antt`). `specs/Sayings.antt` defines what a line says by its words. The [`Names`] of the run decide
+//! (`specs/ScriptText.antt`). `specs/Sayings.antt` defines what a line says by its words. The [`ScriptNames`] of the run decide
 //! whether it is allowed, and each event that is returned fits these names (`specs/Fits.antt`).
 //!
 //! - `setting.rt` reads the words of a `set`, `assigns.rt` finds their parameters, and `cycle_values.rt` reads a cycle's
@@ -27,7 +27,7 @@ mod scripts;
 mod setting;
 mod write_lines;
 
-pub use event::{Event, Forms, MOST_EVENTS, Names};
+pub use event::{Event, Forms, MOST_EVENTS, ScriptNames};
 pub use line_buf::LineBuf;
 pub use lines::{put_bits_header, put_cycle, put_header, put_image};
 pub use param_list::{ParErr, Param, Params, read_params, regular};

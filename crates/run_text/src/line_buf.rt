@@ -3,14 +3,14 @@ ghost use Rattle.std.specs.Prelude.{◌≡◌, [], IfOk};
 
 use std::alloc::{AllocError, Global};
 use std::marker::Model;
-use tl_piece::Piece;
+use tl_piece::WriteBuffer;
 
 /// A buffer for the bytes of a line that aren't written yet. Between lines its content has no meaning.
 ///
 /// A contract sees it as these bytes.
 #[derive(Drop)]
 pub struct LineBuf {
-    pub(crate) piece: Box<Piece>,
+    pub(crate) piece: Box<WriteBuffer>,
 }
 
 impl Model for LineBuf {
@@ -30,7 +30,7 @@ impl LineBuf {
         ensures { IfOk result (λ buf. buf ≡ []) }
     {
         Ok(LineBuf {
-            piece: Box::new(alloc, Piece::new())?,
+            piece: Box::new(alloc, WriteBuffer::new())?,
         })
     }
 }

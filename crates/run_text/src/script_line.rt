@@ -14,7 +14,7 @@ ghost use Rattle.run_text.specs.declared.script_err.ScriptErr.TheVariants.{Malfo
 
 use crate::assigns::read_assigns;
 use crate::cycle_values::read_values;
-use crate::event::{Event, Forms, MOST_EVENTS, Names};
+use crate::event::{Event, Forms, MOST_EVENTS, ScriptNames};
 use crate::script_err::ScriptErr;
 use crate::setting::read_settings;
 use std::alloc::Global;
@@ -37,7 +37,7 @@ fn read_set(
     alloc: Global,
     text: &[u8],
     number: u32,
-    names: &Names,
+    names: &ScriptNames,
     params: &NameIndex,
     tokens: &[Token],
 ) -> Result<Event, ScriptErr>
@@ -52,7 +52,7 @@ fn read_set(
 }
 
 // The cycle with the values of a word.
-fn cycle(alloc: Global, number: u32, names: &Names, word: &[u8]) -> Result<Event, ScriptErr>
+fn cycle(alloc: Global, number: u32, names: &ScriptNames, word: &[u8]) -> Result<Event, ScriptErr>
     ensures { Reads names.now number (option_map cycles (bits_of word.now)) result }
 {
     let values = read_values(alloc, number, word)?;
@@ -70,7 +70,7 @@ fn read_cycle(
     alloc: Global,
     text: &[u8],
     number: u32,
-    names: &Names,
+    names: &ScriptNames,
     tokens: &[Token],
 ) -> Result<Event, ScriptErr>
     requires { (token : TokenValue) → In tokens.now token → IsWithin text.now token }
@@ -94,7 +94,7 @@ fn address(word: &[u8]) -> Option<u32>
 }
 
 // The upset at the address that a word states.
-fn upset(number: u32, names: &Names, word: &[u8]) -> Result<Event, ScriptErr>
+fn upset(number: u32, names: &ScriptNames, word: &[u8]) -> Result<Event, ScriptErr>
     ensures { Reads names.now number (option_map upsets (address_of word.now)) result }
 {
     let Some(address) = address(word) else {
@@ -107,7 +107,12 @@ fn upset(number: u32, names: &Names, word: &[u8]) -> Result<Event, ScriptErr>
 }
 
 // The event of an `upset` line, given the tokens after `upset`.
-fn read_upset(text: &[u8], number: u32, names: &Names, tokens: &[Token]) -> Result<Event, ScriptErr>
+fn read_upset(
+    text: &[u8],
+    number: u32,
+    names: &ScriptNames,
+    tokens: &[Token],
+) -> Result<Event, ScriptErr>
     requires { (token : TokenValue) → In tokens.now token → IsWithin text.now token }
     ensures { Reads names.now number (option_map upsets (option_and_then address_of (only_word (map (token_bytes text.now) tokens.now)))) result }
 {
@@ -134,7 +139,7 @@ fn read_event(
     alloc: Global,
     text: &[u8],
     number: u32,
-    names: &Names,
+    names: &ScriptNames,
     params: &NameIndex,
     word: &[u8],
     tokens: &[Token],
@@ -189,7 +194,7 @@ pub(crate) fn read_line(
     alloc: Global,
     text: &[u8],
     line: &Line,
-    names: &Names,
+    names: &ScriptNames,
     params: &NameIndex,
     earlier: usize,
 ) -> Result<Event, ScriptErr>

@@ -8,7 +8,7 @@ ghost use Rattle.run_text.specs.EventValue.{event_values};
 ghost use Rattle.run_text.specs.ScriptText.{AreEventsOf, IsFirstRefusal};
 ghost use Rattle.run_text.specs.ScriptRefusals.{refusal_of};
 
-use crate::event::{Event, Names};
+use crate::event::{Event, ScriptNames};
 use crate::script_err::ScriptErr;
 use crate::script_line::read_line;
 use std::alloc::Global;
@@ -19,7 +19,7 @@ fn read_each(
     alloc: Global,
     text: &[u8],
     lines: &[Line],
-    names: &Names,
+    names: &ScriptNames,
     params: &NameIndex,
 ) -> Result<Vec<Event>, ScriptErr>
     requires within { AreLinesIn text.now lines.now }
@@ -45,7 +45,7 @@ pub(crate) fn read_lines(
     alloc: Global,
     text: &[u8],
     lines: &[Line],
-    names: &Names,
+    names: &ScriptNames,
 ) -> Result<Vec<Event>, ScriptErr>
     requires within { AreLinesIn text.now lines.now }
     requires few { length names.now.params ≤ MOST_PARAMETERS }

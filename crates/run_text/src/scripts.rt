@@ -10,7 +10,7 @@ ghost use Rattle.run_text.specs.Fits.{Fits};
 ghost use Rattle.run_text.specs.ScriptText.{script_err, IsScript, IsScriptFault, HasOneReading};
 ghost use Rattle.run_text.specs.ScriptRefusals.{refusal_of};
 
-use crate::event::{Event, Names};
+use crate::event::{Event, ScriptNames};
 use crate::script_err::ScriptErr;
 use crate::script_lines::read_lines;
 use std::alloc::Global;
@@ -38,7 +38,7 @@ fn lines_err(error: TextErr) -> ScriptErr
 /// The first refusal of the text, by `specs/ScriptText.antt`: T1 and T2 of its physical lines; otherwise that of the first
 /// logical line that has one. Within a line the order is L7, S1, S6, S2, S3 and S4 word by word, S5. `Memory` if memory runs
 /// out. A text is at most one script or has at most one refusal, and never both.
-pub fn read_script(alloc: Global, text: &[u8], names: &Names) -> Result<Vec<Event>, ScriptErr>
+pub fn read_script(alloc: Global, text: &[u8], names: &ScriptNames) -> Result<Vec<Event>, ScriptErr>
     requires short { length text.now ≤ MOST_BYTES }
     requires few { length names.now.params ≤ MOST_PARAMETERS }
     requires once { AreOnce names.now.params }

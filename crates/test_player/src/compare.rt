@@ -1,6 +1,6 @@
 //! What differs between what a job left and what it must leave.
 use crate::play::{Ran, untouched};
-use crate::scene::{File, Job, find};
+use crate::scene::{PlayedJob, SceneFile, find};
 use std::alloc::{AllocError, Global};
 
 // The most bytes of a line that are shown.
@@ -68,7 +68,7 @@ fn put_difference(
 }
 
 /// The bytes that a file must have behind a job: those that are told, or those of before.
-pub fn wanted_bytes<'a>(job: &'a Job, before: &'a File) -> &'a [u8] {
+pub fn wanted_bytes<'a>(job: &'a PlayedJob, before: &'a SceneFile) -> &'a [u8] {
     match find(job.wanted.files.as_slice(), before.name.as_str()) {
         Some(file) => file.bytes.as_slice(),
         None => before.bytes.as_slice(),
@@ -76,7 +76,12 @@ pub fn wanted_bytes<'a>(job: &'a Job, before: &'a File) -> &'a [u8] {
 }
 
 // Puts what differs of the ports.
-fn put_ports(alloc: Global, text: &mut String, job: &Job, ran: &Ran) -> Result<(), AllocError> {
+fn put_ports(
+    alloc: Global,
+    text: &mut String,
+    job: &PlayedJob,
+    ran: &Ran,
+) -> Result<(), AllocError> {
     if job.wanted.ports.is_empty() {
         let wanted = untouched(alloc, job.ports.len())?;
         put_difference(text, "ports", ran.ports.as_bytes(), wanted.as_bytes())
@@ -89,8 +94,8 @@ fn put_ports(alloc: Global, text: &mut String, job: &Job, ran: &Ran) -> Result<(
 /// What differs: a line for the status, for each output, for each file and for the ports; nothing where nothing does.
 pub fn differences(
     alloc: Global,
-    before: &[File],
-    job: &Job,
+    before: &[SceneFile],
+    job: &PlayedJob,
     ran: &Ran,
 ) -> Result<String, AllocError> {
     let mut text = String::new(alloc);

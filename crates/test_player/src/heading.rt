@@ -1,5 +1,5 @@
 //! A text of rows, taken apart: headings with the lines behind them.
-use crate::stop::Stop;
+use crate::stop::PlayStop;
 use std::alloc::Global;
 
 /// A heading: the number of its line, its line, and the lines of its text without the two blanks before them.
@@ -12,7 +12,7 @@ pub struct Heading<'a> {
 
 /// A row: the line where it begins, its title, and its headings.
 #[derive(Drop)]
-pub struct Row<'a> {
+pub struct WorkedRow<'a> {
     pub number: u32,
     pub title: &'a str,
     /// It must differ.
@@ -24,23 +24,27 @@ pub struct Row<'a> {
 #[derive(Drop)]
 pub struct Text<'a> {
     pub common: Vec<Heading<'a>>,
-    pub rows: Vec<Row<'a>>,
+    pub rows: Vec<WorkedRow<'a>>,
 }
 
 // Adds a line to the text of the last heading.
-fn add_text<'a>(headings: &mut Vec<Heading<'a>>, number: u32, line: &'a str) -> Result<(), Stop> {
+fn add_text<'a>(
+    headings: &mut Vec<Heading<'a>>,
+    number: u32,
+    line: &'a str,
+) -> Result<(), PlayStop> {
     match headings.last_mut() {
         Some(heading) => {
             heading.text.push(line)?;
             Ok(())
         }
-        None => Err(Stop::Unread(number, "text without a heading")),
+        None => Err(PlayStop::Unread(number, "text without a heading")),
     }
 }
 
 impl<'a> Text<'a> {
     // Takes a line of the text of the last heading in.
-    fn add_text(&mut self, number: u32, line: &'a str) -> Result<(), Stop> {
+    fn add_text(&mut self, number: u32, line: &'a str) -> Result<(), PlayStop> {
         match self.rows.last_mut() {
             Some(row) => add_text(&mut row.headings, number, line),
             None => add_text(&mut self.common, number, line),
@@ -48,7 +52,7 @@ impl<'a> Text<'a> {
     }
 
     // Takes a heading of the last row in, or one before the first row.
-    fn add_heading(&mut self, heading: Heading<'a>) -> Result<(), Stop> {
+    fn add_heading(&mut self, heading: Heading<'a>) -> Result<(), PlayStop> {
         match self.rows.last_mut() {
             Some(row) => row.headings.push(heading)?,
             None => self.common.push(heading)?,
@@ -62,9 +66,9 @@ impl<'a> Text<'a> {
         number: u32,
         title: &'a str,
         is_spoilt: bool,
-    ) -> Result<(), Stop> {
+    ) -> Result<(), PlayStop> {
         let headings = Vec::new(alloc);
-        self.rows.push(Row {
+        self.rows.push(WorkedRow {
             number,
             title,
             is_spoilt,
@@ -74,7 +78,7 @@ impl<'a> Text<'a> {
     }
 
     // Takes a line in, which has a number.
-    fn add_line(&mut self, alloc: Global, number: u32, line: &'a str) -> Result<(), Stop> {
+    fn add_line(&mut self, alloc: Global, number: u32, line: &'a str) -> Result<(), PlayStop> {
         if let Some(text) = line.strip_prefix("  ") {
             return self.add_text(number, text);
         }
@@ -92,7 +96,7 @@ impl<'a> Text<'a> {
     }
 
     /// Takes a text apart.
-    pub fn read(alloc: Global, text: &'a str) -> Result<Text<'a>, Stop> {
+    pub fn read(alloc: Global, text: &'a str) -> Result<Text<'a>, PlayStop> {
         let mut read = Text {
             common: Vec::new(alloc),
             rows: Vec::new(alloc),

@@ -1,5 +1,5 @@
 //! The numbers of a rule: sums, differences, products and remainders of numbers and counters.
-use crate::stop::Stop;
+use crate::stop::PlayStop;
 use std::alloc::Global;
 use tl_text::decimal;
 
@@ -10,10 +10,10 @@ pub struct Counter<'a> {
     pub value: i64,
 }
 
-const UNREAD: Stop = Stop::Unread(0, "a number that can't be worked out");
+const UNREAD: PlayStop = PlayStop::Unread(0, "a number that can't be worked out");
 
 // The value of a word: a number or a counter, of which the one begun last counts.
-fn value_of(word: &[u8], counters: &[Counter]) -> Result<i64, Stop> {
+fn value_of(word: &[u8], counters: &[Counter]) -> Result<i64, PlayStop> {
     if let Some(number) = decimal(word) {
         return i64::try_from(number).ok().ok_or(UNREAD);
     }
@@ -34,7 +34,7 @@ fn rank(operation: u8) -> u8 {
     }
 }
 
-fn applied(operation: u8, x: i64, y: i64) -> Result<i64, Stop> {
+fn applied(operation: u8, x: i64, y: i64) -> Result<i64, PlayStop> {
     let value = match operation {
         b'+' => x.checked_add(y),
         b'-' => x.checked_sub(y),
@@ -53,7 +53,7 @@ struct Reading {
 
 impl Reading {
     // Takes the last operation and its two values away, and puts its value in their place.
-    fn apply(&mut self) -> Result<(), Stop> {
+    fn apply(&mut self) -> Result<(), PlayStop> {
         let operation = self.operations.pop().ok_or(UNREAD)?;
         let y = self.values.pop().ok_or(UNREAD)?;
         let x = self.values.pop().ok_or(UNREAD)?;
@@ -62,7 +62,7 @@ impl Reading {
     }
 
     // Applies the operations that bind as strongly as this one.
-    fn apply_down_to(&mut self, least: u8) -> Result<(), Stop> {
+    fn apply_down_to(&mut self, least: u8) -> Result<(), PlayStop> {
         for _ in 0..self.operations.len() {
             match self.operations.last() {
                 Some(operation) if least <= rank(*operation) => self.apply()?,
@@ -72,7 +72,7 @@ impl Reading {
         Ok(())
     }
 
-    fn close(&mut self) -> Result<(), Stop> {
+    fn close(&mut self) -> Result<(), PlayStop> {
         self.apply_down_to(1)?;
         match self.operations.pop() {
             Some(b'(') => Ok(()),
@@ -80,7 +80,7 @@ impl Reading {
         }
     }
 
-    fn take(&mut self, operation: u8) -> Result<(), Stop> {
+    fn take(&mut self, operation: u8) -> Result<(), PlayStop> {
         match operation {
             b' ' => Ok(()),
             b'(' => Ok(self.operations.push(operation)?),
@@ -93,7 +93,7 @@ impl Reading {
     }
 
     // Takes the word before an operation, if there is one.
-    fn take_word(&mut self, word: &mut Vec<u8>, counters: &[Counter]) -> Result<(), Stop> {
+    fn take_word(&mut self, word: &mut Vec<u8>, counters: &[Counter]) -> Result<(), PlayStop> {
         if !word.is_empty() {
             self.values.push(value_of(word.as_slice(), counters)?)?;
             word.clear();
@@ -103,7 +103,7 @@ impl Reading {
 }
 
 // The value of an expression without sums over a counter.
-fn plain_value(alloc: Global, text: &str, counters: &[Counter]) -> Result<i64, Stop> {
+fn plain_value(alloc: Global, text: &str, counters: &[Counter]) -> Result<i64, PlayStop> {
     let mut reading = Reading {
         values: Vec::new(alloc),
         operations: Vec::new(alloc),
@@ -126,7 +126,7 @@ fn plain_value(alloc: Global, text: &str, counters: &[Counter]) -> Result<i64, S
 }
 
 /// The two bounds of a counter, `A..B`.
-pub fn bounds(alloc: Global, text: &str, counters: &[Counter]) -> Result<(i64, i64), Stop> {
+pub fn bounds(alloc: Global, text: &str, counters: &[Counter]) -> Result<(i64, i64), PlayStop> {
     let (first, last) = text.split_once("..").ok_or(UNREAD)?;
     Ok((
         plain_value(alloc, first, counters)?,
@@ -135,7 +135,7 @@ pub fn bounds(alloc: Global, text: &str, counters: &[Counter]) -> Result<(i64, i
 }
 
 // The sum of an expression over a counter: what stands behind the word `sum`.
-fn sum(alloc: Global, text: &str) -> Result<i64, Stop> {
+fn sum(alloc: Global, text: &str) -> Result<i64, PlayStop> {
     let (name, rest) = text.split_once(' ').ok_or(UNREAD)?;
     let (range, expression) = rest.split_once(' ').ok_or(UNREAD)?;
     let (first, last) = bounds(alloc, range, &[])?;
@@ -148,7 +148,7 @@ fn sum(alloc: Global, text: &str) -> Result<i64, Stop> {
 }
 
 /// The value of an expression, also of a sum over a counter.
-pub fn value(alloc: Global, text: &str, counters: &[Counter]) -> Result<i64, Stop> {
+pub fn value(alloc: Global, text: &str, counters: &[Counter]) -> Result<i64, PlayStop> {
     match text.strip_prefix("sum ") {
         Some(rest) => sum(alloc, rest),
         None => plain_value(alloc, text, counters),

@@ -1,11 +1,11 @@
 //! The bytes of a text: as they stand, with escapes, in hexadecimal, or made by a rule.
 use crate::number::{Counter, bounds, value};
-use crate::stop::Stop;
+use crate::stop::PlayStop;
 use std::alloc::Global;
 
 /// How a text is read.
 #[derive(Clone, Copy)]
-pub enum Kind {
+pub enum PartKind {
     /// Bytes and escapes.
     Plain,
     /// Bytes, escapes, numbers and repetitions.
@@ -16,14 +16,14 @@ pub enum Kind {
     Hex,
 }
 
-impl Kind {
+impl PartKind {
     // The place of the first letter that stands for something else than itself.
     fn special(self, text: &str) -> Option<usize> {
         match self {
-            Kind::Plain => text.find('\\'),
-            Kind::Made => text.find(['\\', '{', '[', ']']),
-            Kind::Filled => text.find('{'),
-            Kind::Hex => None,
+            PartKind::Plain => text.find('\\'),
+            PartKind::Made => text.find(['\\', '{', '[', ']']),
+            PartKind::Filled => text.find('{'),
+            PartKind::Hex => None,
         }
     }
 }
@@ -40,18 +40,18 @@ enum Part<'a> {
     End,
 }
 
-const UNREAD: Stop = Stop::Unread(0, "a text that can't be read");
+const UNREAD: PlayStop = PlayStop::Unread(0, "a text that can't be read");
 
 // The parts of a text that were read, and how many of its repetitions have no end yet.
 #[derive(Drop)]
 struct Reading<'a> {
-    kind: Kind,
+    kind: PartKind,
     parts: Vec<Part<'a>>,
     open: usize,
 }
 
 // The byte that a letter behind a backslash stands for.
-fn escaped(letter: u8) -> Result<u8, Stop> {
+fn escaped(letter: u8) -> Result<u8, PlayStop> {
     match letter {
         b'n' => Ok(b'\n'),
         b'r' => Ok(b'\r'),
@@ -62,31 +62,31 @@ fn escaped(letter: u8) -> Result<u8, Stop> {
 }
 
 impl<'a> Reading<'a> {
-    fn new(alloc: Global, kind: Kind) -> Reading<'a> {
+    fn new(alloc: Global, kind: PartKind) -> Reading<'a> {
         let parts = Vec::new(alloc);
         let open = 0;
         Reading { kind, parts, open }
     }
 
-    fn add(&mut self, part: Part<'a>) -> Result<(), Stop> {
+    fn add(&mut self, part: Part<'a>) -> Result<(), PlayStop> {
         self.parts.push(part)?;
         Ok(())
     }
 
     // Begins a repetition.
-    fn open(&mut self, counter: &'a str, range: &'a str) -> Result<(), Stop> {
+    fn open(&mut self, counter: &'a str, range: &'a str) -> Result<(), PlayStop> {
         self.open = self.open.saturating_add(1);
         self.add(Part::Repeat(counter, range))
     }
 
     // Ends the repetition that was begun last.
-    fn end(&mut self) -> Result<(), Stop> {
+    fn end(&mut self) -> Result<(), PlayStop> {
         self.open = self.open.checked_sub(1).ok_or(UNREAD)?;
         self.add(Part::End)
     }
 
     // Reads the escape behind a backslash, and answers what stands behind it.
-    fn escape(&mut self, rest: &'a str) -> Result<&'a str, Stop> {
+    fn escape(&mut self, rest: &'a str) -> Result<&'a str, PlayStop> {
         let (letter, behind) = rest.split_at_checked(1).ok_or(UNREAD)?;
         let letter = first_byte(letter)?;
         if letter != b'x' {
@@ -99,7 +99,7 @@ impl<'a> Reading<'a> {
     }
 
     // Begins the repetition whose head stands in a line, and answers what stands behind the head.
-    fn begin_in_line(&mut self, rest: &'a str) -> Result<&'a str, Stop> {
+    fn begin_in_line(&mut self, rest: &'a str) -> Result<&'a str, PlayStop> {
         let (counter, behind) = rest.split_once(' ').ok_or(UNREAD)?;
         let (range, behind) = behind.split_once(' ').ok_or(UNREAD)?;
         self.open(counter, range)?;
@@ -107,14 +107,14 @@ impl<'a> Reading<'a> {
     }
 
     // Reads the number behind a brace, and answers what stands behind it.
-    fn number(&mut self, rest: &'a str) -> Result<&'a str, Stop> {
+    fn number(&mut self, rest: &'a str) -> Result<&'a str, PlayStop> {
         let (number, behind) = rest.split_once('}').ok_or(UNREAD)?;
         self.add(Part::Number(number))?;
         Ok(behind)
     }
 
     // Reads what a special letter begins, and answers what stands behind it.
-    fn special(&mut self, letter: u8, rest: &'a str) -> Result<&'a str, Stop> {
+    fn special(&mut self, letter: u8, rest: &'a str) -> Result<&'a str, PlayStop> {
         match letter {
             b'{' => self.number(rest),
             b'[' => self.begin_in_line(rest),
@@ -127,7 +127,7 @@ impl<'a> Reading<'a> {
     }
 
     // Reads a line, and answers whether a line feed ends it.
-    fn line(&mut self, line: &'a str) -> Result<bool, Stop> {
+    fn line(&mut self, line: &'a str) -> Result<bool, PlayStop> {
         let mut rest = line;
         for _ in 0..line.len() {
             let Some(at) = self.kind.special(rest) else {
@@ -147,7 +147,7 @@ impl<'a> Reading<'a> {
     }
 
     // Reads the line that begins a repetition of lines or ends one, and answers whether it is such a line.
-    fn is_repetition(&mut self, line: &'a str) -> Result<bool, Stop> {
+    fn is_repetition(&mut self, line: &'a str) -> Result<bool, PlayStop> {
         if let Some(head) = line.strip_prefix("for ") {
             let (counter, range) = head.split_once(' ').ok_or(UNREAD)?;
             self.open(counter, range)?;
@@ -161,8 +161,8 @@ impl<'a> Reading<'a> {
     }
 
     // Reads a line of a text.
-    fn text_line(&mut self, line: &'a str) -> Result<(), Stop> {
-        if matches!(self.kind, Kind::Made) && self.is_repetition(line)? {
+    fn text_line(&mut self, line: &'a str) -> Result<(), PlayStop> {
+        if matches!(self.kind, PartKind::Made) && self.is_repetition(line)? {
             return Ok(());
         }
         if self.line(line)? {
@@ -172,7 +172,7 @@ impl<'a> Reading<'a> {
     }
 }
 
-fn first_byte(text: &str) -> Result<u8, Stop> {
+fn first_byte(text: &str) -> Result<u8, PlayStop> {
     match text.as_bytes() {
         [byte, ..] => Ok(*byte),
         [] => Err(UNREAD),
@@ -180,7 +180,7 @@ fn first_byte(text: &str) -> Result<u8, Stop> {
 }
 
 // The value of a hexadecimal digit.
-fn hex_digit(byte: u8) -> Result<u8, Stop> {
+fn hex_digit(byte: u8) -> Result<u8, PlayStop> {
     match byte {
         b'0'..=b'9' => Ok(byte - b'0'),
         b'a'..=b'f' => Ok(byte - b'a' + 10),
@@ -189,7 +189,7 @@ fn hex_digit(byte: u8) -> Result<u8, Stop> {
 }
 
 // The byte of two hexadecimal digits.
-fn hex_byte(digits: &[u8]) -> Result<u8, Stop> {
+fn hex_byte(digits: &[u8]) -> Result<u8, PlayStop> {
     match digits {
         [high, low] => Ok(
             hex_digit(*high)?
@@ -234,7 +234,7 @@ fn behind(parts: &[Part], first: usize) -> usize {
 
 impl<'a> Putting<'a> {
     // Puts a number in decimal.
-    fn number(&mut self, expression: &str) -> Result<(), Stop> {
+    fn number(&mut self, expression: &str) -> Result<(), PlayStop> {
         let number = value(self.alloc, expression, self.counters.as_slice())?;
         let text = format!(in self.alloc; "{number}")?;
         self.bytes.extend_from_slice(text.as_bytes())?;
@@ -242,7 +242,7 @@ impl<'a> Putting<'a> {
     }
 
     // Begins a repetition, and answers whether its counter has a value.
-    fn begin(&mut self, name: &'a str, range: &str, first: usize) -> Result<bool, Stop> {
+    fn begin(&mut self, name: &'a str, range: &str, first: usize) -> Result<bool, PlayStop> {
         let (value, last) = bounds(self.alloc, range, self.counters.as_slice())?;
         if last < value {
             return Ok(false);
@@ -266,7 +266,7 @@ impl<'a> Putting<'a> {
     }
 
     // Puts a part, and answers the place of the one to be put next.
-    fn put(&mut self, parts: &[Part<'a>], part: &Part<'a>, next: usize) -> Result<usize, Stop> {
+    fn put(&mut self, parts: &[Part<'a>], part: &Part<'a>, next: usize) -> Result<usize, PlayStop> {
         match part {
             Part::Text(text) => self.bytes.extend_from_slice(text.as_bytes())?,
             Part::Byte(byte) => self.bytes.push(*byte)?,
@@ -283,7 +283,7 @@ impl<'a> Putting<'a> {
 }
 
 // The bytes of hexadecimal lines, whose blanks don't count.
-fn hex_bytes(alloc: Global, lines: &[&str]) -> Result<Vec<u8>, Stop> {
+fn hex_bytes(alloc: Global, lines: &[&str]) -> Result<Vec<u8>, PlayStop> {
     let mut digits = Vec::new(alloc);
     for line in lines {
         for byte in line.bytes() {
@@ -304,7 +304,7 @@ fn bytes_of<'a>(
     alloc: Global,
     parts: &[Part<'a>],
     counters: &[Counter<'a>],
-) -> Result<Vec<u8>, Stop> {
+) -> Result<Vec<u8>, PlayStop> {
     let mut putting = Putting {
         alloc,
         bytes: Vec::new(alloc),
@@ -324,11 +324,11 @@ fn bytes_of<'a>(
 /// The bytes of a text's lines.
 pub fn text_of<'a>(
     alloc: Global,
-    kind: Kind,
+    kind: PartKind,
     lines: &[&'a str],
     counters: &[Counter<'a>],
-) -> Result<Vec<u8>, Stop> {
-    if matches!(kind, Kind::Hex) {
+) -> Result<Vec<u8>, PlayStop> {
+    if matches!(kind, PartKind::Hex) {
         return hex_bytes(alloc, lines);
     }
     let mut reading = Reading::new(alloc, kind);
@@ -344,10 +344,10 @@ pub fn text_of<'a>(
 /// The bytes of one line without its line feed.
 pub fn line_of<'a>(
     alloc: Global,
-    kind: Kind,
+    kind: PartKind,
     line: &'a str,
     counters: &[Counter<'a>],
-) -> Result<Vec<u8>, Stop> {
+) -> Result<Vec<u8>, PlayStop> {
     let mut reading = Reading::new(alloc, kind);
     reading.line(line)?;
     bytes_of(alloc, reading.parts.as_slice(), counters)

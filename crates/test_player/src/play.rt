@@ -1,6 +1,6 @@
 //! Runs a job over objects in memory.
-use crate::scene::{File, HandedIn, Job, find};
-use crate::stop::Stop;
+use crate::scene::{HandedIn, PlayedJob, SceneFile, find};
+use crate::stop::PlayStop;
 use std::alloc::{AllocError, Global};
 use tl_io::{ConfigPort, MemPort, MemShelf, MemSink};
 
@@ -42,14 +42,14 @@ pub struct Ran {
     /// A line for each port in their order: its number among those that were handed in, the writes that it took, and its
     /// faults if there are any.
     pub ports: String,
-    pub files: Vec<File>,
+    pub files: Vec<SceneFile>,
 }
 
 // Puts the files on a shelf, each with room for what it must have behind the job.
 fn shelf_of(
     alloc: Global,
-    files: &[File],
-    job: &Job,
+    files: &[SceneFile],
+    job: &PlayedJob,
     fails: &[u64],
 ) -> Result<MemShelf, AllocError> {
     let mut shelf = MemShelf::make(alloc, PIECE, fails)?;
@@ -106,12 +106,16 @@ fn told<P: ConfigPort>(alloc: Global, ports: &[P]) -> Result<String, AllocError>
 }
 
 // The files behind a job.
-fn files_of(alloc: Global, shelf: &MemShelf, before: &[File]) -> Result<Vec<File>, AllocError> {
+fn files_of(
+    alloc: Global,
+    shelf: &MemShelf,
+    before: &[SceneFile],
+) -> Result<Vec<SceneFile>, AllocError> {
     let mut files = Vec::new(alloc);
     for file in before {
         let name = file.name.as_str();
         let bytes = shelf.file(name).unwrap_or(&[]);
-        files.push(File {
+        files.push(SceneFile {
             name: String::from_str(alloc, name)?,
             bytes: Vec::from_slice(alloc, bytes)?,
         })?;
@@ -141,7 +145,12 @@ fn sink_of(alloc: Global, wanted: &[u8], fails: &[u64]) -> Result<MemSink, Alloc
     MemSink::make(alloc, wanted.len().saturating_add(ROOM), fails)
 }
 
-fn world_of(alloc: Global, files: &[File], job: &Job, fails: &Fails) -> Result<World, AllocError> {
+fn world_of(
+    alloc: Global,
+    files: &[SceneFile],
+    job: &PlayedJob,
+    fails: &Fails,
+) -> Result<World, AllocError> {
     let shelf = shelf_of(alloc, files, job, fails.shelf)?;
     let out = sink_of(alloc, job.wanted.out.as_slice(), fails.out)?;
     let err = sink_of(alloc, job.wanted.err.as_slice(), fails.err)?;
@@ -151,7 +160,7 @@ fn world_of(alloc: Global, files: &[File], job: &Job, fails: &Fails) -> Result<W
 // What is left outside behind a job.
 fn left(
     alloc: Global,
-    files: &[File],
+    files: &[SceneFile],
     status: u8,
     world: World,
     ports: String,
@@ -170,11 +179,11 @@ fn left(
 pub fn run<P: Program>(
     alloc: Global,
     program: &P,
-    files: &[File],
-    job: &Job,
+    files: &[SceneFile],
+    job: &PlayedJob,
     words: &[String],
     fails: &Fails,
-) -> Result<Ran, Stop> {
+) -> Result<Ran, PlayStop> {
     let mut ports: Vec<Box<dyn ConfigPort>> = Vec::new(alloc);
     for (number, port) in (0..u32::MAX).zip(&job.ports) {
         let made = numbered(alloc, number, port)?;

@@ -1,8 +1,8 @@
 //! Plays all rows of some texts, and says what became of them.
-use crate::heading::{Row, Text};
+use crate::heading::{Text, WorkedRow};
 use crate::play::Program;
 use crate::row::play_row;
-use crate::stop::Stop;
+use crate::stop::PlayStop;
 use std::alloc::Global;
 use std::rt::Env;
 use std::{env, io, str};
@@ -23,7 +23,7 @@ struct Report {
 
 impl Report {
     // Takes a row in, with what differs.
-    fn add(&mut self, name: &str, row: &Row, differences: &str) -> Result<(), Stop> {
+    fn add(&mut self, name: &str, row: &WorkedRow, differences: &str) -> Result<(), PlayStop> {
         self.played = self.played.wrapping_add(1);
         let number = row.number;
         let title = row.title;
@@ -53,7 +53,7 @@ impl Report {
         program: &P,
         name: &str,
         text: &str,
-    ) -> Result<(), Stop> {
+    ) -> Result<(), PlayStop> {
         let text = Text::read(alloc, text)?;
         for row in &text.rows {
             let differences = play_row(alloc, program, &text.common, row)?;
@@ -70,18 +70,18 @@ fn add_file<S: Shelf, P: Program>(
     program: &P,
     report: &mut Report,
     name: &str,
-) -> Result<(), Stop> {
+) -> Result<(), PlayStop> {
     let Ok(bytes) = slurp(alloc, shelf, name, MOST_BYTES) else {
-        return Err(Stop::Unread(0, "the text can't be read"));
+        return Err(PlayStop::Unread(0, "the text can't be read"));
     };
     match str::from_utf8(bytes.as_slice()) {
         Ok(text) => report.add_text(alloc, program, name, text),
-        Err(_) => Err(Stop::Unread(0, "the text isn't UTF-8")),
+        Err(_) => Err(PlayStop::Unread(0, "the text isn't UTF-8")),
     }
 }
 
 // The line that says what became of all rows.
-fn add_total(report: &mut Report) -> Result<(), Stop> {
+fn add_total(report: &mut Report) -> Result<(), PlayStop> {
     let Report {
         played,
         told_apart,
@@ -117,11 +117,11 @@ fn played<R: Env + AllocGlobal, S: Shelf, P: Program>(
     for name in env::args(rt)?.skip(1) {
         match add_file(rt.alloc(), shelf, program, &mut report, name.as_str()) {
             Ok(()) => {}
-            Err(Stop::Unread(line, why)) => {
+            Err(PlayStop::Unread(line, why)) => {
                 report.differ = report.differ.wrapping_add(1);
                 write!(report.lines, "{name}:{line}: {why}\n")?;
             }
-            Err(Stop::Memory) => return Err(io::Error::from(io::ErrorKind::OutOfMemory)),
+            Err(PlayStop::Memory) => return Err(io::Error::from(io::ErrorKind::OutOfMemory)),
         }
     }
     Ok(report)

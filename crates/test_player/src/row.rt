@@ -1,10 +1,10 @@
 //! Reads a row's headings, and plays its jobs one after another on the same files.
-use crate::heading::{Heading, Row};
+use crate::heading::{Heading, WorkedRow};
 use crate::number::{Counter, bounds};
-use crate::part::{Kind, line_of, text_of};
+use crate::part::{PartKind, line_of, text_of};
 use crate::play::Program;
-use crate::scene::{Calls, File, HandedIn, Job};
-use crate::stop::Stop;
+use crate::scene::{Calls, HandedIn, PlayedJob, SceneFile};
+use crate::stop::PlayStop;
 use crate::turn::run_job;
 use std::alloc::Global;
 use tl_text::decimal;
@@ -12,7 +12,7 @@ use tl_text::decimal;
 // The room of a port for which no heading gives another one.
 const PORT_ROOM: usize = 100;
 
-const UNREAD: Stop = Stop::Unread(0, "a heading that can't be read");
+const UNREAD: PlayStop = PlayStop::Unread(0, "a heading that can't be read");
 
 // A row while it is played: the files as they lie there now, the next job, and what differed so far.
 #[derive(Drop)]
@@ -20,22 +20,22 @@ struct Scene<'a, P: Program> {
     alloc: Global,
     program: &'a P,
     counters: &'a [Counter<'a>],
-    files: Vec<File>,
-    job: Job,
+    files: Vec<SceneFile>,
+    job: PlayedJob,
     differences: String,
 }
 
 // A number below 2^32.
-fn number(word: &str) -> Result<u32, Stop> {
+fn number(word: &str) -> Result<u32, PlayStop> {
     let number = decimal(word.as_bytes()).ok_or(UNREAD)?;
     u32::try_from(number).ok().ok_or(UNREAD)
 }
 
-fn status(word: &str) -> Result<u8, Stop> {
+fn status(word: &str) -> Result<u8, PlayStop> {
     u8::try_from(number(word)?).ok().ok_or(UNREAD)
 }
 
-fn numbers(alloc: Global, words: &str) -> Result<Vec<u64>, Stop> {
+fn numbers(alloc: Global, words: &str) -> Result<Vec<u64>, PlayStop> {
     let mut numbers = Vec::new(alloc);
     for word in words.split(' ') {
         numbers.push(decimal(word.as_bytes()).ok_or(UNREAD)?)?;
@@ -43,29 +43,29 @@ fn numbers(alloc: Global, words: &str) -> Result<Vec<u64>, Stop> {
     Ok(numbers)
 }
 
-fn calls(alloc: Global, words: &str) -> Result<Calls, Stop> {
+fn calls(alloc: Global, words: &str) -> Result<Calls, PlayStop> {
     if words == "in turn" {
         return Ok(Calls::InTurn);
     }
     Ok(Calls::These(numbers(alloc, words)?))
 }
 
-fn string(bytes: Vec<u8>) -> Result<String, Stop> {
+fn string(bytes: Vec<u8>) -> Result<String, PlayStop> {
     String::from_utf8(bytes).ok().ok_or(UNREAD)
 }
 
 // The words of a command line: what stands between single blanks, two quotes being the empty word.
-fn words_of(alloc: Global, line: &str) -> Result<Vec<String>, Stop> {
+fn words_of(alloc: Global, line: &str) -> Result<Vec<String>, PlayStop> {
     let mut words = Vec::new(alloc);
     for word in line.split(' ').skip(1) {
         let text = if word == "\"\"" { "" } else { word };
-        words.push(string(line_of(alloc, Kind::Plain, text, &[])?)?)?;
+        words.push(string(line_of(alloc, PartKind::Plain, text, &[])?)?)?;
     }
     Ok(words)
 }
 
 // Puts a file in the place of one of its name, or behind the others.
-fn put_file(files: &mut Vec<File>, file: File) -> Result<(), Stop> {
+fn put_file(files: &mut Vec<SceneFile>, file: SceneFile) -> Result<(), PlayStop> {
     for old in files.iter_mut() {
         if old.name.as_str() == file.name.as_str() {
             old.bytes = file.bytes;
@@ -78,12 +78,12 @@ fn put_file(files: &mut Vec<File>, file: File) -> Result<(), Stop> {
 
 impl<P: Program> Scene<'_, P> {
     // The bytes of a heading's text, by the options behind a name or a word.
-    fn bytes(&self, options: &str, heading: &Heading) -> Result<Vec<u8>, Stop> {
+    fn bytes(&self, options: &str, heading: &Heading) -> Result<Vec<u8>, PlayStop> {
         let (kind, first) = match options.strip_prefix("hex") {
-            Some(first) => (Kind::Hex, first),
+            Some(first) => (PartKind::Hex, first),
             None => match options.strip_prefix("made") {
-                Some(first) => (Kind::Made, first),
-                None => (Kind::Plain, options),
+                Some(first) => (PartKind::Made, first),
+                None => (PartKind::Plain, options),
             },
         };
         let mut bytes = text_of(self.alloc, kind, heading.text.as_slice(), self.counters)?;
@@ -97,21 +97,21 @@ impl<P: Program> Scene<'_, P> {
     }
 
     // The file of a heading: a name, and options.
-    fn file(&self, rest: &str, heading: &Heading) -> Result<File, Stop> {
+    fn file(&self, rest: &str, heading: &Heading) -> Result<SceneFile, PlayStop> {
         let (name, options) = rest.split_once(' ').unwrap_or((rest, ""));
         let name = String::from_str(self.alloc, name)?;
         let bytes = self.bytes(options, heading)?;
-        Ok(File { name, bytes })
+        Ok(SceneFile { name, bytes })
     }
 
     // Runs the job that was read, if there is one, and begins the next one.
-    fn finish(&mut self) -> Result<(), Stop> {
-        let job = std::mem::replace(&mut self.job, Job::new(self.alloc));
+    fn finish(&mut self) -> Result<(), PlayStop> {
+        let job = std::mem::replace(&mut self.job, PlayedJob::new(self.alloc));
         for file in &job.wanted.files {
             if crate::scene::find(self.files.as_slice(), file.name.as_str()).is_none() {
                 let name = file.name.clone()?;
                 let bytes = Vec::new(self.alloc);
-                self.files.push(File { name, bytes })?;
+                self.files.push(SceneFile { name, bytes })?;
             }
         }
         for words in &job.words {
@@ -129,7 +129,7 @@ impl<P: Program> Scene<'_, P> {
     }
 
     // Begins what the next job has outside.
-    fn prepare(&mut self) -> Result<(), Stop> {
+    fn prepare(&mut self) -> Result<(), PlayStop> {
         if self.job.words.is_empty() {
             return Ok(());
         }
@@ -137,7 +137,7 @@ impl<P: Program> Scene<'_, P> {
     }
 
     // The room of a port, or its calls that fail.
-    fn port(&mut self, rest: &str) -> Result<(), Stop> {
+    fn port(&mut self, rest: &str) -> Result<(), PlayStop> {
         let (word, rest) = rest.split_once(' ').ok_or(UNREAD)?;
         let (kind, value) = rest.split_once(' ').ok_or(UNREAD)?;
         let place = number(word)? as usize;
@@ -150,7 +150,7 @@ impl<P: Program> Scene<'_, P> {
         Ok(())
     }
 
-    fn ports(&mut self, rest: &str) -> Result<(), Stop> {
+    fn ports(&mut self, rest: &str) -> Result<(), PlayStop> {
         self.prepare()?;
         for _ in 0..number(rest)? {
             let fails = Vec::new(self.alloc);
@@ -160,7 +160,7 @@ impl<P: Program> Scene<'_, P> {
         Ok(())
     }
 
-    fn add_file(&mut self, rest: &str, heading: &Heading) -> Result<(), Stop> {
+    fn add_file(&mut self, rest: &str, heading: &Heading) -> Result<(), PlayStop> {
         self.prepare()?;
         let file = self.file(rest, heading)?;
         put_file(&mut self.files, file)
@@ -175,7 +175,7 @@ impl<P: Program> Scene<'_, P> {
     }
 
     // Which calls of an object fail. Answers whether the word is an object's.
-    fn fails(&mut self, word: &str, words: &str) -> Result<bool, Stop> {
+    fn fails(&mut self, word: &str, words: &str) -> Result<bool, PlayStop> {
         if word != "shelf" && word != "out" && word != "err" {
             return Ok(false);
         }
@@ -186,7 +186,7 @@ impl<P: Program> Scene<'_, P> {
     }
 
     // What a job has outside. Answers whether the heading tells it.
-    fn outside(&mut self, word: &str, rest: &str, heading: &Heading) -> Result<bool, Stop> {
+    fn outside(&mut self, word: &str, rest: &str, heading: &Heading) -> Result<bool, PlayStop> {
         if let Some(words) = rest.strip_prefix("fails ") {
             return self.fails(word, words);
         }
@@ -200,7 +200,7 @@ impl<P: Program> Scene<'_, P> {
     }
 
     // Further words of which the same must come.
-    fn also(&mut self, rest: &str) -> Result<(), Stop> {
+    fn also(&mut self, rest: &str) -> Result<(), PlayStop> {
         let line = rest.strip_prefix("$ tlut").ok_or(UNREAD)?;
         let words = words_of(self.alloc, line)?;
         self.job.words.push(words)?;
@@ -208,32 +208,32 @@ impl<P: Program> Scene<'_, P> {
     }
 
     // The fault line, in the heading or below it.
-    fn err(&mut self, rest: &str, heading: &Heading) -> Result<(), Stop> {
+    fn err(&mut self, rest: &str, heading: &Heading) -> Result<(), PlayStop> {
         let is_below = rest.is_empty() || rest == "made";
         let bytes = if is_below {
             self.bytes(rest, heading)?
         } else {
-            text_of(self.alloc, Kind::Plain, &[rest], &[])?
+            text_of(self.alloc, PartKind::Plain, &[rest], &[])?
         };
         self.job.wanted.err = bytes;
         Ok(())
     }
 
-    fn left(&mut self, rest: &str, heading: &Heading) -> Result<(), Stop> {
+    fn left(&mut self, rest: &str, heading: &Heading) -> Result<(), PlayStop> {
         let file = self.file(rest, heading)?;
         self.job.wanted.files.push(file)?;
         Ok(())
     }
 
     // A line of the ports.
-    fn log(&mut self, rest: &str) -> Result<(), Stop> {
+    fn log(&mut self, rest: &str) -> Result<(), PlayStop> {
         self.job.wanted.ports.extend_from_slice(rest.as_bytes())?;
         self.job.wanted.ports.push(b'\n')?;
         Ok(())
     }
 
     // What a job must leave.
-    fn wanted(&mut self, word: &str, rest: &str, heading: &Heading) -> Result<(), Stop> {
+    fn wanted(&mut self, word: &str, rest: &str, heading: &Heading) -> Result<(), PlayStop> {
         if self.job.words.is_empty() {
             return Err(UNREAD);
         }
@@ -255,7 +255,7 @@ impl<P: Program> Scene<'_, P> {
     }
 
     // Takes a heading in.
-    fn take(&mut self, line: &str, heading: &Heading) -> Result<(), Stop> {
+    fn take(&mut self, line: &str, heading: &Heading) -> Result<(), PlayStop> {
         if let Some(words) = line.strip_prefix("$ tlut") {
             self.prepare()?;
             self.job.words.push(words_of(self.alloc, words)?)?;
@@ -269,11 +269,11 @@ impl<P: Program> Scene<'_, P> {
         self.wanted(word, rest, heading)
     }
 
-    fn take_heading(&mut self, heading: &Heading) -> Result<(), Stop> {
+    fn take_heading(&mut self, heading: &Heading) -> Result<(), PlayStop> {
         if self.counters.is_empty() {
             return self.take(heading.line, heading);
         }
-        let line = string(line_of(self.alloc, Kind::Filled, heading.line, self.counters)?)?;
+        let line = string(line_of(self.alloc, PartKind::Filled, heading.line, self.counters)?)?;
         self.take(line.as_str(), heading)
     }
 }
@@ -283,15 +283,15 @@ fn play_once<P: Program>(
     alloc: Global,
     program: &P,
     common: &[Heading],
-    row: &Row,
+    row: &WorkedRow,
     counters: &[Counter],
-) -> Result<String, Stop> {
+) -> Result<String, PlayStop> {
     let mut scene = Scene {
         alloc,
         program,
         counters,
         files: Vec::new(alloc),
-        job: Job::new(alloc),
+        job: PlayedJob::new(alloc),
         differences: String::new(alloc),
     };
     for heading in common.iter().chain(row.headings.iter()) {
@@ -300,7 +300,7 @@ fn play_once<P: Program>(
         }
     }
     if scene.job.words.is_empty() {
-        return Err(Stop::Unread(row.number, "a row without a job"));
+        return Err(PlayStop::Unread(row.number, "a row without a job"));
     }
     if let Err(stop) = scene.finish() {
         return Err(stop.at(row.number));
@@ -309,7 +309,10 @@ fn play_once<P: Program>(
 }
 
 // The counter of a row that is played once for each of its values, with the bounds.
-fn counter_of<'a>(alloc: Global, row: &Row<'a>) -> Result<Option<(&'a str, i64, i64)>, Stop> {
+fn counter_of<'a>(
+    alloc: Global,
+    row: &WorkedRow<'a>,
+) -> Result<Option<(&'a str, i64, i64)>, PlayStop> {
     for heading in &row.headings {
         if let Some(rest) = heading.line.strip_prefix("each ") {
             let (name, range) = rest.split_once(' ').ok_or(UNREAD)?;
@@ -325,8 +328,8 @@ pub fn play_row<P: Program>(
     alloc: Global,
     program: &P,
     common: &[Heading],
-    row: &Row,
-) -> Result<String, Stop> {
+    row: &WorkedRow,
+) -> Result<String, PlayStop> {
     let Some((name, first, last)) = counter_of(alloc, row)? else {
         return play_once(alloc, program, common, row, &[]);
     };

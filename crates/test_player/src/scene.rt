@@ -12,7 +12,7 @@ pub enum Calls {
 
 /// A file and its bytes.
 #[derive(Drop)]
-pub struct File {
+pub struct SceneFile {
     pub name: String,
     pub bytes: Vec<u8>,
 }
@@ -27,35 +27,35 @@ pub struct HandedIn {
 /// What a job must leave: both outputs, the status, the files that differ from before, and the lines of the ports. No line:
 /// the ports as they were handed in.
 #[derive(Drop)]
-pub struct Wanted {
+pub struct Expected {
     pub out: Vec<u8>,
     pub err: Vec<u8>,
     pub status: u8,
-    pub files: Vec<File>,
+    pub files: Vec<SceneFile>,
     pub ports: Vec<u8>,
 }
 
 /// A job: its words, further words of which the same must come, what it has outside beside the files, and what it must leave.
 #[derive(Drop)]
-pub struct Job {
+pub struct PlayedJob {
     pub words: Vec<Vec<String>>,
     pub ports: Vec<HandedIn>,
     pub shelf: Calls,
     pub out: Calls,
     pub err: Calls,
-    pub wanted: Wanted,
+    pub wanted: Expected,
 }
 
-impl Job {
+impl PlayedJob {
     /// A job without words, of which no call fails and which must leave nothing.
-    pub fn new(alloc: Global) -> Job {
-        Job {
+    pub fn new(alloc: Global) -> PlayedJob {
+        PlayedJob {
             words: Vec::new(alloc),
             ports: Vec::new(alloc),
             shelf: Calls::These(Vec::new(alloc)),
             out: Calls::These(Vec::new(alloc)),
             err: Calls::These(Vec::new(alloc)),
-            wanted: Wanted {
+            wanted: Expected {
                 out: Vec::new(alloc),
                 err: Vec::new(alloc),
                 status: 0,
@@ -67,7 +67,7 @@ impl Job {
 }
 
 /// The file of a name.
-pub fn find<'a>(files: &'a [File], name: &str) -> Option<&'a File> {
+pub fn find<'a>(files: &'a [SceneFile], name: &str) -> Option<&'a SceneFile> {
     for file in files {
         if file.name.as_str() == name {
             return Some(file);

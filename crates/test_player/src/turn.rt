@@ -1,8 +1,8 @@
 //! Each call of the shelf or of an output failing in turn, until a job leaves what it must.
 use crate::compare::{differences, wanted_bytes};
 use crate::play::{Fails, Program, Ran, run, untouched};
-use crate::scene::{Calls, File, Job, find};
-use crate::stop::Stop;
+use crate::scene::{Calls, PlayedJob, SceneFile, find};
+use crate::stop::PlayStop;
 use std::alloc::{AllocError, Global};
 
 // The most calls that are tried.
@@ -20,7 +20,7 @@ enum Written {
     AsBefore,
 }
 
-fn how_written(is: &File, was: &File, wanted: &[u8]) -> Option<Written> {
+fn how_written(is: &SceneFile, was: &SceneFile, wanted: &[u8]) -> Option<Written> {
     let bytes = is.bytes.as_slice();
     if bytes == wanted {
         Some(Written::Whole)
@@ -34,7 +34,7 @@ fn how_written(is: &File, was: &File, wanted: &[u8]) -> Option<Written> {
 }
 
 // Whether the files that are written are whole ones in the order of the words, then at most one in part, then ones as before.
-fn are_cut_off(before: &[File], job: &Job, words: &[String], ran: &Ran) -> bool {
+fn are_cut_off(before: &[SceneFile], job: &PlayedJob, words: &[String], ran: &Ran) -> bool {
     let mut is_whole = true;
     for word in words {
         let name = word.as_str();
@@ -56,7 +56,7 @@ fn are_cut_off(before: &[File], job: &Job, words: &[String], ran: &Ran) -> bool 
 }
 
 // Whether the files that aren't written are as before; where `all` is told, each of them.
-fn are_kept(before: &[File], job: &Job, ran: &Ran, all: bool) -> bool {
+fn are_kept(before: &[SceneFile], job: &PlayedJob, ran: &Ran, all: bool) -> bool {
     for (is, was) in ran.files.iter().zip(before) {
         let is_written = find(job.wanted.files.as_slice(), was.name.as_str()).is_some();
         if (all || !is_written) && is.bytes.as_slice() != was.bytes.as_slice() {
@@ -80,8 +80,8 @@ fn is_read_line(alloc: Global, words: &[String], err: &[u8]) -> Result<bool, All
 // Whether a fault of the shelf or of the output allows what was left.
 fn is_allowed(
     alloc: Global,
-    before: &[File],
-    job: &Job,
+    before: &[SceneFile],
+    job: &PlayedJob,
     words: &[String],
     ran: &Ran,
 ) -> Result<bool, AllocError> {
@@ -103,7 +103,7 @@ fn is_allowed(
 }
 
 // Whether a fault of the error output allows what was left: all as it must be, but for a beginning of the fault line.
-fn is_line_cut_off(job: &Job, before: &[File], ran: &Ran) -> bool {
+fn is_line_cut_off(job: &PlayedJob, before: &[SceneFile], ran: &Ran) -> bool {
     for (is, was) in ran.files.iter().zip(before) {
         if is.bytes.as_slice() != wanted_bytes(job, was) {
             return false;
@@ -130,10 +130,10 @@ fn is_in_turn(calls: &Calls) -> bool {
 fn run_in_turn<P: Program>(
     alloc: Global,
     program: &P,
-    files: &[File],
-    job: &Job,
+    files: &[SceneFile],
+    job: &PlayedJob,
     words: &[String],
-) -> Result<(Ran, String), Stop> {
+) -> Result<(Ran, String), PlayStop> {
     for call in 0..MOST_CALLS {
         let turn = [call];
         let fails = Fails {
@@ -157,7 +157,7 @@ fn run_in_turn<P: Program>(
         }
         return Ok((ran, text));
     }
-    Err(Stop::Unread(
+    Err(PlayStop::Unread(
         0,
         "a job of which each call fails in turn and that is never done",
     ))
@@ -167,10 +167,10 @@ fn run_in_turn<P: Program>(
 pub fn run_job<P: Program>(
     alloc: Global,
     program: &P,
-    files: &[File],
-    job: &Job,
+    files: &[SceneFile],
+    job: &PlayedJob,
     words: &[String],
-) -> Result<(Ran, String), Stop> {
+) -> Result<(Ran, String), PlayStop> {
     if is_in_turn(&job.shelf) || is_in_turn(&job.out) || is_in_turn(&job.err) {
         return run_in_turn(alloc, program, files, job, words);
     }

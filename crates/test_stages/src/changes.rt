@@ -1,7 +1,7 @@
 //! Many changes of a long chain of ANDs, each of which touches one node.
 ghost use Rattle.std.specs.Prelude.{◌≡◌, ◌<◌, length};
 
-use crate::stop::Stop;
+use crate::stop::StageStop;
 use aig_core::Steps;
 use itoa::Buffer;
 use ppc_file::decode;
@@ -61,14 +61,14 @@ fn chain(rt: &HostRuntime) -> Result<Vec<u8>, AllocError> {
 }
 
 // The chain's specialiser.
-fn specialiser(rt: &HostRuntime) -> Result<Specialiser, Stop> {
+fn specialiser(rt: &HostRuntime) -> Result<Specialiser, StageStop> {
     let bytes = chain(rt)?;
     if bytes.len() > MOST_PACK_BYTES {
-        return Err(Stop::Refused);
+        return Err(StageStop::Refused);
     }
     match decode(rt.alloc(), &bytes) {
         Ok(pack) => Ok(Specialiser::make(rt.alloc(), pack)?),
-        Err(_) => Err(Stop::Refused),
+        Err(_) => Err(StageStop::Refused),
     }
 }
 
@@ -84,12 +84,12 @@ fn set<L: Ledger>(specialiser: &mut Specialiser, param: u16, bit: bool, blank: B
 }
 
 // Changes the last parameter again and again, and returns the number of writes.
-fn play(specialiser: &mut Specialiser) -> Result<u64, Stop> {
+fn play(specialiser: &mut Specialiser) -> Result<u64, StageStop> {
     let last = NODES as u16;
     let mut writes = 0u64;
     for change in 0..CHANGES {
         if last as usize >= specialiser.values().len() {
-            return Err(Stop::Refused);
+            return Err(StageStop::Refused);
         }
         set::<Brand>(specialiser, last, change % 2 == 0, Blank::new(1));
         writes = writes.saturating_add(specialiser.writes().len() as u64);
@@ -99,7 +99,7 @@ fn play(specialiser: &mut Specialiser) -> Result<u64, Stop> {
 
 /// Changes the chain's last parameter 4,000,000 times. Prints the number of writes, how many parameters are 1 then, and the
 /// configuration.
-pub fn play_changes(rt: &HostRuntime) -> Result<(), Stop> {
+pub fn play_changes(rt: &HostRuntime) -> Result<(), StageStop> {
     let mut specialiser = specialiser(rt)?;
     let writes = play(&mut specialiser)?;
     let ones = specialiser.values().iter().filter(|bit| **bit).count();

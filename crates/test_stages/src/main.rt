@@ -15,10 +15,10 @@ mod stop;
 use crate::changes::play_changes;
 use crate::pairs::make_pairs;
 use crate::small::{list_cuts, list_values};
-use crate::stop::Stop;
+use crate::stop::StageStop;
 use std::process::ExitCode;
 
-fn play(rt: &HostRuntime) -> Result<(), Stop> {
+fn play(rt: &HostRuntime) -> Result<(), StageStop> {
     make_pairs(rt)?;
     list_cuts(rt)?;
     list_values(rt)?;
@@ -28,8 +28,8 @@ fn play(rt: &HostRuntime) -> Result<(), Stop> {
 fn main(rt: HostRuntime) -> ExitCode {
     match play(&rt) {
         Ok(()) => ExitCode::from(0),
-        Err(Stop::Refused) => ExitCode::from(3),
-        Err(Stop::Outside) => ExitCode::from(6),
-        Err(Stop::Memory) => ExitCode::from(8),
+        Err(StageStop::Refused) => ExitCode::from(3),
+        Err(StageStop::Outside) => ExitCode::from(6),
+        Err(StageStop::Memory) => ExitCode::from(8),
     }
 }

@@ -4,7 +4,7 @@ use std::io;
 
 /// Why the program stops before its end.
 #[derive(Drop)]
-pub enum Stop {
+pub enum StageStop {
     /// A stage refused what it was given.
     Refused,
     /// There is no memory.
@@ -13,14 +13,14 @@ pub enum Stop {
     Outside,
 }
 
-impl From<AllocError> for Stop {
-    fn from(_: AllocError) -> Stop {
-        Stop::Memory
+impl From<AllocError> for StageStop {
+    fn from(_: AllocError) -> StageStop {
+        StageStop::Memory
     }
 }
 
-impl From<io::Error> for Stop {
-    fn from(_: io::Error) -> Stop {
-        Stop::Outside
+impl From<io::Error> for StageStop {
+    fn from(_: io::Error) -> StageStop {
+        StageStop::Outside
     }
 }

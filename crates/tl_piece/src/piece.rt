@@ -11,11 +11,11 @@ pub(crate) const PIECE: usize = 4_096;
 ///
 /// Contracts see a piece as these bytes.
 #[derive(Drop)]
-pub struct Piece {
+pub struct WriteBuffer {
     bytes: ArrayVec<u8, PIECE>,
 }
 
-impl Model for Piece {
+impl Model for WriteBuffer {
     ghost use Rattle.std.specs.Prelude.{List, ℕ};
 
     ghost Value = { List ℕ };
@@ -23,12 +23,12 @@ impl Model for Piece {
     ghost view = { λ piece. piece.bytes.items };
 }
 
-impl Piece {
+impl WriteBuffer {
     /// Creates an empty piece.
-    pub fn new() -> Piece
+    pub fn new() -> WriteBuffer
         ensures { result ≡ [] }
     {
-        Piece {
+        WriteBuffer {
             bytes: ArrayVec::new(),
         }
     }

@@ -2,7 +2,7 @@
 ghost use Rattle.std.specs.Prelude.{◌<◌, [], ◌∷◌, length, replicate, decimal};
 ghost use Rattle.tl_piece.specs.Added.{IsNew, IsAdded, IsFinished};
 
-use crate::piece::{PIECE, Piece};
+use crate::piece::{PIECE, WriteBuffer};
 use itoa::Buffer;
 use tl_io::{Failed, Sink};
 
@@ -13,13 +13,13 @@ use tl_io::{Failed, Sink};
 #[derive(Drop)]
 pub struct Writer<'a, O: Sink> {
     out: &'a mut O,
-    piece: &'a mut Piece,
+    piece: &'a mut WriteBuffer,
     failed: bool,
 }
 
 impl<'a, O: Sink> Writer<'a, O> {
     /// Creates a writer over this sink that uses this piece as its buffer. The old bytes of the piece are removed.
-    pub fn over(out: &'a mut O, piece: &'a mut Piece) -> Writer<'a, O>
+    pub fn over(out: &'a mut O, piece: &'a mut WriteBuffer) -> Writer<'a, O>
         ensures { IsNew out.entry result }
     {
         piece.clear();

@@ -1,5 +1,5 @@
 -- What an end says of a call: what its status means, and what the arguments and the files call for.
-use Rattle.tlut_cli.proofs.Common.{◌≡◌, ℕ, List, Some, None, sym, ◌∙◌, subst, none-some, same_Some, Rule, World, outside_of, WalkEnds, HasLaws, Outcome, Command, CommandRead, command_of, command_seen, walk_of, HasEnded, HasWalkLaws, Bool, true, false, cond, length, refl, ap, inl, inr, ◌⊎◌, Files, MapWords, Run, Map, Pace, ReplaysRun, IsEnd, HasCommand, HasRefusal, HasDone, HasCutOff, HasLost, HasKeptPorts, HasFault, HasPortCause, HasWriteCause, IsAnswered, IsComplete, IsFinished, HasNoFault, HasBegun, HasMeaning}
+use Rattle.tlut_cli.proofs.Common.{◌≡◌, ℕ, List, Some, None, sym, ◌∙◌, subst, none-some, same_Some, Rule, World, outside_of, WalkEnds, HasLaws, Outcome, Subcommand, CommandRead, command_of, command_seen, walk_of, HasEnded, HasWalkLaws, Bool, true, false, cond, length, refl, ap, inl, inr, ◌⊎◌, Files, MapWords, Run, Map, Pace, ReplaysRun, IsEnd, HasCommand, HasRefusal, HasDone, HasCutOff, HasLost, HasKeptPorts, HasFault, HasPortCause, HasWriteCause, IsAnswered, IsComplete, IsFinished, HasNoFault, HasBegun, HasMeaning}
 use Rattle.tl_fault.specs.RefusalValue.{RefusalValue}
 use Rattle.tl_fault.specs.Refusals.{is_limit}
 use Rattle.tl_io.specs.Causes.{Rose}
@@ -17,13 +17,13 @@ pub ended_as : {before after : World} {o : Outcome} {this command : CommandRead}
 ended_as {before} {after} {o} is ended = subst (λ c. HasEnded (command_seen c) before after o) (sym is) ended
 
 -- words are of one command, whose walk has its laws
-pub one_command : (rule : Rule) (ports : ℕ) (words : List (List ℕ)) (a b : Command) → command_of rule ports words ≡ Some a → command_of rule ports words ≡ Some b → a ≡ b
+pub one_command : (rule : Rule) (ports : ℕ) (words : List (List ℕ)) (a b : Subcommand) → command_of rule ports words ≡ Some a → command_of rule ports words ≡ Some b → a ≡ b
 one_command rule ports words a b x y = same_Some a b (sym x ∙ y)
 
 pub no_laws : (rule : Rule) (ports : ℕ) (words : List (List ℕ)) → None ≡ command_of rule ports words → HasWalkLaws rule ports words
 no_laws rule ports words none command is = absurd (none-some command (none ∙ is))
 
-pub its_laws : (rule : Rule) (ports : ℕ) (words : List (List ℕ)) (this : Command) → Some this ≡ command_of rule ports words → HasLaws (walk_of this) → HasWalkLaws rule ports words
+pub its_laws : (rule : Rule) (ports : ℕ) (words : List (List ℕ)) (this : Subcommand) → Some this ≡ command_of rule ports words → HasLaws (walk_of this) → HasWalkLaws rule ports words
 its_laws rule ports words this is laws command other = subst (λ c. HasLaws (walk_of c)) (same_Some this command (is ∙ other)) laws
 
 refusal_not_memory : (b : Bool) → status.Memory ≡ cond b status.Limit status.Refused → ⊥
@@ -87,10 +87,10 @@ module _ (rule : Rule) (words : List (List ℕ)) (before after : World) where
   kept_ports o s e end (inr h) = (tells o s status.WriteFault e end h).1
 
   -- what ends the words' command, by one that they are
-  ends_as : (o : Outcome) (this command : Command) → command_of rule (length before.ports) words ≡ Some this → command_of rule (length before.ports) words ≡ Some command → WalkEnds (walk_of this) before after o → WalkEnds (walk_of command) before after o
+  ends_as : (o : Outcome) (this command : Subcommand) → command_of rule (length before.ports) words ≡ Some this → command_of rule (length before.ports) words ≡ Some command → WalkEnds (walk_of this) before after o → WalkEnds (walk_of command) before after o
   ends_as o this command is other ends = subst (λ c. WalkEnds (walk_of c) before after o) (one_command rule (length before.ports) words this command is other) ends
 
-  module _ (command : Command) (laws : HasLaws (walk_of command)) where
+  module _ (command : Subcommand) (laws : HasLaws (walk_of command)) where
     -- An accepted job is done, but for want of memory, where there was no fault.
     accepted_done : (o : Outcome) (s : Status) → s ≡ status_of o → WalkEnds (walk_of command) before after o → (files : Files) → (walk_of command).reading.HasFiles before.shelf.files files → (walk_of command).IsAccepted files
         → HasNoFault (walk_of command) before after → (s ≡ status.Done) ⊎ (s ≡ status.Memory)
@@ -144,7 +144,7 @@ module _ (rule : Rule) (words : List (List ℕ)) (before after : World) where
     answers (inr run) command is = refused_answered command (laws command is) o s e (ends_as o run.command command run.is is run.ends)
 
   -- A job that is done shows what its walk says.
-  pub shown : HasWalkLaws rule (length before.ports) words → HasDone rule words before after → (command : Command) → command_of rule (length before.ports) words ≡ Some command
+  pub shown : HasWalkLaws rule (length before.ports) words → HasDone rule words before after → (command : Subcommand) → command_of rule (length before.ports) words ≡ Some command
       → InFiles (walk_of command).reading before.shelf.files (λ files. (walk_of command).Shows files (outside_of before) (outside_of after))
   shown laws done command is files told =
       let same : done.command ≡ command = one_command rule (length before.ports) words done.command command done.is is in

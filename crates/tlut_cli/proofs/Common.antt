@@ -14,7 +14,7 @@ pub use Rattle.tl_io.specs.Content.{extended}
 pub use Rattle.tl_io.specs.Shelf.{Files}
 pub use Rattle.tlut_cli.specs.Call.{World, outside_of, WalkEnds, IsEnd, HasCommand, HasRefusal, HasDone, HasCutOff, HasLost, HasKeptPorts, HasFault, HasPortCause, HasWriteCause, IsAnswered, IsComplete, IsFinished, HasNoFault, HasBegun}
 pub use Rattle.tlut_cli.specs.CommandEnds.{HasWalkLaws, HasEnded}
-pub use Rattle.tlut_cli.specs.Commands.{Command, Run, Map, Pace, command_of, command_seen, walk_of}
+pub use Rattle.tlut_cli.specs.Commands.{Subcommand, Run, Map, Pace, command_of, command_seen, walk_of}
 pub use Rattle.tlut_cli.specs.Meaning.{HasMeaning}
 pub use Rattle.tlut_cli.specs.Replay.{ReplaysRun, PutTheSameLines, HaveTheSameSource}
-pub use Rattle.tlut_cli.specs.declared.command.Command.{Command as CommandRead}
+pub use Rattle.tlut_cli.specs.declared.command.Subcommand.{Subcommand as CommandRead}

@@ -6,8 +6,8 @@ use Rattle.tl_io.specs.Causes.{Rose}
 use Rattle.tl_io.specs.Port.{PortSeen}
 use Rattle.tl_io.specs.Shelf.{Files, ShelfSeen}
 use Rattle.tl_io.specs.Sink.{SinkSeen}
-use Rattle.cmd_base.specs.Walk.{Outside, outside, Walk, InFiles, Ends, IsReadFault, HasWriteFault}
-use Rattle.tlut_cli.specs.Commands.{Command, command_of, walk_of}
+use Rattle.cmd_base.specs.Walk.{Outside, outside, CommandWalk, InFiles, Ends, IsReadFault, HasWriteFault}
+use Rattle.tlut_cli.specs.Commands.{Subcommand, command_of, walk_of}
 use Rattle.cmd_base.specs.Statuses.{refusal_status}
 use Rattle.cmd_base.specs.declared.outcome.File.{File}
 use Rattle.cmd_base.specs.declared.outcome.Outcome.{Outcome}
@@ -28,7 +28,7 @@ world_of shelf out ports = record { shelf = shelf; out = out; ports = ports }
 abbrev pub outside_of : World → Outside
 outside_of around = outside around.shelf around.out around.ports
 
-abbrev pub WalkEnds : Walk → World → World → Outcome → Type 0
+abbrev pub WalkEnds : CommandWalk → World → World → Outcome → Type 0
 WalkEnds walk before after o = Ends walk before.shelf after.shelf (outside_of before) (outside_of after) o
 
 -- the words are of no form, and nothing was read, put or sent
@@ -40,7 +40,7 @@ pub record IsUsage (rule : Rule) (words : List (List ℕ)) (before after : World
 
 -- the words are a command, and the outcome says how it ended
 pub record IsCommandEnd (rule : Rule) (words : List (List ℕ)) (before after : World) (o : Outcome) : Type 0 where
-  pub command : Command
+  pub command : Subcommand
   pub is : command_of rule (length before.ports) words ≡ Some command
   pub ends : WalkEnds (walk_of command) before after o
 
@@ -59,7 +59,7 @@ fault_file outcome.PortFault = None
 fault_file outcome.Memory = None
 
 -- the word that names it
-abbrev pub word_at : Option File → Option Command → List ℕ
+abbrev pub word_at : Option File → Option Subcommand → List ℕ
 word_at None command = []
 word_at (Some file) None = []
 word_at (Some file) (Some command) = (walk_of command).reading.word file
@@ -68,13 +68,13 @@ abbrev pub fault_word : Rule → ℕ → List (List ℕ) → Outcome → List �
 fault_word rule ports words o = word_at (fault_file o) (command_of rule ports words)
 
 -- the words are a command with this in its walk
-pub record HasCommand (rule : Rule) (ports : ℕ) (words : List (List ℕ)) (P : Walk → Type 0) : Type 0 where
-  pub command : Command
+pub record HasCommand (rule : Rule) (ports : ℕ) (words : List (List ℕ)) (P : CommandWalk → Type 0) : Type 0 where
+  pub command : Subcommand
   pub is : command_of rule ports words ≡ Some command
   pub holds : P (walk_of command)
 
 -- a refusal of the verdict with this status
-pub record IsRefusal (files : Files) (walk : Walk) (s : Status) : Type 0 where
+pub record IsRefusal (files : Files) (walk : CommandWalk) (s : Status) : Type 0 where
   pub file : File
   pub refusal : RefusalValue
   pub refused : walk.reading.IsRefused files file refusal
@@ -98,7 +98,7 @@ abbrev pub HasKeptPorts : Rule → List (List ℕ) → World → World → Type 
 HasKeptPorts rule words before after = HasCommand rule (length before.ports) words (λ walk. walk.KeepsPorts (outside_of before) (outside_of after))
 
 -- a read fault at a file that the walk reaches
-pub record IsFault (walk : Walk) (before after : World) : Type 0 where
+pub record IsFault (walk : CommandWalk) (before after : World) : Type 0 where
   pub file : File
   pub is_read : walk.reading.IsRead file
   pub fault : IsReadFault before.shelf after.shelf (walk.reading.word file)
@@ -119,24 +119,24 @@ abbrev pub WritesFiles : Rule → ℕ → List (List ℕ) → Type 0
 WritesFiles rule ports words = HasCommand rule ports words (λ walk. walk.WritesFiles)
 
 -- no read and no write of a call failed, nor more ports than stand by
-pub record HasNoFault (walk : Walk) (before after : World) : Type 0 where
+pub record HasNoFault (walk : CommandWalk) (before after : World) : Type 0 where
   pub read : ¬ (Rose before.shelf.read_faults after.shelf.read_faults)
   pub write : ¬ (HasWriteFault walk (outside_of before) (outside_of after))
   pub ports : ¬ (walk.HasPortFault (outside_of before) (outside_of after))
 
 -- the output grew by a byte, or a file was begun for writing
-abbrev pub HasBegun : Walk → World → World → Type 0
+abbrev pub HasBegun : CommandWalk → World → World → Type 0
 HasBegun walk before after = ¬ (after.out.bytes ≡ before.out.bytes) ⊎ (walk.WritesFiles × (after.shelf.is_writing ≡ true))
 
 module _ (rule : Rule) (words : List (List ℕ)) (before after : World) (s : Status) where
   -- Where the files hold an accepted job, and there was no fault, the job is done: want of memory alone can stop it.
   abbrev pub IsComplete : Type 0
-  IsComplete = (command : Command) → command_of rule (length before.ports) words ≡ Some command → InFiles (walk_of command).reading before.shelf.files (λ files.
+  IsComplete = (command : Subcommand) → command_of rule (length before.ports) words ≡ Some command → InFiles (walk_of command).reading before.shelf.files (λ files.
       (walk_of command).IsAccepted files → HasNoFault (walk_of command) before after → (s ≡ status.Done) ⊎ (s ≡ status.Memory))
 
   -- where moreover something was begun outside, it is done
   abbrev pub IsFinished : Type 0
-  IsFinished = (command : Command) → command_of rule (length before.ports) words ≡ Some command → InFiles (walk_of command).reading before.shelf.files (λ files.
+  IsFinished = (command : Subcommand) → command_of rule (length before.ports) words ≡ Some command → InFiles (walk_of command).reading before.shelf.files (λ files.
       (walk_of command).IsAccepted files → HasNoFault (walk_of command) before after → HasBegun (walk_of command) before after → s ≡ status.Done)
 
 -- nothing was put or sent
@@ -152,5 +152,5 @@ IsQuiet status.PortFault = ⊥
 
 -- where the files hold a refusal of the job and no read failed, its status is the answer, but for want of memory
 abbrev pub IsAnswered : Rule → ℕ → List (List ℕ) → World → World → Status → Type 0
-IsAnswered rule ports words before after s = (command : Command) → command_of rule ports words ≡ Some command → InFiles (walk_of command).reading before.shelf.files (λ files. (file : File) (refusal : RefusalValue) → (walk_of command).reading.IsRefused files file refusal
+IsAnswered rule ports words before after s = (command : Subcommand) → command_of rule ports words ≡ Some command → InFiles (walk_of command).reading before.shelf.files (λ files. (file : File) (refusal : RefusalValue) → (walk_of command).reading.IsRefused files file refusal
     → ¬ (Rose before.shelf.read_faults after.shelf.read_faults) → (s ≡ refusal_status refusal) ⊎ (s ≡ status.Memory))

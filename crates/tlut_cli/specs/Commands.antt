@@ -2,9 +2,9 @@
 use Rattle.std.specs.Prelude.{ℕ, List, [], ◌∷◌, codes, Option, Some, None}
 use Rattle.std.specs.Option.{option_map}
 use Rattle.cover_pick.specs.declared.rule.Rule.{Rule}
-use Rattle.cmd_base.specs.Walk.{Walk}
-use Rattle.tlut_cli.specs.declared.command.Command.{Command as CommandRead}
-use Rattle.tlut_cli.specs.declared.command.Command.TheVariants as read
+use Rattle.cmd_base.specs.Walk.{CommandWalk}
+use Rattle.tlut_cli.specs.declared.command.Subcommand.{Subcommand as CommandRead}
+use Rattle.tlut_cli.specs.declared.command.Subcommand.TheVariants as read
 use Rattle.cmd_run.specs.declared.gen_command.words.GenWords.{GenWords}
 use Rattle.cmd_stations.specs.Source.{IsTableSize}
 use Rattle.cmd_run.specs.Run.Job.{RunWords, run_of, run_seen, IsInRange}
@@ -25,39 +25,39 @@ use Rattle.cmd_base.specs.FaultLine.{line_of as line_with}
 use Rattle.cmd_base.specs.declared.outcome.Outcome.{Outcome}
 
 -- a command with its words
-pub data Command : Type 0 where
-  Run : RunWords → Command
-  Spec : SpecWords → Command
-  Map : MapWords → Command
-  Bits : BitsWords → Command
-  Gen : GenWords → Command
-  Repack : RepackWords → Command
-  Prove : CertWords → Command
-  Audit : CertWords → Command
-  Graph : GraphWords → Command
-  Pace : PaceWords → Command
+pub data Subcommand : Type 0 where
+  Run : RunWords → Subcommand
+  Spec : SpecWords → Subcommand
+  Map : MapWords → Subcommand
+  Bits : BitsWords → Subcommand
+  Gen : GenWords → Subcommand
+  Repack : RepackWords → Subcommand
+  Prove : CertWords → Subcommand
+  Audit : CertWords → Subcommand
+  Graph : GraphWords → Subcommand
+  Pace : PaceWords → Subcommand
 
 -- one command, or else another
-abbrev pub or_else : Option Command → Option Command → Option Command
+abbrev pub or_else : Option Subcommand → Option Subcommand → Option Subcommand
 or_else (Some command) other = Some command
 or_else None other = other
 
-abbrev pub cert_commands : Rule → List (List ℕ) → Option Command
+abbrev pub cert_commands : Rule → List (List ℕ) → Option Subcommand
 cert_commands rule words = or_else (option_map Prove (cert_words_of rule (codes "prove") words)) (option_map Audit (cert_words_of rule (codes "audit") words))
 
-abbrev pub later_commands : Rule → List (List ℕ) → Option Command
+abbrev pub later_commands : Rule → List (List ℕ) → Option Subcommand
 later_commands rule words = or_else (cert_commands rule words) (or_else (option_map Graph (graph_words_of rule words)) (option_map Pace (pace_of rule words)))
 
-abbrev pub other_commands : Rule → List (List ℕ) → Option Command
+abbrev pub other_commands : Rule → List (List ℕ) → Option Subcommand
 other_commands rule words =
     or_else (option_map Spec (spec_of rule words))
     (or_else (option_map Map (map_of rule words)) (or_else (option_map Bits (bits_of words)) (or_else (option_map Gen (gen_of rule words)) (or_else (option_map Repack (repack_of words)) (later_commands rule words)))))
 
 -- the command of some words by a rule of choice, where so many ports are handed in; none where they are of no command's form
-abbrev pub command_of : Rule → ℕ → List (List ℕ) → Option Command
+abbrev pub command_of : Rule → ℕ → List (List ℕ) → Option Subcommand
 command_of rule ports words = or_else (option_map Run (run_of rule ports words)) (other_commands rule words)
 
-abbrev pub walk_of : Command → Walk
+abbrev pub walk_of : Subcommand → CommandWalk
 walk_of (Run words) = run_walk words
 walk_of (Spec words) = spec_walk words
 walk_of (Map words) = map_walk words
@@ -70,7 +70,7 @@ walk_of (Graph words) = graph_walk words
 walk_of (Pace words) = pace_walk words
 
 -- a command as it is read
-abbrev pub command_seen : CommandRead → Command
+abbrev pub command_seen : CommandRead → Subcommand
 command_seen (read.Run words) = Run (run_seen words)
 command_seen (read.Spec words) = Spec (spec_seen words)
 command_seen (read.Map words) = Map (map_seen words)

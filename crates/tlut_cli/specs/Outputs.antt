@@ -2,7 +2,7 @@
 use Rattle.std.specs.Prelude.{ℕ, ◌+◌, List, Option, Some, None}
 use Rattle.tlut_cli.specs.declared.outputs.Outputs.{Outputs as OutputsRead}
 use Rattle.tlut_cli.specs.declared.outputs.Outputs.TheVariants as read
-use Rattle.tlut_cli.specs.Commands.{Command, Run, Spec, Map, Bits, Gen, Repack, Prove, Audit, Graph, Pace}
+use Rattle.tlut_cli.specs.Commands.{Subcommand, Run, Spec, Map, Bits, Gen, Repack, Prove, Audit, Graph, Pace}
 
 -- nothing, one file, two files in their order, or so many ports
 pub data Written : Type 0 where
@@ -11,7 +11,7 @@ pub data Written : Type 0 where
   Files : List ℕ → List ℕ → Written
   Ports : ℕ → Written
 
-abbrev pub written_by : Option Command → Written
+abbrev pub written_by : Option Subcommand → Written
 written_by None = Nothing
 written_by (Some (Run words)) = Ports (words.ports.serving + words.ports.spares)
 written_by (Some (Spec words)) = File words.out

@@ -6,7 +6,7 @@ ghost use Rattle.tlut_cli.specs.CommandEnds.{HasEnded, HasWalkLaws};
 ghost use Rattle.tlut_cli.specs.Call.{world_of, IsEnd, fault_file, word_at, fault_word, IsQuiet, WritesFiles};
 ghost use Rattle.tlut_cli.specs.Meaning.{MeansSo, EndsSo};
 
-use crate::command::{Command, file_name, read_command, report};
+use crate::command::{Subcommand, file_name, read_command, report};
 use cmd_base::{File, Outcome, Status};
 use cmd_cert::{audit_job, prove_job};
 use cmd_graph::graph_job;
@@ -28,7 +28,7 @@ struct Ended<'a> {
 // Runs a command.
 fn run_command<S: Shelf, O: Sink, P: ConfigPort>(
     alloc: Global,
-    command: &Command,
+    command: &Subcommand,
     shelf: &mut S,
     out: &mut O,
     ports: &mut Vec<P>,
@@ -39,16 +39,16 @@ fn run_command<S: Shelf, O: Sink, P: ConfigPort>(
         (world_of (S.seen shelf.new) (O.seen out.new) (map P.port_seen ports.new.items)) result }
 {
     match command {
-        Command::Run(words) => run_job(alloc, words, shelf, out, ports),
-        Command::Spec(words) => spec_job(alloc, words, shelf, out),
-        Command::Map(words) => map_job(alloc, words, shelf, out),
-        Command::Bits(words) => bits_job::<S, O, P>(alloc, words, shelf, out),
-        Command::Gen(words) => gen_job(alloc, words, out),
-        Command::Repack(words) => repack_job(alloc, words, shelf, out),
-        Command::Prove(words) => prove_job(alloc, words, shelf, out),
-        Command::Audit(words) => audit_job(alloc, words, shelf, out),
-        Command::Graph(words) => graph_job(alloc, words, shelf, out),
-        Command::Pace(words) => pace_job(alloc, words, shelf, out),
+        Subcommand::Run(words) => run_job(alloc, words, shelf, out, ports),
+        Subcommand::Spec(words) => spec_job(alloc, words, shelf, out),
+        Subcommand::Map(words) => map_job(alloc, words, shelf, out),
+        Subcommand::Bits(words) => bits_job::<S, O, P>(alloc, words, shelf, out),
+        Subcommand::Gen(words) => gen_job(alloc, words, out),
+        Subcommand::Repack(words) => repack_job(alloc, words, shelf, out),
+        Subcommand::Prove(words) => prove_job(alloc, words, shelf, out),
+        Subcommand::Audit(words) => audit_job(alloc, words, shelf, out),
+        Subcommand::Graph(words) => graph_job(alloc, words, shelf, out),
+        Subcommand::Pace(words) => pace_job(alloc, words, shelf, out),
     }
 }
 
@@ -69,7 +69,7 @@ fn told_file(outcome: &Outcome) -> Option<File>
 }
 
 // The argument that a fault line names.
-fn fault_name<'a>(command: &Command<'a>, outcome: &Outcome) -> &'a str
+fn fault_name<'a>(command: &Subcommand<'a>, outcome: &Outcome) -> &'a str
     ensures { result.now ≡ word_at (fault_file outcome.now) (Some (command_seen command.now)) }
 {
     match told_file(outcome) {

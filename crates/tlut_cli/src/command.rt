@@ -17,7 +17,7 @@ use tl_io::Sink;
 
 /// A command with its arguments.
 #[derive(Clone, Copy)]
-pub enum Command<'a> {
+pub enum Subcommand<'a> {
     Run(RunWords<'a>),
     Spec(SpecWords<'a>),
     Map(MapWords<'a>),
@@ -31,21 +31,21 @@ pub enum Command<'a> {
 }
 
 // Reads one of the commands about certificates.
-fn read_cert_command(rule: Rule, words: &[String]) -> Option<Command<'_>>
+fn read_cert_command(rule: Rule, words: &[String]) -> Option<Subcommand<'_>>
     ensures value { option_map (λ c. command_seen c) result ≡ cert_commands rule (map string_bytes words.now) }
     ensures range { (ports : ℕ) → IfSome result (HasRange ports) }
 {
     if let Some(words) = read_prove(rule, words) {
-        return Some(Command::Prove(words));
+        return Some(Subcommand::Prove(words));
     }
     match read_audit(rule, words) {
-        Some(words) => Some(Command::Audit(words)),
+        Some(words) => Some(Subcommand::Audit(words)),
         None => None,
     }
 }
 
 // Reads one of the later commands.
-fn read_later(rule: Rule, words: &[String]) -> Option<Command<'_>>
+fn read_later(rule: Rule, words: &[String]) -> Option<Subcommand<'_>>
     ensures value { option_map (λ c. command_seen c) result ≡ later_commands rule (map string_bytes words.now) }
     ensures range { (ports : ℕ) → IfSome result (HasRange ports) }
 {
@@ -53,64 +53,64 @@ fn read_later(rule: Rule, words: &[String]) -> Option<Command<'_>>
         return Some(command);
     }
     if let Some(words) = read_graph_words(rule, words) {
-        return Some(Command::Graph(words));
+        return Some(Subcommand::Graph(words));
     }
     match read_pace_words(rule, words) {
-        Some(words) => Some(Command::Pace(words)),
+        Some(words) => Some(Subcommand::Pace(words)),
         None => None,
     }
 }
 
 // Reads any command other than `run`.
-fn read_other(rule: Rule, words: &[String]) -> Option<Command<'_>>
+fn read_other(rule: Rule, words: &[String]) -> Option<Subcommand<'_>>
     ensures value { option_map (λ c. command_seen c) result ≡ other_commands rule (map string_bytes words.now) }
     ensures range { (ports : ℕ) → IfSome result (HasRange ports) }
 {
     if let Some(words) = read_spec(rule, words) {
-        return Some(Command::Spec(words));
+        return Some(Subcommand::Spec(words));
     }
     if let Some(words) = read_map(rule, words) {
-        return Some(Command::Map(words));
+        return Some(Subcommand::Map(words));
     }
     if let Some(words) = read_bits(words) {
-        return Some(Command::Bits(words));
+        return Some(Subcommand::Bits(words));
     }
     if let Some(words) = read_gen(rule, words) {
-        return Some(Command::Gen(words));
+        return Some(Subcommand::Gen(words));
     }
     match read_repack(words) {
-        Some(words) => Some(Command::Repack(words)),
+        Some(words) => Some(Subcommand::Repack(words)),
         None => read_later(rule, words),
     }
 }
 
 /// Reads the command given by the arguments, with the rule that chooses cuts and the number of ports passed in. `None` if and
 /// only if no command has this form.
-pub fn read_command(rule: Rule, ports: usize, words: &[String]) -> Option<Command<'_>>
+pub fn read_command(rule: Rule, ports: usize, words: &[String]) -> Option<Subcommand<'_>>
     ensures value { option_map (λ c. command_seen c) result ≡ command_of rule ports (map string_bytes words.now) }
     ensures range { IfSome result (HasRange ports) }
 {
     match read_run(rule, ports, words) {
-        Some(words) => Some(Command::Run(words)),
+        Some(words) => Some(Subcommand::Run(words)),
         None => read_other(rule, words),
     }
 }
 
 /// The argument that names a file of a command; `gen` for a generated case.
-pub fn file_name<'a>(command: &Command<'a>, file: File) -> &'a str
+pub fn file_name<'a>(command: &Subcommand<'a>, file: File) -> &'a str
     ensures { result.now ≡ (walk_of (command_seen command.now)).reading.word file }
 {
     match command {
-        Command::Run(words) => run_name(words, file),
-        Command::Spec(words) => source_name(&words.source, file),
-        Command::Map(words) => source_name(&words.source, file),
-        Command::Bits(words) => bits_name(words, file),
-        Command::Gen(_) => "gen",
-        Command::Repack(words) => words.old,
-        Command::Prove(words) => source_name(&words.source, file),
-        Command::Audit(words) => cert_name(words, file),
-        Command::Graph(words) => source_name(&words.source, file),
-        Command::Pace(words) => pace_name(words, file),
+        Subcommand::Run(words) => run_name(words, file),
+        Subcommand::Spec(words) => source_name(&words.source, file),
+        Subcommand::Map(words) => source_name(&words.source, file),
+        Subcommand::Bits(words) => bits_name(words, file),
+        Subcommand::Gen(_) => "gen",
+        Subcommand::Repack(words) => words.old,
+        Subcommand::Prove(words) => source_name(&words.source, file),
+        Subcommand::Audit(words) => cert_name(words, file),
+        Subcommand::Graph(words) => source_name(&words.source, file),
+        Subcommand::Pace(words) => pace_name(words, file),
     }
 }
 

@@ -3,7 +3,7 @@ ghost use Rattle.std.specs.Prelude.{◌≡◌, map, string_bytes};
 ghost use Rattle.tlut_cli.specs.Commands.{command_of};
 ghost use Rattle.tlut_cli.specs.Outputs.{written_by, outputs_seen};
 
-use crate::command::{Command, read_command};
+use crate::command::{Subcommand, read_command};
 use cover_pick::Rule;
 
 /// What a call writes besides its output.
@@ -27,16 +27,16 @@ pub fn outputs_of(rule: Rule, ports: usize, words: &[String]) -> Outputs<'_>
     match read_command(rule, ports, words) {
         None => Outputs::Nothing,
         Some(command) => match command {
-            Command::Run(words) => Outputs::Ports(words.ports.serving + words.ports.spares),
-            Command::Spec(words) => Outputs::File(words.out),
-            Command::Map(words) => Outputs::Files(words.template, words.pack),
-            Command::Repack(words) => Outputs::File(words.new),
-            Command::Prove(words) => Outputs::File(words.cert),
-            Command::Graph(words) => Outputs::File(words.out),
-            Command::Bits(_) => Outputs::Nothing,
-            Command::Gen(_) => Outputs::Nothing,
-            Command::Audit(_) => Outputs::Nothing,
-            Command::Pace(_) => Outputs::Nothing,
+            Subcommand::Run(words) => Outputs::Ports(words.ports.serving + words.ports.spares),
+            Subcommand::Spec(words) => Outputs::File(words.out),
+            Subcommand::Map(words) => Outputs::Files(words.template, words.pack),
+            Subcommand::Repack(words) => Outputs::File(words.new),
+            Subcommand::Prove(words) => Outputs::File(words.cert),
+            Subcommand::Graph(words) => Outputs::File(words.out),
+            Subcommand::Bits(_) => Outputs::Nothing,
+            Subcommand::Gen(_) => Outputs::Nothing,
+            Subcommand::Audit(_) => Outputs::Nothing,
+            Subcommand::Pace(_) => Outputs::Nothing,
         },
     }
 }

@@ -7,7 +7,7 @@ use Rattle.tl_text.specs.NameIndex.{place_of}
 use Rattle.tlut_host.specs.Kept.{param_names}
 use Rattle.tlut_host.specs.Copied.{copied_by, copied_plain}
 use Rattle.tlut_host.specs.Settings.{IsChange, settings_status, assign_of}
-use Rattle.tlut_host.specs.declared.setting.Setting.{Setting}
+use Rattle.tlut_host.specs.declared.setting.ParameterSetting.{ParameterSetting}
 use Rattle.tlut_host.specs.declared.setting.TheConstants.{DONE, CLOSED, RANGE}
 use Rattle.tlut_host.specs.Paced.{PacedValue, IsAsk, IsTick}
 
@@ -46,7 +46,7 @@ pub record AreCounted (h : SpecialiserValue) (parameters bits status : ℕ) : Ty
   pub bits_are : bits ≡ length h.state.config
 
 -- settings are taken, or the first one that breaks a rule is told, and then nothing changes
-pub record IsSetCall (settings : List Setting) (old new : SpecialiserValue) (status : ℕ) : Type 0 where
+pub record IsSetCall (settings : List ParameterSetting) (old new : SpecialiserValue) (status : ℕ) : Type 0 where
   pub answer : status ≡ settings_status (length old.state.params) 0 settings
   pub done : status ≡ DONE → IsChange (map assign_of settings) old new
   pub refused : status ≢ DONE → new ≡ old
@@ -84,7 +84,7 @@ pub record IsNumberCall (names : List (List ℕ)) (name : List ℕ) (before afte
   pub range : place_of names name ≡ None → (status ≡ RANGE) × (after ≡ before)
 
 -- values are requested, or the first setting that breaks a rule is told, and then nothing changes
-pub record IsAskCall (settings : List Setting) (old new : PacedValue) (before after status : ℕ) : Type 0 where
+pub record IsAskCall (settings : List ParameterSetting) (old new : PacedValue) (before after status : ℕ) : Type 0 where
   pub answer : status ≡ settings_status (length old.params) 0 settings
   pub done : status ≡ DONE → IsAsk (map assign_of settings) old new after
   pub refused : status ≢ DONE → (new ≡ old) × (after ≡ before)

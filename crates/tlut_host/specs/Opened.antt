@@ -6,7 +6,7 @@ use Rattle.ppc_file.specs.PackFile.{IsPackFile, IsPackFault}
 use Rattle.ppc_file.specs.declared.pack_err.PackErr.{PackErr}
 use Rattle.ppc_file.specs.declared.pack_err.PackErr.TheVariants.{Magic, Version, Truncated, BadName, BadNode, BadBit, Trailing, BadNumber, Memory as NoMemory}
 use Rattle.spec_core.specs.Specialiser.{SpecialiserValue}
-use Rattle.tlut_host.specs.declared.setting.Refusal.{Refusal}
+use Rattle.tlut_host.specs.declared.setting.PackRefusal.{PackRefusal}
 use Rattle.tlut_host.specs.declared.setting.TheConstants.{REFUSED, LIMIT, MEMORY}
 use Rattle.tlut_host.specs.declared.opened.OpenErr.{OpenErr}
 use Rattle.tlut_host.specs.declared.opened.OpenErr.TheVariants.{Limit, Memory, Refused}
@@ -19,7 +19,7 @@ pub record IsOpened (bytes : List ℕ) (h : SpecialiserValue) : Type 0 where
   pub writes : h.writes ≡ []
 
 -- the number of the rule of K1 to K8, and the offset
-abbrev pub told : PackErr → Refusal
+abbrev pub told : PackErr → PackRefusal
 told (Magic at) = record { rule = 1; offset = at }
 told (Version at) = record { rule = 2; offset = at }
 told (Truncated at) = record { rule = 3; offset = at }
@@ -35,7 +35,7 @@ status_of Limit = LIMIT
 status_of Memory = MEMORY
 status_of (Refused e) = REFUSED
 
-abbrev pub told_of : OpenErr → Refusal
+abbrev pub told_of : OpenErr → PackRefusal
 told_of Limit = record { rule = 0; offset = 0 }
 told_of Memory = record { rule = 0; offset = 0 }
 told_of (Refused e) = told e
@@ -47,7 +47,7 @@ IsOpenFault bytes Memory = Unit {0}
 IsOpenFault bytes (Refused e) = IsPackFault bytes e
 
 -- the status and the refusal of bytes that aren't opened
-pub record IsTold (bytes : List ℕ) (status : ℕ) (refusal : Refusal) : Type 0 where
+pub record IsTold (bytes : List ℕ) (status : ℕ) (refusal : PackRefusal) : Type 0 where
   pub error : OpenErr
   pub fault : IsOpenFault bytes error
   pub status_is : status ≡ status_of error

@@ -6,7 +6,7 @@ use denote.RawPtr.{Ptr}
 use Rattle.std_heap.specs.declared.Global.{Global}
 use Rattle.std_heap.specs.contracts.GlobalAllocator.TheImpl.{ghosts}
 use Rattle.std_alloc.specs.Box.Ownership.{box_owns}
-use Rattle.tlut_host.specs.declared.host.Host.{Host}
+use Rattle.tlut_host.specs.declared.host.NamedSpecialiser.{NamedSpecialiser}
 use Rattle.tlut_host.specs.contracts.host.Host.{the_row}
 use Rattle.tlut_host.specs.declared.paced.PacedHost.{PacedHost}
 use Rattle.tlut_host.specs.contracts.paced.PacedHost.{the_row as the_paced_row}
@@ -21,7 +21,7 @@ owns_boxed R p (Some x) = box_owns (ghosts.dealloc_token heap) R p x
 owns_boxed R p None = ftrue
 
 -- of a host
-abbrev pub held_by : Ptr → Option Host → Fml
+abbrev pub held_by : Ptr → Option NamedSpecialiser → Fml
 held_by = owns_boxed the_row
 
 -- of a host at a limited rate

@@ -5,14 +5,14 @@ use Rattle.ppc_pack.specs.Pack.{IsConf}
 use Rattle.spec_core.specs.Specialiser.{SpecialiserValue}
 use Rattle.spec_core.specs.Events.{IsSet}
 use Rattle.spec_core.specs.Touched.{IsWithinTouched}
-use Rattle.tlut_host.specs.declared.setting.Setting.{Setting}
+use Rattle.tlut_host.specs.declared.setting.ParameterSetting.{ParameterSetting}
 use Rattle.tlut_host.specs.declared.setting.TheConstants.{DONE, RANGE, ORDER}
 
-abbrev pub assign_of : Setting → Assign
+abbrev pub assign_of : ParameterSetting → Assign
 assign_of s = record { param = s.parameter; bit = s.bit }
 
 -- The status of settings for this many parameters, the first one at least `next`: each parameter is one of them, and after those before it.
-abbrev pub settings_status : ℕ → ℕ → List Setting → ℕ
+abbrev pub settings_status : ℕ → ℕ → List ParameterSetting → ℕ
 settings_status params next [] = DONE
 settings_status params next (s ∷ ss) =
     if nat_le params s.parameter then RANGE else if nat_lt s.parameter next then ORDER else settings_status params (s.parameter + 1) ss

@@ -11,7 +11,7 @@ use crate::copy::{copy_bits, copy_writes, value_at};
 use crate::handle::{Handle, put, take};
 use crate::names::{tell_name, tell_number};
 use crate::opened::open;
-use crate::setting::{BitWrite, CLOSED, DONE, OPEN, Refusal, Setting};
+use crate::setting::{BitWrite, CLOSED, DONE, OPEN, PackRefusal, ParameterSetting};
 use std::alloc::Global;
 
 /// Opens a pack at the initial values of its parameters, and allocates all the memory that later calls need.
@@ -20,7 +20,7 @@ pub extern "C" fn tlut_open(
     alloc: Global,
     pack: &[u8],
     handle: &mut Handle,
-    refusal: &mut Refusal,
+    refusal: &mut PackRefusal,
 ) -> u32
     ensures done { result ≡ DONE → HoldsOne handle.new.held.value (IsOpened pack.now) }
     ensures kept { result ≢ DONE → handle.new.held.value ≡ handle.old.held.value }
@@ -57,7 +57,7 @@ pub extern "C" fn tlut_close(handle: &mut Handle) -> u32
 
 /// Gives new values to parameters in ascending order, each at most once.
 #[unsafe(no_mangle)]
-pub extern "C" fn tlut_set(handle: &mut Handle, settings: &[Setting]) -> u32
+pub extern "C" fn tlut_set(handle: &mut Handle, settings: &[ParameterSetting]) -> u32
     ensures { IsCall handle.old.held.value handle.new.held.value result (λ old new. IsSetCall settings.now old new result) }
 {
     let Some(mut host) = take(handle) else {

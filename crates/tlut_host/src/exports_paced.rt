@@ -10,7 +10,7 @@ ghost use Rattle.tlut_host.specs.Paced.{IsPacedOpened};
 use crate::copy::copy_writes;
 use crate::handle_paced::{PacedHandle, put_paced, take_paced};
 use crate::opened::open_paced;
-use crate::setting::{BitWrite, CLOSED, DONE, OPEN, RANGE, Refusal, Setting};
+use crate::setting::{BitWrite, CLOSED, DONE, OPEN, PackRefusal, ParameterSetting, RANGE};
 use std::alloc::Global;
 
 /// Opens a pack at the initial values of its parameters, for a device that takes `rate` bits per tick, and allocates all the
@@ -21,7 +21,7 @@ pub extern "C" fn tlut_paced_open(
     pack: &[u8],
     rate: u32,
     handle: &mut PacedHandle,
-    refusal: &mut Refusal,
+    refusal: &mut PackRefusal,
 ) -> u32
     ensures done { result ≡ DONE → HoldsOne handle.new.held.value (IsPacedOpened pack.now rate) }
     ensures kept { result ≢ DONE → handle.new.held.value ≡ handle.old.held.value }
@@ -67,7 +67,7 @@ pub extern "C" fn tlut_paced_close(handle: &mut PacedHandle) -> u32
 #[unsafe(no_mangle)]
 pub extern "C" fn tlut_ask(
     handle: &mut PacedHandle,
-    settings: &[Setting],
+    settings: &[ParameterSetting],
     waiting: &mut usize,
 ) -> u32
     ensures { IsTellingCall handle.old.held.value handle.new.held.value result (waiting.new ≡ waiting.old)

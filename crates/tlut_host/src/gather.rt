@@ -3,11 +3,11 @@ ghost use Rattle.std.specs.Prelude.{◌≡◌, ◌≤◌, ◌<◌, length, map, 
 ghost use Rattle.tlut_host.specs.declared.setting.TheConstants.{DONE};
 ghost use Rattle.tlut_host.specs.Settings.{settings_status, assign_of};
 
-use crate::setting::{DONE, ORDER, RANGE, Setting};
+use crate::setting::{DONE, ORDER, ParameterSetting, RANGE};
 use tl_io::Assign;
 
 // The settings as assigns in a vector with room for one of each parameter. `DONE`, or why they are refused.
-pub(crate) fn gather(assigns: &mut Vec<Assign>, params: usize, settings: &[Setting]) -> u32
+pub(crate) fn gather(assigns: &mut Vec<Assign>, params: usize, settings: &[ParameterSetting]) -> u32
     requires { params ≤ vec_capacity assigns.old }
     ensures status { result ≡ settings_status params 0 settings.now }
     ensures are { result ≡ DONE → assigns.new.items ≡ map assign_of settings.now }

@@ -2,7 +2,7 @@
 ghost use Rattle.std.specs.Prelude.{◌≡◌, true, false, Option, Some, None, is_some, MatchOption};
 
 use crate::held::Held;
-use crate::host::Host;
+use crate::host::NamedSpecialiser;
 use crate::loose::Loose;
 use std::alloc::Global;
 
@@ -31,7 +31,7 @@ impl Handle {
     }
 
     // A handle to a host.
-    fn of(alloc: Global, host: Box<Host>) -> Handle
+    fn of(alloc: Global, host: Box<NamedSpecialiser>) -> Handle
         ensures { result.held.value ≡ Some host.value }
     {
         Handle {
@@ -42,7 +42,7 @@ impl Handle {
     }
 
     // The host of a handle.
-    fn into_host(self) -> Option<Box<Host>>
+    fn into_host(self) -> Option<Box<NamedSpecialiser>>
         ensures { MatchOption result (self.held.value ≡ None) (λ b. self.held.value ≡ Some b.value) }
     {
         let Handle {
@@ -71,7 +71,7 @@ impl Handle {
 }
 
 // Takes what a handle is to, and leaves it closed.
-pub(crate) fn take(handle: &mut Handle) -> Option<Box<Host>>
+pub(crate) fn take(handle: &mut Handle) -> Option<Box<NamedSpecialiser>>
     ensures closed { handle.new.held.value ≡ None }
     ensures taken { MatchOption result (handle.old.held.value ≡ None) (λ b. handle.old.held.value ≡ Some b.value) }
 {
@@ -80,7 +80,7 @@ pub(crate) fn take(handle: &mut Handle) -> Option<Box<Host>>
 }
 
 // Opens a closed handle to a host.
-pub(crate) fn put(handle: &mut Handle, host: Box<Host>)
+pub(crate) fn put(handle: &mut Handle, host: Box<NamedSpecialiser>)
     requires { handle.old.held.value ≡ None }
     ensures { handle.new.held.value ≡ Some host.value }
 {

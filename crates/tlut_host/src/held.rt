@@ -1,8 +1,8 @@
 //! A pointer that C keeps.
 ghost use Rattle.std.specs.Prelude.{◌≡◌, Option, Some, None, is_some, true};
-ghost use Rattle.tlut_host.specs.declared.host.Host.{Host};
+ghost use Rattle.tlut_host.specs.declared.host.NamedSpecialiser.{NamedSpecialiser};
 
-use crate::host::Host;
+use crate::host::NamedSpecialiser;
 use crate::loose::Loose;
 use std::alloc::Global;
 use std::marker::Model;
@@ -13,7 +13,7 @@ use std::marker::Model;
 #[repr(C)]
 pub struct Held {
     at: *mut u8,
-    ghost value: { Option Host },
+    ghost value: { Option NamedSpecialiser },
 }
 
 impl Model for Held {
@@ -33,7 +33,7 @@ impl Held {
     }
 
     // The pointer to a host.
-    pub(crate) fn of(loose: Loose<Host, Global>) -> Held
+    pub(crate) fn of(loose: Loose<NamedSpecialiser, Global>) -> Held
         ensures { result.value ≡ Some loose.value }
     {
         let Loose { at, alloc: _ } = loose;
@@ -41,13 +41,13 @@ impl Held {
     }
 
     // The host again.
-    pub(crate) fn into_loose(self, alloc: Global) -> Loose<Host, Global>
+    pub(crate) fn into_loose(self, alloc: Global) -> Loose<NamedSpecialiser, Global>
         requires { is_some self.value ≡ true }
         ensures { self.value ≡ Some result.value }
     {
         let Held { at } = self;
         Loose {
-            at: at as *mut Host,
+            at: at as *mut NamedSpecialiser,
             alloc,
         }
     }

@@ -10,7 +10,7 @@ ghost use Rattle.tlut_host.specs.Kept.{param_names};
 ghost use Rattle.tlut_host.specs.Settings.{IsChange, settings_status, assign_of};
 
 use crate::gather::gather;
-use crate::setting::{DONE, RANGE, Setting};
+use crate::setting::{DONE, ParameterSetting, RANGE};
 use aig_core::Steps;
 use ppc_pack::{Pack, PackParam};
 use spec_core::Specialiser;
@@ -22,14 +22,14 @@ use tl_text::{Name, NameIndex};
 
 /// A specialiser, with the names of its parameters, and room for new values of all of them.
 #[derive(Drop)]
-pub struct Host {
+pub struct NamedSpecialiser {
     specialiser: Specialiser,
     names: Vec<Name>,
     index: NameIndex,
     assigns: Vec<Assign>,
 }
 
-impl Model for Host {
+impl Model for NamedSpecialiser {
     ghost use Rattle.std.specs.Prelude.{vec_capacity};
     ghost use Rattle.spec_core.specs.Specialiser.{SpecialiserValue};
     ghost use Rattle.tlut_host.specs.Kept.{IsKept};
@@ -64,9 +64,9 @@ fn change_with<L: Ledger>(specialiser: &mut Specialiser, assigns: &[Assign], bla
     specialiser.change(assigns, &mut steps);
 }
 
-impl Host {
+impl NamedSpecialiser {
     // The pack at its initial values. `Err` only if memory runs out. No other call allocates memory.
-    pub(crate) fn make(alloc: Global, pack: Pack) -> Result<Host, AllocError>
+    pub(crate) fn make(alloc: Global, pack: Pack) -> Result<NamedSpecialiser, AllocError>
         ensures pack { IfOk result (λ h. h.pack ≡ pack) }
         ensures params { IfOk result (λ h. h.state.params ≡ inits_of pack.params) }
         ensures config { IfOk result (λ h. IsConf pack (inits_of pack.params) h.state.config) }
@@ -76,7 +76,7 @@ impl Host {
         let index = NameIndex::of(alloc, &names)?;
         let assigns = Vec::with_capacity(alloc, pack.params().len())?;
         let specialiser = Specialiser::make(alloc, pack)?;
-        Ok(Host {
+        Ok(NamedSpecialiser {
             specialiser,
             names,
             index,
@@ -86,7 +86,7 @@ impl Host {
 
     // Gives new values to parameters in ascending order, each at most once. Answers `DONE`, or why the settings are refused,
     // and then nothing changes.
-    pub(crate) fn set(&mut self, settings: &[Setting]) -> u32
+    pub(crate) fn set(&mut self, settings: &[ParameterSetting]) -> u32
         ensures status { result ≡ settings_status (length self.old.state.params) 0 settings.now }
         ensures done { result ≡ DONE → IsChange (map assign_of settings.now) self.old self.new }
         ensures refused { result ≢ DONE → self.new ≡ self.old }

@@ -35,4 +35,4 @@ pub use handle::Handle;
 pub use handle_paced::PacedHandle;
 pub use held::Held;
 pub use held_paced::HeldPaced;
-pub use setting::{BitWrite, Refusal, Setting};
+pub use setting::{BitWrite, PackRefusal, ParameterSetting};

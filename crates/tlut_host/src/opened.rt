@@ -6,9 +6,9 @@ ghost use Rattle.tlut_host.specs.declared.setting.TheConstants.{CLOSED};
 ghost use Rattle.tlut_host.specs.Opened.{IsOpened, IsOpenFault, told, told_of, status_of};
 ghost use Rattle.tlut_host.specs.Paced.{IsPacedOpened};
 
-use crate::host::Host;
+use crate::host::NamedSpecialiser;
 use crate::paced::PacedHost;
-use crate::setting::{LIMIT, MEMORY, REFUSED, Refusal};
+use crate::setting::{LIMIT, MEMORY, PackRefusal, REFUSED};
 use ppc_file::{PackErr, decode};
 use ppc_pack::Pack;
 use std::alloc::Global;
@@ -23,7 +23,7 @@ pub(crate) enum OpenErr {
 }
 
 // The rule and the offset that C is told.
-fn refusal_told(error: PackErr) -> Refusal
+fn refusal_told(error: PackErr) -> PackRefusal
     ensures { result ≡ told error }
 {
     let (rule, offset) = match error {
@@ -37,7 +37,7 @@ fn refusal_told(error: PackErr) -> Refusal
         PackErr::BadNumber(at) => (8, at),
         PackErr::Memory => (0, 0),
     };
-    Refusal { rule, offset }
+    PackRefusal { rule, offset }
 }
 
 impl OpenErr {
@@ -53,18 +53,18 @@ impl OpenErr {
         }
     }
 
-    fn refusal(self) -> Refusal
+    fn refusal(self) -> PackRefusal
         ensures { result ≡ told_of self }
     {
         match self {
-            OpenErr::Limit => Refusal { rule: 0, offset: 0 },
-            OpenErr::Memory => Refusal { rule: 0, offset: 0 },
+            OpenErr::Limit => PackRefusal { rule: 0, offset: 0 },
+            OpenErr::Memory => PackRefusal { rule: 0, offset: 0 },
             OpenErr::Refused(error) => refusal_told(error),
         }
     }
 
     // Tells C what is refused, and answers the status.
-    pub(crate) fn tell(self, refusal: &mut Refusal) -> u32
+    pub(crate) fn tell(self, refusal: &mut PackRefusal) -> u32
         ensures status { result ≡ status_of self }
         ensures some { 0 < result }
         ensures few { result < CLOSED }
@@ -92,13 +92,13 @@ fn read_pack(alloc: Global, bytes: &[u8]) -> Result<Pack, OpenErr>
 }
 
 // A host of the pack in these bytes, in a box.
-pub(crate) fn open(alloc: Global, bytes: &[u8]) -> Result<Box<Host>, OpenErr>
+pub(crate) fn open(alloc: Global, bytes: &[u8]) -> Result<Box<NamedSpecialiser>, OpenErr>
     ensures ok { IfOk result (λ b. IsOpened bytes.now b.value) }
     ensures fault { IfErr result (IsOpenFault bytes.now) }
     ensures limit { MOST_PACK_BYTES < length bytes.now → result ≡ Err OpenErr.Limit }
 {
     let pack = read_pack(alloc, bytes)?;
-    let Ok(host) = Host::make(alloc, pack) else {
+    let Ok(host) = NamedSpecialiser::make(alloc, pack) else {
         return Err(OpenErr::Memory);
     };
     match Box::new(alloc, host) {

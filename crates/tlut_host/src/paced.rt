@@ -7,7 +7,7 @@ ghost use Rattle.tlut_host.specs.Paced.{IsPacing, IsRequest, IsCatchUp, IsTick};
 ghost use Rattle.tlut_host.specs.Calls.{IsAskCall};
 
 use crate::gather::gather;
-use crate::setting::{DONE, Setting};
+use crate::setting::{DONE, ParameterSetting};
 use aig_core::Steps;
 use pace_core::Backlog;
 use ppc_pack::Pack;
@@ -103,7 +103,7 @@ impl PacedHost {
 
     // Requests new values of parameters in ascending order, each at most once, and tells how many bits of the device differ from
     // their configuration. Answers `DONE`, or why the settings are refused, and then nothing changes.
-    pub(crate) fn ask(&mut self, settings: &[Setting], waiting: &mut usize) -> u32
+    pub(crate) fn ask(&mut self, settings: &[ParameterSetting], waiting: &mut usize) -> u32
         ensures { IsAskCall settings.now self.old self.new waiting.old waiting.new result }
     {
         let status = gather(&mut self.assigns, self.params, settings);

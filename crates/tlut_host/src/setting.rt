@@ -27,7 +27,7 @@ pub const ORDER: u32 = 7;
 /// A new value of a parameter.
 #[repr(C)]
 #[derive(Clone, Copy)]
-pub struct Setting {
+pub struct ParameterSetting {
     /// The number of the parameter, from 0.
     pub parameter: u16,
     /// Its value.
@@ -48,7 +48,7 @@ pub struct BitWrite {
 /// where nothing was refused.
 #[repr(C)]
 #[derive(Clone, Copy)]
-pub struct Refusal {
+pub struct PackRefusal {
     pub rule: u32,
     pub offset: u32,
 }

@@ -1,7 +1,7 @@
 -- The sections of the items, and their lines one by one. A text that is a circuit is read as it; and one that is refused is refused as it is read: what precedes
 -- the line is read, and the line is not.
-use Rattle.aiger_io.proofs.Common.{◌≡◌, ℕ, suc, ◌+◌, true, List, [], ◌∷◌, ◌++◌, length, drop, None, Ok, codes, refl, sym, ap, ◌∙◌, subst, arith, lines, In, AreOnce, IsOfFormatWith, IsAigerText, Circuit, header_in, items_from, and_then, input_names, output_names, port_names, first_twice, named_circuit, circuit_behind, circuit_under, circuit_of, IsParsed, Symbol, IsComment, SymbolsValue, no_symbols, symbols_from, Header, Item, ◌≤◌, false, Option, Some, Result, Err, inl, inr, bytes_eq, cond-false, false_from_ne_true, header_of, IsHeaderRow, IsLaterRow, item_of, item_with, item_at, words_of, circuit_in, Begins, BeginsWithSymbols, IsItemHere, IsAlike, IsRefused, later, bad_header, missing, malformed, out_of_range, malformed_symbol, bad_symbol, alike, IsSymbolRow, may_stand, with_symbol, symbol_of, symbol_at, AagErr, kind_of_item, AreItemRows, item_count, kind_at, is_in_range, zero, ◌<◌, append_assoc, append-nil, length-append, slice_get, cond-true, cases_lt, cases_Bool, IsItemRow, take, length-take, length-drop, take-append-drop, drop-drop, take_all, In-get, place_in, Kind, IsSection, AreInSections, drop-append_seam, rules}
-use Rattle.aiger_io.specs.declared.item.Kind.TheVariants as kind
+use Rattle.aiger_io.proofs.Common.{◌≡◌, ℕ, suc, ◌+◌, true, List, [], ◌∷◌, ◌++◌, length, drop, None, Ok, codes, refl, sym, ap, ◌∙◌, subst, arith, lines, In, AreOnce, IsOfFormatWith, IsAigerText, Circuit, header_in, items_from, and_then, input_names, output_names, port_names, first_twice, named_circuit, circuit_behind, circuit_under, circuit_of, IsParsed, Symbol, IsComment, SymbolsValue, no_symbols, symbols_from, Header, Item, ◌≤◌, false, Option, Some, Result, Err, inl, inr, bytes_eq, cond-false, false_from_ne_true, header_of, IsHeaderRow, IsLaterRow, item_of, item_with, item_at, words_of, circuit_in, Begins, BeginsWithSymbols, IsItemHere, IsAlike, IsRefused, later, bad_header, missing, malformed, out_of_range, malformed_symbol, bad_symbol, alike, IsSymbolRow, may_stand, with_symbol, symbol_of, symbol_at, AagErr, kind_of_item, AreItemRows, item_count, kind_at, is_in_range, zero, ◌<◌, append_assoc, append-nil, length-append, slice_get, cond-true, cases_lt, cases_Bool, IsItemRow, take, length-take, length-drop, take-append-drop, drop-drop, take_all, In-get, place_in, LineKind, IsSection, AreInSections, drop-append_seam, rules}
+use Rattle.aiger_io.specs.declared.item.LineKind.TheVariants as kind
 use Rattle.aiger_io.proofs.Format.RowLemmas.{header_row_is, later_row_is, is_header_row, header_error, item_read, item_spelled, symbol_read, symbol_spelled}
 use Rattle.aiger_io.proofs.LineLemmas.{items_full, symbols_end, items_end, items_stop, symbols_stop, items_next}
 use Rattle.aiger_io.proofs.Format.SaidLemmas.{inputs_named, outputs_named, names_once, Says, nothing_said, twice_read, read_may, symbols_read, no_comment, not_c}
@@ -35,7 +35,7 @@ module _ (h : Header) (items : List Item) (s : AreInSections h items) where
       ]
 
 -- and back
-section_of : (k : Kind) (from count : ℕ) (items : List Item) → from + count ≤ length items → ((p : ℕ) (item : Item) → slice_get items p ≡ Some item → from ≤ p → p < from + count → kind_of_item item ≡ k) → IsSection k count (take count (drop from items))
+section_of : (k : LineKind) (from count : ℕ) (items : List Item) → from + count ≤ length items → ((p : ℕ) (item : Item) → slice_get items p ≡ Some item → from ≤ p → p < from + count → kind_of_item item ≡ k) → IsSection k count (take count (drop from items))
 section_of k from count items l each = search (rules, length-take, length-drop, place_in, take_at, drop_at)
 
 one_cut : (n m : ℕ) (items : List Item) → drop n items ≡ take m (drop n items) ++ drop (n + m) items

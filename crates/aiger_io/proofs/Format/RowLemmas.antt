@@ -1,6 +1,6 @@
 -- Words and lines as they are spelled: the number that a word is read as is the one that it spells, a line's words are those that one blank joins, and what a
 -- header, an item or a symbol is read as is what its line spells.
-use Rattle.aiger_io.proofs.Common.{◌≡◌, ◌⊎◌, ℕ, ◌≤◌, true, eqb, leb, List, [], ◌∷◌, length, Option, Some, None, Ok, Err, codes, inl, inr, refl, sym, ap, ◌∙◌, subst, arith, bytes_eq, bytes_decides, header_with, header_by, header_of, other_header, words_of, numbers_of, AagErr, Header, cond, true≢false, Bool, false, ◌||◌, join_with_byte, option_map, or_cases, or_right, cond-true, false_from_ne_true, In, one_number, init_of, latch_with, latch_of, and_with, and_of, item_of, number_of, IsNumber, AreNumbers, Item, Input, Latch, Output, And, Kind, suc, ◌+◌, ◌<◌, get_or, drop, ◌++◌, length-append, length-drop, position_or_len, before_first, after_first, eqb-true, position_or_len_is, split_at_first, passes_at_first, take-append_seam, In-get_or, Symbol, IsLetterOf, IsSymbolRow, kind_of, symbol_by, symbol_with, symbol_of, nat_tests, some_then, le-leb, get_or-append, get_or-append_seam, rules, ◌-◌, ◌*◌, not, append_assoc, append-nil, list_all, slice_split_none, slice_split_at, join_with_byte-slice_split, is_digit, is_decimal, number_from, number_from-push, in_front, and_from, and_parts, or_left, not-true, not_from_false, leb-true, eqb-false, ne_eqb}
+use Rattle.aiger_io.proofs.Common.{◌≡◌, ◌⊎◌, ℕ, ◌≤◌, true, eqb, leb, List, [], ◌∷◌, length, Option, Some, None, Ok, Err, codes, inl, inr, refl, sym, ap, ◌∙◌, subst, arith, bytes_eq, bytes_decides, header_with, header_by, header_of, other_header, words_of, numbers_of, AagErr, Header, cond, true≢false, Bool, false, ◌||◌, join_with_byte, option_map, or_cases, or_right, cond-true, false_from_ne_true, In, one_number, init_of, latch_with, latch_of, and_with, and_of, item_of, number_of, IsNumber, AreNumbers, Item, Input, Latch, Output, And, LineKind, suc, ◌+◌, ◌<◌, get_or, drop, ◌++◌, length-append, length-drop, position_or_len, before_first, after_first, eqb-true, position_or_len_is, split_at_first, passes_at_first, take-append_seam, In-get_or, Symbol, IsLetterOf, IsSymbolRow, kind_of, symbol_by, symbol_with, symbol_of, nat_tests, some_then, le-leb, get_or-append, get_or-append_seam, rules, ◌-◌, ◌*◌, not, append_assoc, append-nil, list_all, slice_split_none, slice_split_at, join_with_byte-slice_split, is_digit, is_decimal, number_from, number_from-push, in_front, and_from, and_parts, or_left, not-true, not_from_false, leb-true, eqb-false, ne_eqb}
 use Rattle.aiger_io.specs.AigerText.{is_header, header_numbers, IsNumbersRow, IsHeaderRow, IsLaterRow, kind_of_item, IsInit, IsLatchRow, IsItemRow, digit, more}
 use Rattle.aiger_io.specs.declared.aag_err.AagErr.TheVariants as aag_err
 use Rattle.aiger_io.proofs.LineLemmas.{chosen, five, ok_then, with_is}
@@ -236,7 +236,7 @@ gate_form row a b c x y z item is p q r e = absurd (cc)
 gates_form : (row : List ℕ) (words : List (List ℕ)) (item : Item) → words_of row ≡ words → and_of words ≡ Some item → IsItemRow row item
 gates_form row words item is e = grind (arith, gate_form)
 
-pub item_spelled : (row : List ℕ) (k : Kind) (item : Item) → item_of k (words_of row) ≡ Some item → IsItemRow row item
+pub item_spelled : (row : List ℕ) (k : LineKind) (item : Item) → item_of k (words_of row) ≡ Some item → IsItemRow row item
 item_spelled row k item e = grind (arith, one_form, latches_form, gates_form)
 
 drop_behind : (w ys : List ℕ) (b : ℕ) → drop (suc (length w)) (w ++ b ∷ ys) ≡ ys
@@ -254,16 +254,16 @@ symbol_split key name clean =
     let z : length key + 1 ≡ suc (length key) = omega arith in
     grind (arith, take-append_seam, drop_behind)
 
-letter_read : (k : Kind) (letter : ℕ) → IsLetterOf k letter → kind_of letter ≡ Some k
+letter_read : (k : LineKind) (letter : ℕ) → IsLetterOf k letter → kind_of letter ≡ Some k
 letter_read k letter e = grind (arith, nat_tests)
 
-letter_blank : (k : Kind) (letter : ℕ) → IsLetterOf k letter → eqb letter 32 ≡ false
+letter_blank : (k : LineKind) (letter : ℕ) → IsLetterOf k letter → eqb letter 32 ≡ false
 letter_blank k letter e = grind (arith, nat_tests)
 
 key_blank : (letter : ℕ) (digits : List ℕ) → eqb letter 32 ≡ false → HasNoBlank digits → HasNoBlank (letter ∷ digits)
 key_blank letter digits f clean b e = grind (arith, eqb)
 
-parts_read : (letter : ℕ) (digits name : List ℕ) (k : Kind) (n : ℕ) → kind_of letter ≡ Some k → number_of digits ≡ Some n → 0 < length name → symbol_with (letter ∷ digits) name ≡ Some (record { kind = k; ordinal = n; name = name })
+parts_read : (letter : ℕ) (digits name : List ℕ) (k : LineKind) (n : ℕ) → kind_of letter ≡ Some k → number_of digits ≡ Some n → 0 < length name → symbol_with (letter ∷ digits) name ≡ Some (record { kind = k; ordinal = n; name = name })
 parts_read letter digits name k n p q some = grind arith
 
 pub symbol_read : (row : List ℕ) (s : Symbol) → IsSymbolRow row s → symbol_of row ≡ Some s
@@ -273,7 +273,7 @@ symbol_read row s r =
     ∙ parts_read r.letter r.digits s.name s.kind s.ordinal (letter_read s.kind r.letter r.letter_is) (number_is r.digits s.ordinal r.ordinal_is) r.some
 
 -- and back
-letter_is : (letter : ℕ) (k : Kind) → kind_of letter ≡ Some k → IsLetterOf k letter
+letter_is : (letter : ℕ) (k : LineKind) → kind_of letter ≡ Some k → IsLetterOf k letter
 letter_is letter k e = grind (arith, nat_tests)
 
 -- what the two sides of a blank say
@@ -286,7 +286,7 @@ record AreParts (key name : List ℕ) (s : Symbol) : Type 0 where
   ordinal_is : IsNumber digits s.ordinal
   some : 0 < length s.name
 
-by_parts : (letter : ℕ) (digits name : List ℕ) (o : Option ℕ) (k : Option Kind) (s : Symbol) → 0 < length name → number_of digits ≡ o → kind_of letter ≡ k → symbol_by name o k ≡ Some s → AreParts (letter ∷ digits) name s
+by_parts : (letter : ℕ) (digits name : List ℕ) (o : Option ℕ) (k : Option LineKind) (s : Symbol) → 0 < length name → number_of digits ≡ o → kind_of letter ≡ k → symbol_by name o k ≡ Some s → AreParts (letter ∷ digits) name s
 by_parts letter digits name o k s some p q e = grind (arith, letter_is, number_spells)
 
 parts_are : (key name : List ℕ) (s : Symbol) → symbol_with key name ≡ Some s → AreParts key name s

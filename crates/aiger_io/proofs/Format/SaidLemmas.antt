@@ -1,24 +1,24 @@
 -- What symbols say, at the places of inputs, latches and outputs: a symbol may stand where its place is free, and then its name stands there.
 -- The names of inputs and outputs that are read are their symbols', or the default ones, and these are one list alone. The lines of symbols one by one.
-use Rattle.aiger_io.proofs.Common.{◌≡◌, ℕ, ◌+◌, ◌<◌, true, false, not, ltb, List, [], ◌∷◌, ◌++◌, length, map, Option, Some, None, inl, inr, refl, sym, ap, ◌∙◌, subst, arith, true≢false, slice_get, slice_set, slice_index_or, is_some, and_from, and_parts, ltb-true, lt-ltb, not-true, length-replicate, map-append, get_or_from_slice_get, In, In-left, In-push, In-pushed, at_within, set_here, set_other, set_length, same_or, named_count, SymbolsValue, no_name, no_symbols, first_of, place_of, may_stand, with_symbol, Header, Kind, zero, suc, Bool, ◌&&◌, take, drop, unwrap_or, bytes_eq, bytes_decides, same_Some, slice_get_within, In-get, same_list, has_name, in_has, Circuit, input_names, output_names, port_names, is_twice, is_port, name_at, first_twice, IsPort, IsAlike, Symbol, count_of, AagErr, BadSymbol, nat_tests, or_left, or_right, cond-true, cond-false, cases_Bool, MayStand, is_bad_name, default_name, IsNameOf, by_symbol, AreNamesOf, Ok, Err, codes, append_assoc, append-nil, false_from_ne_true, IsSymbolRow, AreSymbolRows, AllStand, IsComment, symbol_of, symbol_at, symbols_from, rules}
-use Rattle.aiger_io.specs.declared.item.Kind.TheVariants.{Input, Latch, Output}
+use Rattle.aiger_io.proofs.Common.{◌≡◌, ℕ, ◌+◌, ◌<◌, true, false, not, ltb, List, [], ◌∷◌, ◌++◌, length, map, Option, Some, None, inl, inr, refl, sym, ap, ◌∙◌, subst, arith, true≢false, slice_get, slice_set, slice_index_or, is_some, and_from, and_parts, ltb-true, lt-ltb, not-true, length-replicate, map-append, get_or_from_slice_get, In, In-left, In-push, In-pushed, at_within, set_here, set_other, set_length, same_or, named_count, SymbolsValue, no_name, no_symbols, first_of, place_of, may_stand, with_symbol, Header, LineKind, zero, suc, Bool, ◌&&◌, take, drop, unwrap_or, bytes_eq, bytes_decides, same_Some, slice_get_within, In-get, same_list, has_name, in_has, Circuit, input_names, output_names, port_names, is_twice, is_port, name_at, first_twice, IsPort, IsAlike, Symbol, count_of, AagErr, BadSymbol, nat_tests, or_left, or_right, cond-true, cond-false, cases_Bool, MayStand, is_bad_name, default_name, IsNameOf, by_symbol, AreNamesOf, Ok, Err, codes, append_assoc, append-nil, false_from_ne_true, IsSymbolRow, AreSymbolRows, AllStand, IsComment, symbol_of, symbol_at, symbols_from, rules}
+use Rattle.aiger_io.specs.declared.item.LineKind.TheVariants.{Input, Latch, Output}
 use Rattle.aiger_io.proofs.PortLemmas.{none_at, names_at, take_at, drop_at, inputs_length, outputs_length, two_places}
 use Rattle.aiger_io.specs.declared.aag_err.AagErr.TheVariants as aag_err
 use Rattle.aiger_io.proofs.LineLemmas.{symbols_next}
 use Rattle.aiger_io.proofs.Format.RowLemmas.{symbol_read, symbol_spelled}
 
 -- a place is that of one kind and ordinal
-pub record AreSame (k l : Kind) (m n : ℕ) : Type 0 where
+pub record AreSame (k l : LineKind) (m n : ℕ) : Type 0 where
   pub kind : k ≡ l
   pub ordinal : m ≡ n
 
-pub place_apart : (h : Header) (k l : Kind) (m n : ℕ) → m < count_of h k → n < count_of h l → first_of h k + m ≡ first_of h l + n → AreSame k l m n
+pub place_apart : (h : Header) (k l : LineKind) (m n : ℕ) → m < count_of h k → n < count_of h l → first_of h k + m ≡ first_of h l + n → AreSame k l m n
 place_apart h Input Input m n a b e = record { kind = refl; ordinal = omega arith }
 place_apart h Latch Latch m n a b e = record { kind = refl; ordinal = omega arith }
 place_apart h Output Output m n a b e = record { kind = refl; ordinal = omega arith }
 place_apart h k l m n a b e = absurd (omega arith)
 
-pub place_within : (h : Header) (k : Kind) (n : ℕ) → n < count_of h k → first_of h k + n < named_count h
+pub place_within : (h : Header) (k : LineKind) (n : ℕ) → n < count_of h k → first_of h k + n < named_count h
 place_within h k n l = grind arith
 
 -- the symbol whose name stands at a place
@@ -87,12 +87,12 @@ module _ (h : Header) (symbols : List Symbol) (said : SymbolsValue) (says : Says
       places = ap (λ l. l ++ place_of h s ∷ []) says.places ∙ sym (map-append (place_of h) symbols (s ∷ []));
     }
 
-same_symbol : (s : Symbol) (k : Kind) (n : ℕ) (x : List ℕ) → s.kind ≡ k → s.ordinal ≡ n → s.name ≡ x → s ≡ record { kind = k; ordinal = n; name = x }
+same_symbol : (s : Symbol) (k : LineKind) (n : ℕ) (x : List ℕ) → s.kind ≡ k → s.ordinal ≡ n → s.name ≡ x → s ≡ record { kind = k; ordinal = n; name = x }
 same_symbol s k n x p q r = grind arith
 
 module _ (h : Header) (symbols : List Symbol) (said : SymbolsValue) (says : Says h symbols said) where
   -- the name at a place
-  name_of : (k : Kind) (letter i : ℕ) (o : Option (List ℕ)) (x : List ℕ) → i < count_of h k → slice_get said.names (first_of h k + i) ≡ Some o → x ≡ unwrap_or o (default_name letter i) → IsNameOf symbols k letter i x
+  name_of : (k : LineKind) (letter i : ℕ) (o : Option (List ℕ)) (x : List ℕ) → i < count_of h k → slice_get said.names (first_of h k + i) ≡ Some o → x ≡ unwrap_or o (default_name letter i) → IsNameOf symbols k letter i x
   name_of k letter i None x l at is = grind (arith, same_Some)
   name_of k letter i (Some name) x l at is =
       let f = says.only (first_of h k + i) name at in
@@ -121,10 +121,10 @@ module _ (h : Header) (symbols : List Symbol) (said : SymbolsValue) (says : Says
   }
 
   -- one name alone
-  name_once : (k : Kind) (letter i : ℕ) (x y : List ℕ) → IsNameOf symbols k letter i x → IsNameOf symbols k letter i y → x ≡ y
+  name_once : (k : LineKind) (letter i : ℕ) (x y : List ℕ) → IsNameOf symbols k letter i x → IsNameOf symbols k letter i y → x ≡ y
   name_once k letter i x y e e2 = grind (arith, same_Some)
 
-  pub names_once : (k : Kind) (letter count : ℕ) (names others : List (List ℕ)) → AreNamesOf symbols k letter count names → AreNamesOf symbols k letter count others → names ≡ others
+  pub names_once : (k : LineKind) (letter count : ℕ) (names others : List (List ℕ)) → AreNamesOf symbols k letter count names → AreNamesOf symbols k letter count others → names ≡ others
   names_once k letter count names others a b = same_list names others (a.count_is ∙ sym b.count_is) (λ i x y p q. name_once k letter i x y (a.each i x p) (b.each i y q))
 
 -- a name that stands at two places
@@ -136,10 +136,10 @@ twice_at (n ∷ names) (suc i) (suc j) x l p q = or_right (bytes_eq x n && has_n
 twice_at names i j x l p q = search rules
 
 -- the places of inputs and outputs
-port_is : (h : Header) (k : Kind) (n : ℕ) → n < count_of h k → IsPort k → is_port h (first_of h k + n) ≡ true
+port_is : (h : Header) (k : LineKind) (n : ℕ) → n < count_of h k → IsPort k → is_port h (first_of h k + n) ≡ true
 port_is h k n l p = grind (arith, nat_tests)
 
-is_port_of : (h : Header) (k : Kind) (n : ℕ) → n < count_of h k → is_port h (first_of h k + n) ≡ true → IsPort k
+is_port_of : (h : Header) (k : LineKind) (n : ℕ) → n < count_of h k → is_port h (first_of h k + n) ≡ true → IsPort k
 is_port_of h k n l t = grind (arith, nat_tests)
 
 -- the first symbol that gives a port the name of another one

@@ -1,5 +1,5 @@
 -- How the instances of rows are connected: an inner one by the line that places it, and the main model's own by none.
-use Rattle.blif_flat.proofs.Common.{◌≡◌, ℕ, zero, suc, ◌<◌, List, [], ◌∷◌, ◌++◌, length, map, Option, Some, None, refl, sym, ap, ◌∙◌, subst, inl, inr, arith, slice_get, option_and_then, none-some, same_Some, slice_get_within, In, In-left, In-right, In-map, at_within, item_there, ◌≤◌, get_or, IsTrue, or_cases, slice_get_read, apart_once, Body, Cover, Latch, Subckt, Command, Pair, ModelValue, Path, with_subckt, subckts_of, model_at, ConnectionAt, Instance, path_of, paths_of, IsRow, AreInstances, body_names, commands_names, Link, line_of, link_of, link_under, link_at, has_name, is_input, is_output, inputs_of, IsDriven, is_cover, is_latch, Gate, places_at, AreGatesAt, IsSoundTable, HasOwn, HasOutputs, HasInputs, AreNetsAt, net_places, HasSlots, AreEmptyNets, IsNext, AreAllNets, NetsValue, table_of, IsNets, output_of_cover, output_of_latch, with_covers, with_latches, with_inputs, linked_out, linked_in, formal_of, actual_of, links_out, links_in, AreLinesOf, IsWellFormed, Ports, ports_value, IsLight, SubcktValue, LibraryValue, Places, Inside, inside, child_at, has_in}
+use Rattle.blif_flat.proofs.Common.{◌≡◌, ℕ, zero, suc, ◌<◌, List, [], ◌∷◌, ◌++◌, length, map, Option, Some, None, refl, sym, ap, ◌∙◌, subst, inl, inr, arith, slice_get, option_and_then, none-some, same_Some, slice_get_within, In, In-left, In-right, In-map, at_within, item_there, ◌≤◌, get_or, IsTrue, or_cases, slice_get_read, apart_once, Body, Cover, Latch, Subckt, Command, Connection, ModelValue, Path, with_subckt, subckts_of, model_at, ConnectionAt, Instance, path_of, paths_of, IsRow, AreInstances, body_names, commands_names, Link, line_of, link_of, link_under, link_at, has_name, is_input, is_output, inputs_of, IsDriven, is_cover, is_latch, Gate, places_at, AreGatesAt, IsSoundTable, HasOwn, HasOutputs, HasInputs, AreNetsAt, net_places, HasSlots, AreEmptyNets, IsNext, AreAllNets, NetsValue, table_of, IsNets, output_of_cover, output_of_latch, with_covers, with_latches, with_inputs, linked_out, linked_in, formal_of, actual_of, links_out, links_in, AreLinesOf, IsWellFormed, Ports, ports_value, IsLight, SubcktValue, LibraryValue, Places, Inside, inside, child_at, has_in}
 use Rattle.netlist.specs.declared.flat.Net.TheVariants.{Latch as LatchNumber, Cover as CoverNumber}
 use Rattle.blif_flat.proofs.Connections.NetCopyLemmas.{sound_empty, own_kept, inputs_start, outputs_start, inputs_step, outputs_step, next_same, next_on, pairs_next, pairs_known, IsConnection, passes_out, passes_in}
 use Rattle.blif_flat.proofs.Connections.NetLemmas.{HasParent, has_parent, formal_known, actual_known, table_found}
@@ -9,15 +9,15 @@ use Rattle.blif_flat.proofs.Hierarchy.InstanceWeightLemmas.{few_inputs}
 use Rattle.blif_flat.proofs.Hierarchy.OrderLemmas.{instances_apart, order_first}
 
 -- the actuals of a subcircuit are among the names of its model
-body_actual : (b : Body) (cs : List Command) (k : ℕ) (s : SubcktValue) (pair : Pair) → ((j : ℕ) → slice_get (subckts_of cs) j ≡ Some s → In (commands_names cs) pair.actual)
+body_actual : (b : Body) (cs : List Command) (k : ℕ) (s : SubcktValue) (pair : Connection) → ((j : ℕ) → slice_get (subckts_of cs) j ≡ Some s → In (commands_names cs) pair.actual)
     → slice_get (with_subckt b (subckts_of cs)) k ≡ Some s → In s.pairs pair → In (body_names b ++ commands_names cs) pair.actual
 body_actual (Cover c) cs k s pair rest e i = In-right (body_names (Cover c)) (commands_names cs) pair.actual (rest k e)
 body_actual (Latch l) cs k s pair rest e i = In-right (body_names (Latch l)) (commands_names cs) pair.actual (rest k e)
 body_actual (Subckt t) cs zero s pair rest e i =
-    In-left (body_names (Subckt t)) (commands_names cs) pair.actual (In-map (λ (p : Pair). p.actual) t.pairs pair (subst (λ (x : SubcktValue). In x.pairs pair) (sym (same_Some t s e)) i))
+    In-left (body_names (Subckt t)) (commands_names cs) pair.actual (In-map (λ (p : Connection). p.actual) t.pairs pair (subst (λ (x : SubcktValue). In x.pairs pair) (sym (same_Some t s e)) i))
 body_actual (Subckt t) cs (suc k) s pair rest e i = In-right (body_names (Subckt t)) (commands_names cs) pair.actual (rest k e)
 
-actual_named : (cs : List Command) (k : ℕ) (s : SubcktValue) (pair : Pair) → slice_get (subckts_of cs) k ≡ Some s → In s.pairs pair → In (commands_names cs) pair.actual
+actual_named : (cs : List Command) (k : ℕ) (s : SubcktValue) (pair : Connection) → slice_get (subckts_of cs) k ≡ Some s → In s.pairs pair → In (commands_names cs) pair.actual
 actual_named [] k s pair e i = absurd (none-some s e)
 actual_named (c ∷ cs) k s pair e i = body_actual c.body cs k s pair (λ j f. actual_named cs j s pair f i) e i
 
@@ -29,8 +29,8 @@ module _ (library : LibraryValue) (instances : List Instance) (are : AreInstance
     pub outside : slice_get (paths_of instances) link.outer ≡ Some path
     pub there : model_at library (k ∷ path) ≡ Some link.child
     pub earlier : link.outer < j
-    pub connects : (pair : Pair) → In link.pairs pair → (a : ConnectionAt library path k pair) × (a.child ≡ link.child)
-    pub all : (pair : Pair) → ConnectionAt library path k pair → In link.pairs pair
+    pub connects : (pair : Connection) → In link.pairs pair → (a : ConnectionAt library path k pair) × (a.child ≡ link.child)
+    pub all : (pair : Connection) → ConnectionAt library path k pair → In link.pairs pair
 
   pub linked : (j k : ℕ) (path : Path) → slice_get (paths_of instances) j ≡ Some (k ∷ path) → IsLinked j k path
   linked j k path e =
@@ -102,7 +102,7 @@ module _ (library : LibraryValue) (main : ModelValue) (instances : List Instance
       (pairs_next library at (paths_of instances) (is_output (l.link).child) formal_of actual_of t (l.link).outer (k ∷ path) path e l.outside (IsConnection library at (paths_of instances) (l.link).child path k) (passes_out library at (paths_of instances) (l.link).child path k) (l.link).pairs n right.nets right.sound l.connects)
 
   out_known : (n : NetsValue) → AreRight n → HasOwn library (paths_of instances) (table_of n) → (t : ℕ) → HasOutputs library (paths_of instances) (table_of n) (suc t)
-      → (i : ℕ) (path : Path) (k : ℕ) (pair : Pair) (a : ConnectionAt library path k pair) → IsTrue (is_output a.child pair.formal) → slice_get (paths_of instances) i ≡ Some path → slice_get (paths_of instances) t ≡ Some (k ∷ path)
+      → (i : ℕ) (path : Path) (k : ℕ) (pair : Connection) (a : ConnectionAt library path k pair) → IsTrue (is_output a.child pair.formal) → slice_get (paths_of instances) i ≡ Some path → slice_get (paths_of instances) t ≡ Some (k ∷ path)
       → table_of (linked_out n t (link_at library instances t)) i pair.actual ≡ None → ⊥
   out_known n right own t outputs i path k pair a out e f =
       let l : IsLinked library instances are t k path = linked library instances are t k path f in

@@ -1,5 +1,5 @@
 -- Slots of nets: the slot of a name, and the table when one more slot is filled.
-use Rattle.blif_flat.proofs.Common.{◌≡◌, ℕ, ◌+◌, ◌<◌, ◌≤◌, Bool, eqb, List, length, Option, Some, None, refl, sym, ap, ◌∙◌, inl, inr, bytes_eq, arith, slice_get, slice_set, ◌&&◌, option_map, option_and_then, get_or, slice_get_read, cases_Bool, cases_lt, both_ways, cond-true, cond-false, and_parts, and_from, bytes_decides, set_here, set_other, set_length, [], subst, suc, ◌∷◌, ◌⊎◌, IsTrue, none-some, same_Some, slice_get_within, In, place_of, Pair, FlatNet, Start, with_net, NetsValue, name_place, slot_number, slot_at, table_of, with_slot, with_found, copied, pair_copied, pairs_copied, IsNets, most_weight, ModelValue, Path, model_at, inputs_of, Net, input_net, latch_net, cover_net, Drives, Place, is_cover, is_latch, Instance, places_at, AreInstances, paths_of, IsNumbered, an_input, a_latch, a_cover, net_places, IsNetFound, AreAllNets, is_input, is_output, ConnectionAt, IsNetOf, IsSoundTable, HasOwn, HasOutputs, HasInputs, IsKeptIn, IsNext, LibraryValue, Places, eqb-true, eq-eqb}
+use Rattle.blif_flat.proofs.Common.{◌≡◌, ℕ, ◌+◌, ◌<◌, ◌≤◌, Bool, eqb, List, length, Option, Some, None, refl, sym, ap, ◌∙◌, inl, inr, bytes_eq, arith, slice_get, slice_set, ◌&&◌, option_map, option_and_then, get_or, slice_get_read, cases_Bool, cases_lt, both_ways, cond-true, cond-false, and_parts, and_from, bytes_decides, set_here, set_other, set_length, [], subst, suc, ◌∷◌, ◌⊎◌, IsTrue, none-some, same_Some, slice_get_within, In, place_of, Connection, FlatNet, Start, with_net, NetsValue, name_place, slot_number, slot_at, table_of, with_slot, with_found, copied, pair_copied, pairs_copied, IsNets, most_weight, ModelValue, Path, model_at, inputs_of, Net, input_net, latch_net, cover_net, Drives, Place, is_cover, is_latch, Instance, places_at, AreInstances, paths_of, IsNumbered, an_input, a_latch, a_cover, net_places, IsNetFound, AreAllNets, is_input, is_output, ConnectionAt, IsNetOf, IsSoundTable, HasOwn, HasOutputs, HasInputs, IsKeptIn, IsNext, LibraryValue, Places, eqb-true, eq-eqb}
 use Rattle.netlist.specs.declared.flat.Net.TheVariants.{Input, Latch, Cover}
 use Rattle.blif_flat.proofs.Connections.NetLemmas.{outer_number, inner_number}
 
@@ -174,7 +174,7 @@ module _ (library : LibraryValue) (paths : List Path) where
   }
 
   pub outputs_step : (table next : Table) (t : ℕ) → HasOutputs library paths table (suc t) → IsKeptIn table next
-      → ((i : ℕ) (path : Path) (k : ℕ) (pair : Pair) (a : ConnectionAt library path k pair) → IsTrue (is_output a.child pair.formal) → slice_get paths i ≡ Some path → slice_get paths t ≡ Some (k ∷ path) → next i pair.actual ≡ None → ⊥)
+      → ((i : ℕ) (path : Path) (k : ℕ) (pair : Connection) (a : ConnectionAt library path k pair) → IsTrue (is_output a.child pair.formal) → slice_get paths i ≡ Some path → slice_get paths t ≡ Some (k ∷ path) → next i pair.actual ≡ None → ⊥)
       → HasOutputs library paths next t
   outputs_step table next t outputs kept all = record {
     each = λ i j path k pair a out e f h n. elim (before_or_at t j (let g : t < suc j = omega arith in g)) [
@@ -233,9 +233,9 @@ module _ (library : LibraryValue) (at : Places) (paths : List Path) where
   next_on n middle next a b = record { nets = b.nets; sound = b.sound; kept = record { each = λ i name known. b.kept.each i name (a.kept.each i name known) }; slots = λ j other. b.slots j other ∙ a.slots j other }
 
   -- nets are copied from an instance to another one along pairs of a kind, in which the net of the one name is that of the other
-  module _ (test : List ℕ → Bool) (source target : Pair → List ℕ) (from to : ℕ) (there here : Path) (at_from : slice_get paths from ≡ Some there) (at_to : slice_get paths to ≡ Some here)
-      (Is : Pair → Type 0) (passes : (pair : Pair) (number : FlatNet) → Is pair → IsTrue (test pair.formal) → IsNetOf library at there (source pair) number → IsNetOf library at here (target pair) number) where
-    pair_next : (n : NetsValue) → IsNets n → IsSoundTable library at paths (table_of n) → (pair : Pair) → Is pair → IsNext library at paths n (pair_copied test source target from to n pair)
+  module _ (test : List ℕ → Bool) (source target : Connection → List ℕ) (from to : ℕ) (there here : Path) (at_from : slice_get paths from ≡ Some there) (at_to : slice_get paths to ≡ Some here)
+      (Is : Connection → Type 0) (passes : (pair : Connection) (number : FlatNet) → Is pair → IsTrue (test pair.formal) → IsNetOf library at there (source pair) number → IsNetOf library at here (target pair) number) where
+    pair_next : (n : NetsValue) → IsNets n → IsSoundTable library at paths (table_of n) → (pair : Connection) → Is pair → IsNext library at paths n (pair_copied test source target from to n pair)
     pair_next n is sound pair known =
         let copy : NetsValue = copied n to (target pair) (table_of n from (source pair)) in
         elim (cases_Bool (test pair.formal)) [
@@ -248,13 +248,13 @@ module _ (library : LibraryValue) (at : Places) (paths : List Path) where
           | inr f ↦ subst (IsNext library at paths n) (sym (cond-false (test pair.formal) copy n f)) (next_same n is sound)
         ]
 
-    pair_known : (n : NetsValue) → IsNets n → (pair : Pair) → IsTrue (test pair.formal) → (table_of n from (source pair) ≡ None → ⊥) → (slot_number n to (target pair) ≡ None → ⊥)
+    pair_known : (n : NetsValue) → IsNets n → (pair : Connection) → IsTrue (test pair.formal) → (table_of n from (source pair) ≡ None → ⊥) → (slot_number n to (target pair) ≡ None → ⊥)
         → table_of (pair_copied test source target from to n pair) to (target pair) ≡ None → ⊥
     pair_known n is pair t known slot =
         let copy : NetsValue = copied n to (target pair) (table_of n from (source pair)) in
         subst (λ (v : NetsValue). table_of v to (target pair) ≡ None → ⊥) (sym (cond-true (test pair.formal) copy n t)) (copied-known n is to (target pair) (table_of n from (source pair)) known slot)
 
-    pub pairs_next : (pairs : List Pair) (n : NetsValue) → IsNets n → IsSoundTable library at paths (table_of n) → ((pair : Pair) → In pairs pair → Is pair) → IsNext library at paths n (pairs_copied test source target from to n pairs)
+    pub pairs_next : (pairs : List Connection) (n : NetsValue) → IsNets n → IsSoundTable library at paths (table_of n) → ((pair : Connection) → In pairs pair → Is pair) → IsNext library at paths n (pairs_copied test source target from to n pairs)
     pairs_next [] n is sound all = next_same n is sound
     pairs_next (p ∷ pairs) n is sound all =
         let middle : NetsValue = pair_copied test source target from to n p in
@@ -262,15 +262,15 @@ module _ (library : LibraryValue) (at : Places) (paths : List Path) where
         next_on n middle (pairs_copied test source target from to n (p ∷ pairs)) one (pairs_next pairs middle one.nets one.sound (λ q i. all q (inr i)))
 
     -- the one name of a pair stands in the table where the other does and it has a slot
-    pub pairs_known : (pairs : List Pair) (n : NetsValue) → IsNets n → IsSoundTable library at paths (table_of n) → ((pair : Pair) → In pairs pair → Is pair)
-        → (pair : Pair) → In pairs pair → IsTrue (test pair.formal) → (table_of n from (source pair) ≡ None → ⊥) → (slot_number n to (target pair) ≡ None → ⊥)
+    pub pairs_known : (pairs : List Connection) (n : NetsValue) → IsNets n → IsSoundTable library at paths (table_of n) → ((pair : Connection) → In pairs pair → Is pair)
+        → (pair : Connection) → In pairs pair → IsTrue (test pair.formal) → (table_of n from (source pair) ≡ None → ⊥) → (slot_number n to (target pair) ≡ None → ⊥)
         → table_of (pairs_copied test source target from to n pairs) to (target pair) ≡ None → ⊥
     pairs_known [] n is sound all pair i t known slot = absurd i
     pairs_known (p ∷ pairs) n is sound all pair (inl e) t known slot =
         let middle : NetsValue = pair_copied test source target from to n p in
         let one : IsNext library at paths n middle = pair_next n is sound p (all p (inl refl)) in
         let rest : IsNext library at paths middle (pairs_copied test source target from to middle pairs) = pairs_next pairs middle one.nets one.sound (λ q j. all q (inr j)) in
-        rest.kept.each to (target pair) (subst (λ (q : Pair). table_of (pair_copied test source target from to n q) to (target pair) ≡ None → ⊥) e (pair_known n is pair t known slot))
+        rest.kept.each to (target pair) (subst (λ (q : Connection). table_of (pair_copied test source target from to n q) to (target pair) ≡ None → ⊥) e (pair_known n is pair t known slot))
     pairs_known (p ∷ pairs) n is sound all pair (inr i) t known slot =
         let middle : NetsValue = pair_copied test source target from to n p in
         let one : IsNext library at paths n middle = pair_next n is sound p (all p (inl refl)) in
@@ -278,11 +278,11 @@ module _ (library : LibraryValue) (at : Places) (paths : List Path) where
 
   -- the connections of a subcircuit pass nets on
   module _ (child : ModelValue) (path : Path) (k : ℕ) where
-    abbrev pub IsConnection : Pair → Type 0
+    abbrev pub IsConnection : Connection → Type 0
     IsConnection pair = (a : ConnectionAt library path k pair) × (a.child ≡ child)
 
-    pub passes_out : (pair : Pair) (number : FlatNet) → IsConnection pair → IsTrue (is_output child pair.formal) → IsNetOf library at (k ∷ path) pair.formal number → IsNetOf library at path pair.actual number
+    pub passes_out : (pair : Connection) (number : FlatNet) → IsConnection pair → IsTrue (is_output child pair.formal) → IsNetOf library at (k ∷ path) pair.formal number → IsNetOf library at path pair.actual number
     passes_out pair number c t o = outer_number library path k pair c.0 number (subst (λ m. IsTrue (is_output m pair.formal)) (sym c.1) t) o
 
-    pub passes_in : (pair : Pair) (number : FlatNet) → IsConnection pair → IsTrue (is_input child pair.formal) → IsNetOf library at path pair.actual number → IsNetOf library at (k ∷ path) pair.formal number
+    pub passes_in : (pair : Connection) (number : FlatNet) → IsConnection pair → IsTrue (is_input child pair.formal) → IsNetOf library at path pair.actual number → IsNetOf library at (k ∷ path) pair.formal number
     passes_in pair number c t o = inner_number library path k pair c.0 number (subst (λ m. IsTrue (is_input m pair.formal)) (sym c.1) t) o

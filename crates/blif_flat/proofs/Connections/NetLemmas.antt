@@ -1,5 +1,5 @@
 -- Each driven name has one net, where no name is driven twice and each connection has a driver.
-use Rattle.blif_flat.proofs.Common.{◌≡◌, ℕ, List, [], ◌∷◌, Option, Some, None, refl, sym, ap, ◌∙◌, subst, inl, inr, IsTrue, none-some, same_Some, zero, suc, ◌+◌, ◌<◌, ◌≤◌, Bool, true, ◌++◌, length, take, arith, slice_get, option_and_then, cases_Bool, cond-true, length-append, slice_get_within, apart_once, place_in, get_left, item_there, Pair, ModelValue, Path, model_at, is_input, is_output, ConnectionAt, input_net, main_input, from_inside, from_outside, Driver, by_input, IsDriver, input, latch, cover, output, input_actual, model_output, IsDriven, Body, Command, inputs_of, Place, own_places, Instance, FlatNet, itself, model_places, places_at, path_under, path_of, paths_of, IsRow, AreInstances, an_input, IsNetOf, net_places, IsNetFound, AreNetsAt, IsSoundTable, HasOwn, HasOutputs, HasInputs, kind_count, base_of, own_number, LibraryValue, get_right, Places, order_all, driver_of, Input as InputNumber}
+use Rattle.blif_flat.proofs.Common.{◌≡◌, ℕ, List, [], ◌∷◌, Option, Some, None, refl, sym, ap, ◌∙◌, subst, inl, inr, IsTrue, none-some, same_Some, zero, suc, ◌+◌, ◌<◌, ◌≤◌, Bool, true, ◌++◌, length, take, arith, slice_get, option_and_then, cases_Bool, cond-true, length-append, slice_get_within, apart_once, place_in, get_left, item_there, Connection, ModelValue, Path, model_at, is_input, is_output, ConnectionAt, input_net, main_input, from_inside, from_outside, Driver, by_input, IsDriver, input, latch, cover, output, input_actual, model_output, IsDriven, Body, Command, inputs_of, Place, own_places, Instance, FlatNet, itself, model_places, places_at, path_under, path_of, paths_of, IsRow, AreInstances, an_input, IsNetOf, net_places, IsNetFound, AreNetsAt, IsSoundTable, HasOwn, HasOutputs, HasInputs, kind_count, base_of, own_number, LibraryValue, get_right, Places, order_all, driver_of, Input as InputNumber}
 use Rattle.blif_flat.proofs.Hierarchy.InstanceRowLemmas.{paths_of-length}
 use Rattle.blif_flat.proofs.Hierarchy.OrderLemmas.{instances_apart}
 use Rattle.netlist.proofs.PlaceLemmas.{child_at, place_of}
@@ -58,11 +58,11 @@ module _ (library : LibraryValue) where
   input_number main paths j name at t e = record { net = input_net name; drives = main_input refl (record { model = main; at = at; is = t }) refl; numbered = an_input name j refl e refl }
 
   -- an output's actual has the number of the formal inside, and an input's formal that of the actual outside
-  pub outer_number : {at : Places} (path : Path) (k : ℕ) (pair : Pair) (a : ConnectionAt library path k pair) (number : FlatNet) → IsTrue (is_output a.child pair.formal)
+  pub outer_number : {at : Places} (path : Path) (k : ℕ) (pair : Connection) (a : ConnectionAt library path k pair) (number : FlatNet) → IsTrue (is_output a.child pair.formal)
       → IsNetOf library at (k ∷ path) pair.formal number → IsNetOf library at path pair.actual number
   outer_number path k pair a number t o = record { net = o.net; drives = from_inside k pair a t refl o.drives; numbered = o.numbered }
 
-  pub inner_number : {at : Places} (path : Path) (k : ℕ) (pair : Pair) (a : ConnectionAt library path k pair) (number : FlatNet) → IsTrue (is_input a.child pair.formal)
+  pub inner_number : {at : Places} (path : Path) (k : ℕ) (pair : Connection) (a : ConnectionAt library path k pair) (number : FlatNet) → IsTrue (is_input a.child pair.formal)
       → IsNetOf library at path pair.actual number → IsNetOf library at (k ∷ path) pair.formal number
   inner_number path k pair a number t o = record { net = o.net; drives = from_outside k path pair a t refl refl o.drives; numbered = o.numbered }
 
@@ -115,7 +115,7 @@ module _ (library : LibraryValue) (instances : List Instance) (are : AreInstance
         outputs.each i child.0 path k pair a out e child.1 (omega (arith, parent_earlier i child.0 k path e child.1)) (ap (table i) (sym p) ∙ n)
 
     -- backwards: the formal of an output stands in the table of the child, where the instances behind it have theirs
-    pub formal_known : (t : ℕ) → HasOutputs library (paths_of instances) table t → (j : ℕ) (path : Path) (k : ℕ) (pair : Pair) (a : ConnectionAt library path k pair) → IsTrue (is_output a.child pair.formal)
+    pub formal_known : (t : ℕ) → HasOutputs library (paths_of instances) table t → (j : ℕ) (path : Path) (k : ℕ) (pair : Connection) (a : ConnectionAt library path k pair) → IsTrue (is_output a.child pair.formal)
         → slice_get (paths_of instances) j ≡ Some (k ∷ path) → t ≤ suc j → table j pair.formal ≡ None → ⊥
     formal_known t outputs j path k pair a out e from =
         let d = driven.driven (k ∷ path) pair.formal (model_output a.child (child_at library path k pair a) out) in
@@ -127,7 +127,7 @@ module _ (library : LibraryValue) (instances : List Instance) (are : AreInstance
       any_known t inputs i path name driver h e d = driver_known 0 outputs i path name driver e (omega arith) d (λ q m at is. inputs.each i path m name h e at is)
 
       -- forwards: the actual of an input stands in the table of the parent, whose inputs are known
-      pub actual_known : (t : ℕ) → HasInputs library (paths_of instances) table t → (i : ℕ) (path : Path) (k : ℕ) (pair : Pair) (a : ConnectionAt library path k pair) → IsTrue (is_input a.child pair.formal)
+      pub actual_known : (t : ℕ) → HasInputs library (paths_of instances) table t → (i : ℕ) (path : Path) (k : ℕ) (pair : Connection) (a : ConnectionAt library path k pair) → IsTrue (is_input a.child pair.formal)
           → slice_get (paths_of instances) i ≡ Some path → i < t → table i pair.actual ≡ None → ⊥
       actual_known t inputs i path k pair a is e h =
           let d = driven.driven path pair.actual (input_actual k pair a is refl) in any_known t inputs i path pair.actual d.0 h e d.1

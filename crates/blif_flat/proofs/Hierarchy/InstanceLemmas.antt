@@ -1,5 +1,5 @@
 -- The drivers and the reads of an instance are those of its model's commands, and its ports.
-use Rattle.blif_flat.proofs.Common.{◌≡◌, ℕ, true, not, List, [], ◌∷◌, Option, Some, None, refl, sym, ap, ap₂, ◌∙◌, subst, inl, inr, ◌⊎◌, slice_get, cases_Bool, and_from, and_parts, not_from_false, none-some, same_Some, In, In-left, In-right, In-append, In-get, In-map, from_map, map, filter, in_filter, In-filter, place_in, Body, Cover, Latch, Subckt, Command, Pair, ModelValue, Path, body_at, with_subckt, subckts_of, model_named, model_at, has_name, is_input, is_output, inputs_of, LatchAt, Driver, by_input, IsDriver, input, latch, cover, output, IsRead, cover_input, latch_input, latch_control, input_actual, model_output, input_actuals, read_pairs, control_names, reads, all_drives, driven_names, SubcktValue, LibraryValue, command_of, body_of, has_in, in_has, input_in, in_input}
+use Rattle.blif_flat.proofs.Common.{◌≡◌, ℕ, true, not, List, [], ◌∷◌, Option, Some, None, refl, sym, ap, ap₂, ◌∙◌, subst, inl, inr, ◌⊎◌, slice_get, cases_Bool, and_from, and_parts, not_from_false, none-some, same_Some, In, In-left, In-right, In-append, In-get, In-map, from_map, map, filter, in_filter, In-filter, place_in, Body, Cover, Latch, Subckt, Command, Connection, ModelValue, Path, body_at, with_subckt, subckts_of, model_named, model_at, has_name, is_input, is_output, inputs_of, LatchAt, Driver, by_input, IsDriver, input, latch, cover, output, IsRead, cover_input, latch_input, latch_control, input_actual, model_output, input_actuals, read_pairs, control_names, reads, all_drives, driven_names, SubcktValue, LibraryValue, command_of, body_of, has_in, in_has, input_in, in_input}
 use Rattle.blif_flat.proofs.Models.TagLemmas.{Tag, tag, tags, tag_names, Source, from_cover, from_latch, from_subckt, tag_in, tag_source, AreNew, new_apart, new_once, IsClean}
 
 -- the command of a subcircuit
@@ -27,27 +27,27 @@ subckt_in (c ∷ cs) d s (inl q) e = subst (λ b. In (with_subckt b (subckts_of 
 subckt_in (c ∷ cs) d s (inr i) e = subckt_more c.body (subckts_of cs) s (subckt_in cs d s i e)
 
 -- the actuals of input connections
-actuals_kept : (child : ModelValue) (pairs : List Pair) → input_actuals child pairs ≡ map (λ (p : Pair). p.actual) (filter (λ (p : Pair). is_input child p.formal) pairs)
+actuals_kept : (child : ModelValue) (pairs : List Connection) → input_actuals child pairs ≡ map (λ (p : Connection). p.actual) (filter (λ (p : Connection). is_input child p.formal) pairs)
 actuals_kept child [] = refl
 actuals_kept child (p ∷ pairs) = elim (cases_Bool (is_input child p.formal)) [
   | inl t ↦ rw t (ap (λ ns. p.actual ∷ ns) (actuals_kept child pairs))
   | inr f ↦ rw f (actuals_kept child pairs)
 ]
 
-actual_in : (child : ModelValue) (pairs : List Pair) (pair : Pair) → In pairs pair → is_input child pair.formal ≡ true → In (input_actuals child pairs) pair.actual
+actual_in : (child : ModelValue) (pairs : List Connection) (pair : Connection) → In pairs pair → is_input child pair.formal ≡ true → In (input_actuals child pairs) pair.actual
 actual_in child pairs pair i t = subst (λ ns. In ns pair.actual) (sym (actuals_kept child pairs))
-    (In-map (λ (p : Pair). p.actual) (filter (λ (p : Pair). is_input child p.formal) pairs) pair (in_filter (λ (p : Pair). is_input child p.formal) pairs pair i t))
+    (In-map (λ (p : Connection). p.actual) (filter (λ (p : Connection). is_input child p.formal) pairs) pair (in_filter (λ (p : Connection). is_input child p.formal) pairs pair i t))
 
-record ActualOf (child : ModelValue) (pairs : List Pair) (name : List ℕ) : Type 0 where
-  pair : Pair
+record ActualOf (child : ModelValue) (pairs : List Connection) (name : List ℕ) : Type 0 where
+  pair : Connection
   member : In pairs pair
   on : is_input child pair.formal ≡ true
   is : name ≡ pair.actual
 
-actual_of : (child : ModelValue) (pairs : List Pair) (name : List ℕ) → In (input_actuals child pairs) name → ActualOf child pairs name
+actual_of : (child : ModelValue) (pairs : List Connection) (name : List ℕ) → In (input_actuals child pairs) name → ActualOf child pairs name
 actual_of child pairs name i =
-    let r = from_map (λ (p : Pair). p.actual) (filter (λ (p : Pair). is_input child p.formal) pairs) name (subst (λ ns. In ns name) (actuals_kept child pairs) i) in
-    let m = In-filter (λ (p : Pair). is_input child p.formal) pairs r.0 r.1 in
+    let r = from_map (λ (p : Connection). p.actual) (filter (λ (p : Connection). is_input child p.formal) pairs) name (subst (λ ns. In ns name) (actuals_kept child pairs) i) in
+    let m = In-filter (λ (p : Connection). is_input child p.formal) pairs r.0 r.1 in
     record { pair = r.0; member = m.0; on = m.1; is = r.2 }
 
 control_in : (o : Option (List ℕ)) (name : List ℕ) → o ≡ Some name → In (control_names o) name

@@ -1,5 +1,5 @@
 -- Steps of a search for faults of drivers, and the search as far as it has come.
-use Rattle.blif_flat.proofs.Common.{◌≡◌, ℕ, suc, ◌+◌, ◌<◌, List, [], ◌∷◌, ◌++◌, length, get_or, drop, Option, Some, None, refl, sym, ap, ◌∙◌, subst, inl, inr, arith, choose, map, filter, append_assoc, drop-cons, slice_get, cases_Bool, drop_at, OrMemory-map, none-some, same_Some, In, In-append, In-get, In-map, Pair, ModelValue, has_name, is_input, is_output, FlatErr, refusal_of, IsTold, or_later, output_actuals, input_actuals, twice_in, undriven_in, models_fault, fault_of, with_numbered, models_at, Command, Body, Cover, Latch, Subckt, Path, model_at, inputs_of, subckts_of, model_named, by_input, IsDriver, input, IsDriven, Driver, by_latch, by_cover, by_subckt, InstanceAt, latch, cover, output, IsRead, cover_input, latch_input, latch_control, input_actual, model_output, IsWellFormed, walked, WalksMain, unknown_formal, open_input, AreOnce, formals, LibraryValue, SubcktValue, inside, in_input, input_in, append-nil}
+use Rattle.blif_flat.proofs.Common.{◌≡◌, ℕ, suc, ◌+◌, ◌<◌, List, [], ◌∷◌, ◌++◌, length, get_or, drop, Option, Some, None, refl, sym, ap, ◌∙◌, subst, inl, inr, arith, choose, map, filter, append_assoc, drop-cons, slice_get, cases_Bool, drop_at, OrMemory-map, none-some, same_Some, In, In-append, In-get, In-map, Connection, ModelValue, has_name, is_input, is_output, FlatErr, refusal_of, IsTold, or_later, output_actuals, input_actuals, twice_in, undriven_in, models_fault, fault_of, with_numbered, models_at, Command, Body, Cover, Latch, Subckt, Path, model_at, inputs_of, subckts_of, model_named, by_input, IsDriver, input, IsDriven, Driver, by_latch, by_cover, by_subckt, InstanceAt, latch, cover, output, IsRead, cover_input, latch_input, latch_control, input_actual, model_output, IsWellFormed, walked, WalksMain, unknown_formal, open_input, AreOnce, formals, LibraryValue, SubcktValue, inside, in_input, input_in, append-nil}
 use Rattle.netlist.specs.WellFormed.{IsWellFormedBody}
 use Rattle.blif_flat.proofs.Hierarchy.InstanceLemmas.{own_tags, tag_driver, driver_name, command_reads, output_driven, subckt_in, subckt_more, subckt_command, clean_once, clean_driven}
 use Rattle.blif_flat.proofs.Models.LineLemmas.{IsPlaced, formal_is, input_connected}
@@ -26,27 +26,27 @@ undriven-append model line driven (x ∷ a) b = elim (cases_Bool (has_name drive
   | inr f ↦ rw f refl
 ]
 
-pub output_actuals-cons : (child : ModelValue) (pair : Pair) (pairs : List Pair) → output_actuals child (pair ∷ pairs) ≡ output_actuals child (pair ∷ []) ++ output_actuals child pairs
+pub output_actuals-cons : (child : ModelValue) (pair : Connection) (pairs : List Connection) → output_actuals child (pair ∷ pairs) ≡ output_actuals child (pair ∷ []) ++ output_actuals child pairs
 output_actuals-cons child pair pairs = elim (cases_Bool (is_output child pair.formal)) [ inl t ↦ rw t refl | inr f ↦ rw f refl ]
 
-pub input_actuals-cons : (child : ModelValue) (pair : Pair) (pairs : List Pair) → input_actuals child (pair ∷ pairs) ≡ input_actuals child (pair ∷ []) ++ input_actuals child pairs
+pub input_actuals-cons : (child : ModelValue) (pair : Connection) (pairs : List Connection) → input_actuals child (pair ∷ pairs) ≡ input_actuals child (pair ∷ []) ++ input_actuals child pairs
 input_actuals-cons child pair pairs = elim (cases_Bool (is_input child pair.formal)) [ inl t ↦ rw t refl | inr f ↦ rw f refl ]
 
 -- the first connection of the rest, and those behind it
-pub read_split : (child : ModelValue) (model : List ℕ) (line : ℕ) (driven : List (List ℕ)) (pairs : List Pair) (i : ℕ) (pair : Pair) → i < length pairs → pair ≡ get_or pairs i pair
+pub read_split : (child : ModelValue) (model : List ℕ) (line : ℕ) (driven : List (List ℕ)) (pairs : List Connection) (i : ℕ) (pair : Connection) → i < length pairs → pair ≡ get_or pairs i pair
     → undriven_in model line driven (input_actuals child (drop i pairs)) ≡ or_later (undriven_in model line driven (input_actuals child (pair ∷ []))) (undriven_in model line driven (input_actuals child (drop (i + 1) pairs)))
 read_split child model line driven pairs i pair h e = ap (λ ps. undriven_in model line driven (input_actuals child ps)) (drop_at pairs i pair h e)
     ∙ ap (undriven_in model line driven) (input_actuals-cons child pair (drop (i + 1) pairs))
     ∙ undriven-append model line driven (input_actuals child (pair ∷ [])) (input_actuals child (drop (i + 1) pairs))
 
-pub drive_split : (child : ModelValue) (model : List ℕ) (line : ℕ) (driven : List (List ℕ)) (pairs : List Pair) (i : ℕ) (pair : Pair) → i < length pairs → pair ≡ get_or pairs i pair
+pub drive_split : (child : ModelValue) (model : List ℕ) (line : ℕ) (driven : List (List ℕ)) (pairs : List Connection) (i : ℕ) (pair : Connection) → i < length pairs → pair ≡ get_or pairs i pair
     → twice_in model line driven (output_actuals child (drop i pairs))
     ≡ or_later (twice_in model line driven (output_actuals child (pair ∷ []))) (twice_in model line (driven ++ output_actuals child (pair ∷ [])) (output_actuals child (drop (i + 1) pairs)))
 drive_split child model line driven pairs i pair h e = ap (λ ps. twice_in model line driven (output_actuals child ps)) (drop_at pairs i pair h e)
     ∙ ap (twice_in model line driven) (output_actuals-cons child pair (drop (i + 1) pairs))
     ∙ twice-append model line driven (output_actuals child (pair ∷ [])) (output_actuals child (drop (i + 1) pairs))
 
-pub names_split : (child : ModelValue) (driven : List (List ℕ)) (pairs : List Pair) (i : ℕ) (pair : Pair) → i < length pairs → pair ≡ get_or pairs i pair
+pub names_split : (child : ModelValue) (driven : List (List ℕ)) (pairs : List Connection) (i : ℕ) (pair : Connection) → i < length pairs → pair ≡ get_or pairs i pair
     → driven ++ output_actuals child (drop i pairs) ≡ (driven ++ output_actuals child (pair ∷ [])) ++ output_actuals child (drop (i + 1) pairs)
 names_split child driven pairs i pair h e = ap (λ ps. driven ++ output_actuals child ps) (drop_at pairs i pair h e)
     ∙ ap (λ ns. driven ++ ns) (output_actuals-cons child pair (drop (i + 1) pairs))
@@ -75,13 +75,13 @@ models_split library numbers i h =
 -- None of F1 to F6 stands where the walk refuses nothing and the walked models have no refusal of drivers; and the drivers of their commands are told apart.
 
 -- formals that stand once each tell connections apart
-pairs_apart : (pairs : List Pair) (pair other : Pair) → AreOnce (formals pairs) → In pairs pair → In pairs other → pair.formal ≡ other.formal → pair ≡ other
+pairs_apart : (pairs : List Connection) (pair other : Connection) → AreOnce (formals pairs) → In pairs pair → In pairs other → pair.formal ≡ other.formal → pair ≡ other
 pairs_apart [] pair other once i j e = absurd i
 pairs_apart (p ∷ pairs) pair other once (inl a) (inl b) e = a ∙ sym b
 pairs_apart (p ∷ pairs) pair other once (inl a) (inr j) e =
-    absurd (once.0 (subst (In (formals pairs)) (sym e ∙ ap (λ (y : Pair). y.formal) a) (In-map (λ (y : Pair). y.formal) pairs other j)))
+    absurd (once.0 (subst (In (formals pairs)) (sym e ∙ ap (λ (y : Connection). y.formal) a) (In-map (λ (y : Connection). y.formal) pairs other j)))
 pairs_apart (p ∷ pairs) pair other once (inr i) (inl b) e =
-    absurd (once.0 (subst (In (formals pairs)) (e ∙ ap (λ (y : Pair). y.formal) b) (In-map (λ (y : Pair). y.formal) pairs pair i)))
+    absurd (once.0 (subst (In (formals pairs)) (e ∙ ap (λ (y : Connection). y.formal) b) (In-map (λ (y : Connection). y.formal) pairs pair i)))
 pairs_apart (p ∷ pairs) pair other once (inr i) (inr j) e = pairs_apart pairs pair other once.1 i j e
 
 -- the instance of a driver, and that of a read
@@ -164,19 +164,19 @@ abbrev pub IsInjective : (ℕ → ℕ) → Type 0
 IsInjective f = (i j : ℕ) → f i ≡ f j → i ≡ j
 
 module _ (library : LibraryValue) where
-  pairs_distinct : (k : ℕ) (child : ModelValue) (pairs : List Pair) → AreOnce (formals pairs) → AreDistinct (pair_tags k child pairs)
+  pairs_distinct : (k : ℕ) (child : ModelValue) (pairs : List Connection) → AreOnce (formals pairs) → AreDistinct (pair_tags k child pairs)
   pairs_distinct k child [] once = tt
   pairs_distinct k child (p ∷ pairs) once =
-      choose (λ ps. AreDistinct (map (λ (q : Pair). tag (by_subckt k q.formal) q.actual) ps)) (is_output child p.formal)
-      (p ∷ filter (λ (q : Pair). is_output child q.formal) pairs) (filter (λ (q : Pair). is_output child q.formal) pairs) (λ y. (
+      choose (λ ps. AreDistinct (map (λ (q : Connection). tag (by_subckt k q.formal) q.actual) ps)) (is_output child p.formal)
+      (p ∷ filter (λ (q : Connection). is_output child q.formal) pairs) (filter (λ (q : Connection). is_output child q.formal) pairs) (λ y. (
         λ u i e. (let r = of_pair library k child pairs u i in
             let d : ◌≡◌ {A = Driver} (by_subckt k p.formal) (by_subckt k (r.pair).formal) = e ∙ ap (λ (x : Tag). x.driver) r.is in
             let f : p.formal ≡ (r.pair).formal = cc in
-            once.0 (subst (In (formals pairs)) (sym f) (In-map (λ (x : Pair). x.formal) pairs r.pair r.member))),
+            once.0 (subst (In (formals pairs)) (sym f) (In-map (λ (x : Connection). x.formal) pairs r.pair r.member))),
         pairs_distinct k child pairs once.1,
       )) (λ f. pairs_distinct k child pairs once.1)
 
-  subckt_distinct : (k : ℕ) (o : Option ModelValue) (pairs : List Pair) → AreOnce (formals pairs) → AreDistinct (subckt_tags k o pairs)
+  subckt_distinct : (k : ℕ) (o : Option ModelValue) (pairs : List Connection) → AreOnce (formals pairs) → AreDistinct (subckt_tags k o pairs)
   subckt_distinct k None pairs once = tt
   subckt_distinct k (Some child) pairs once = pairs_distinct k child pairs once
 
@@ -201,7 +201,7 @@ module _ (library : LibraryValue) where
     apart_subckt single formal t u d (from_latch i l e q) f = cc
     apart_subckt single formal t u d (from_subckt k s child pair e m i out q) f = let n : ordinal 0 ≡ ordinal (suc k) = cc in let z = single 0 (suc k) n in absurd (omega arith)
 
-    apart_pairs : IsInjective ordinal → (o : Option ModelValue) (pairs : List Pair) (t u : Tag) → In (subckt_tags (ordinal 0) o pairs) t → Source library (λ i. place (suc i)) (λ k. ordinal (suc k)) cs u → t.driver ≡ u.driver → ⊥
+    apart_pairs : IsInjective ordinal → (o : Option ModelValue) (pairs : List Connection) (t u : Tag) → In (subckt_tags (ordinal 0) o pairs) t → Source library (λ i. place (suc i)) (λ k. ordinal (suc k)) cs u → t.driver ≡ u.driver → ⊥
     apart_pairs single None pairs t u i s e = i
     apart_pairs single (Some child) pairs t u i s e =
         let r = of_pair library (ordinal 0) child pairs t i in apart_subckt single (r.pair).formal t u (ap (λ (x : Tag). x.driver) r.is) s e

@@ -1,15 +1,15 @@
 -- What the refusals of a `.subckt` line say: F1 to F4 of it don't stand, or one does.
-use Rattle.blif_flat.proofs.Common.{from_map, In-map, has_in, in_has, ◌≡◌, ℕ, true, false, ◌||◌, List, [], ◌∷◌, Option, Some, None, refl, sym, ap, ◌∙◌, subst, inl, inr, ◌⊎◌, bytes_eq, IsTrue, not, both_ways, cases_Bool, or_cases, and_from, not_from_false, false≢true, bytes_decides, In, none_else, none_both, Bool, cond, ◌++◌, filter, option_map, none-some, OrMemory-map, Pair, ModelValue, model_named, has_name, is_input, is_output, inputs_of, SubcktLine, unknown_formal, is_connected, open_input, input_fault, formal_fault, placed_fault, line_fault, formals, Ports, FlatErr, UnknownFormal, Unconnected, IsTold, with_names, ports_value, or_later, refusal_of, foreign_formal, open_among, ports_fault, LibraryValue, SubcktValue, has_with_names}
+use Rattle.blif_flat.proofs.Common.{from_map, In-map, has_in, in_has, ◌≡◌, ℕ, true, false, ◌||◌, List, [], ◌∷◌, Option, Some, None, refl, sym, ap, ◌∙◌, subst, inl, inr, ◌⊎◌, bytes_eq, IsTrue, not, both_ways, cases_Bool, or_cases, and_from, not_from_false, false≢true, bytes_decides, In, none_else, none_both, Bool, cond, ◌++◌, filter, option_map, none-some, OrMemory-map, Connection, ModelValue, model_named, has_name, is_input, is_output, inputs_of, SubcktLine, unknown_formal, is_connected, open_input, input_fault, formal_fault, placed_fault, line_fault, formals, Ports, FlatErr, UnknownFormal, Unconnected, IsTold, with_names, ports_value, or_later, refusal_of, foreign_formal, open_among, ports_fault, LibraryValue, SubcktValue, has_with_names}
 use Rattle.blif_flat.proofs.Models.NameSetLemmas.{has_inputs}
 
 -- each formal of a connection is an input or an output
-pub formal_is_known : (child : ModelValue) (pairs : List Pair) → unknown_formal child pairs ≡ None → (pair : Pair) → In pairs pair → (is_input child pair.formal || has_name child.outputs pair.formal) ≡ true
+pub formal_is_known : (child : ModelValue) (pairs : List Connection) → unknown_formal child pairs ≡ None → (pair : Connection) → In pairs pair → (is_input child pair.formal || has_name child.outputs pair.formal) ≡ true
 formal_is_known child [] e pair i = absurd i
-formal_is_known child (p ∷ pairs) e pair (inl q) = subst (λ (y : Pair). (is_input child y.formal || has_name child.outputs y.formal) ≡ true) (sym q)
+formal_is_known child (p ∷ pairs) e pair (inl q) = subst (λ (y : Connection). (is_input child y.formal || has_name child.outputs y.formal) ≡ true) (sym q)
     (none_else (is_input child p.formal || has_name child.outputs p.formal) p.formal (unknown_formal child pairs) e).0
 formal_is_known child (p ∷ pairs) e pair (inr i) = formal_is_known child pairs (none_else (is_input child p.formal || has_name child.outputs p.formal) p.formal (unknown_formal child pairs) e).1 pair i
 
-pub formal_is : (child : ModelValue) (pairs : List Pair) → unknown_formal child pairs ≡ None → (pair : Pair) → In pairs pair → IsTrue (is_input child pair.formal) ⊎ IsTrue (is_output child pair.formal)
+pub formal_is : (child : ModelValue) (pairs : List Connection) → unknown_formal child pairs ≡ None → (pair : Connection) → In pairs pair → IsTrue (is_input child pair.formal) ⊎ IsTrue (is_output child pair.formal)
 formal_is child pairs e pair i = elim (cases_Bool (is_input child pair.formal)) [
   | inl t ↦ inl t
   | inr f ↦ inr (and_from (not (is_input child pair.formal)) (has_name child.outputs pair.formal) (not_from_false (is_input child pair.formal) f)
@@ -17,35 +17,35 @@ formal_is child pairs e pair i = elim (cases_Bool (is_input child pair.formal)) 
 ]
 
 -- each input is connected
-pub record Connected (pairs : List Pair) (name : List ℕ) : Type 0 where
-  pub pair : Pair
+pub record Connected (pairs : List Connection) (name : List ℕ) : Type 0 where
+  pub pair : Connection
   pub member : In pairs pair
   pub formal : name ≡ pair.formal
 
-connected_is : (pairs : List Pair) (name : List ℕ) → has_name (formals pairs) name ≡ is_connected pairs name
+connected_is : (pairs : List Connection) (name : List ℕ) → has_name (formals pairs) name ≡ is_connected pairs name
 connected_is [] name = refl
 connected_is (pair ∷ pairs) name = ap (λ b. bytes_eq name pair.formal || b) (connected_is pairs name)
 
-connected_in : (pairs : List Pair) (name : List ℕ) → is_connected pairs name ≡ true → Connected pairs name
+connected_in : (pairs : List Connection) (name : List ℕ) → is_connected pairs name ≡ true → Connected pairs name
 connected_in pairs name t =
-    let r = from_map (λ (p : Pair). p.formal) pairs name (has_in (formals pairs) name (connected_is pairs name ∙ t)) in
+    let r = from_map (λ (p : Connection). p.formal) pairs name (has_in (formals pairs) name (connected_is pairs name ∙ t)) in
     record { pair = r.0; member = r.1; formal = r.2 }
 
-in_connected : (pairs : List Pair) (name : List ℕ) (pair : Pair) → In pairs pair → name ≡ pair.formal → is_connected pairs name ≡ true
+in_connected : (pairs : List Connection) (name : List ℕ) (pair : Connection) → In pairs pair → name ≡ pair.formal → is_connected pairs name ≡ true
 in_connected pairs name pair i e =
-    sym (connected_is pairs name) ∙ in_has (formals pairs) name (subst (In (formals pairs)) (sym e) (In-map (λ (p : Pair). p.formal) pairs pair i))
+    sym (connected_is pairs name) ∙ in_has (formals pairs) name (subst (In (formals pairs)) (sym e) (In-map (λ (p : Connection). p.formal) pairs pair i))
 
-pub input_connected : (pairs : List Pair) (names : List (List ℕ)) → open_input pairs names ≡ None → (name : List ℕ) → In names name → Connected pairs name
+pub input_connected : (pairs : List Connection) (names : List (List ℕ)) → open_input pairs names ≡ None → (name : List ℕ) → In names name → Connected pairs name
 input_connected pairs [] e name i = absurd i
 input_connected pairs (n ∷ names) e name (inl q) = subst (Connected pairs) (sym q) (connected_in pairs n (none_else (is_connected pairs n) n (open_input pairs names) e).0)
 input_connected pairs (n ∷ names) e name (inr i) = input_connected pairs names (none_else (is_connected pairs n) n (open_input pairs names) e).1 name i
 
 -- and so no refusal stands
-pub no_unknown_formal : (child : ModelValue) (pairs : List Pair) → ((pair : Pair) → In pairs pair → (is_input child pair.formal || has_name child.outputs pair.formal) ≡ true) → unknown_formal child pairs ≡ None
+pub no_unknown_formal : (child : ModelValue) (pairs : List Connection) → ((pair : Connection) → In pairs pair → (is_input child pair.formal || has_name child.outputs pair.formal) ≡ true) → unknown_formal child pairs ≡ None
 no_unknown_formal child [] h = refl
 no_unknown_formal child (p ∷ pairs) h = rw (h p (inl refl)) (no_unknown_formal child pairs (λ pair i. h pair (inr i)))
 
-pub no_open_input : (pairs : List Pair) (names : List (List ℕ)) → ((name : List ℕ) → In names name → Connected pairs name) → open_input pairs names ≡ None
+pub no_open_input : (pairs : List Connection) (names : List (List ℕ)) → ((name : List ℕ) → In names name → Connected pairs name) → open_input pairs names ≡ None
 no_open_input pairs [] h = refl
 no_open_input pairs (n ∷ names) h =
     let c = h n (inl refl) in
@@ -86,13 +86,13 @@ pub no_line_fault : (library : LibraryValue) (chain : List (List ℕ)) (m : Mode
 no_line_fault library chain m l f = rw (f.placed.named, f.off, f.placed.formals, f.placed.inputs) refl
 
 -- The faults of a line, found in the order of the definition.
-pub foreign_is : (child : ModelValue) (pairs : List Pair) → foreign_formal (ports_value child) pairs ≡ unknown_formal child pairs
+pub foreign_is : (child : ModelValue) (pairs : List Connection) → foreign_formal (ports_value child) pairs ≡ unknown_formal child pairs
 foreign_is child [] = refl
 foreign_is child (pair ∷ pairs) =
     ap (λ b. cond (b || has_name child.outputs pair.formal) (foreign_formal (ports_value child) pairs) (Some pair.formal)) (has_inputs child pair.formal)
     ∙ ap (λ o. cond (is_input child pair.formal || has_name child.outputs pair.formal) o (Some pair.formal)) (foreign_is child pairs)
 
-open_is : (pairs : List Pair) (names : List (List ℕ)) → open_among (with_names [] (formals pairs)) names ≡ open_input pairs names
+open_is : (pairs : List Connection) (names : List (List ℕ)) → open_among (with_names [] (formals pairs)) names ≡ open_input pairs names
 open_is pairs [] = refl
 open_is pairs (name ∷ names) =
     ap (λ b. cond b (open_among (with_names [] (formals pairs)) names) (Some name)) (has_with_names [] (formals pairs) name ∙ connected_is pairs name)
@@ -103,12 +103,12 @@ or_cond : (b : Bool) (x y : Option (List ℕ)) (name : List ℕ) → cond b (or_
 or_cond true x y name = refl
 or_cond false x y name = refl
 
-open_both : (pairs : List Pair) (xs ys : List (List ℕ)) → open_input pairs (xs ++ ys) ≡ or_later (open_input pairs xs) (open_input pairs ys)
+open_both : (pairs : List Connection) (xs ys : List (List ℕ)) → open_input pairs (xs ++ ys) ≡ or_later (open_input pairs xs) (open_input pairs ys)
 open_both pairs [] ys = refl
 open_both pairs (x ∷ xs) ys = ap (λ o. cond (is_connected pairs x) o (Some x)) (open_both pairs xs ys) ∙ or_cond (is_connected pairs x) (open_input pairs xs) (open_input pairs ys) x
 
 -- a name of a list in which nothing is open is connected
-none_open : (pairs : List Pair) (xs : List (List ℕ)) (name : List ℕ) → open_input pairs xs ≡ None → has_name xs name ≡ true → is_connected pairs name ≡ true
+none_open : (pairs : List Connection) (xs : List (List ℕ)) (name : List ℕ) → open_input pairs xs ≡ None → has_name xs name ≡ true → is_connected pairs name ≡ true
 none_open pairs [] name h a = absurd (false≢true a)
 none_open pairs (x ∷ xs) name h a =
     let p = none_else (is_connected pairs x) x (open_input pairs xs) h in
@@ -118,7 +118,7 @@ none_open pairs (x ∷ xs) name h a =
     ]
 
 -- the clocks that aren't among the inputs
-open_filtered : (pairs : List Pair) (xs ys : List (List ℕ)) → open_input pairs xs ≡ None → open_input pairs (filter (λ y. not (has_name xs y)) ys) ≡ open_input pairs ys
+open_filtered : (pairs : List Connection) (xs ys : List (List ℕ)) → open_input pairs xs ≡ None → open_input pairs (filter (λ y. not (has_name xs y)) ys) ≡ open_input pairs ys
 open_filtered pairs xs [] h = refl
 open_filtered pairs xs (y ∷ ys) h = elim (cases_Bool (has_name xs y)) [
   | inl t ↦ rw (t, none_open pairs xs y h t) (open_filtered pairs xs ys h)
@@ -126,10 +126,10 @@ open_filtered pairs xs (y ∷ ys) h = elim (cases_Bool (has_name xs y)) [
 ]
 
 -- the first open input of a child: of its `.inputs`, else of its `.clock`
-pub open_first : (child : ModelValue) (pairs : List Pair) (name : List ℕ) → open_input pairs child.inputs ≡ Some name → open_input pairs (inputs_of child) ≡ Some name
+pub open_first : (child : ModelValue) (pairs : List Connection) (name : List ℕ) → open_input pairs child.inputs ≡ Some name → open_input pairs (inputs_of child) ≡ Some name
 open_first child pairs name h = open_both pairs child.inputs (filter (λ y. not (has_name child.inputs y)) child.clocks) ∙ ap (λ o. or_later o (open_input pairs (filter (λ y. not (has_name child.inputs y)) child.clocks))) h
 
-pub open_second : (child : ModelValue) (pairs : List Pair) → open_input pairs child.inputs ≡ None → open_input pairs (inputs_of child) ≡ open_input pairs child.clocks
+pub open_second : (child : ModelValue) (pairs : List Connection) → open_input pairs child.inputs ≡ None → open_input pairs (inputs_of child) ≡ open_input pairs child.clocks
 open_second child pairs h =
     open_both pairs child.inputs (filter (λ y. not (has_name child.inputs y)) child.clocks) ∙ ap (λ o. or_later o (open_input pairs (filter (λ y. not (has_name child.inputs y)) child.clocks))) h
     ∙ open_filtered pairs child.inputs child.clocks h
@@ -148,25 +148,25 @@ input_faults m line e (Some name) h = h
 input_faults m line e None h = h
 
 -- what the check of a line has read
-pub record IsRead (m : ModelValue) (s : SubcktValue) (child : ModelValue) (ports : Ports) (name : List ℕ) (pairs : List Pair) : Type 0 where
+pub record IsRead (m : ModelValue) (s : SubcktValue) (child : ModelValue) (ports : Ports) (name : List ℕ) (pairs : List Connection) : Type 0 where
   pub ports_are : ports ≡ ports_value child
   pub name_is : name ≡ m.name
   pub pairs_are : pairs ≡ s.pairs
 
-foreign_read : (m : ModelValue) (s : SubcktValue) (child : ModelValue) (ports : Ports) (name : List ℕ) (pairs : List Pair) → IsRead m s child ports name pairs → foreign_formal ports pairs ≡ unknown_formal child s.pairs
+foreign_read : (m : ModelValue) (s : SubcktValue) (child : ModelValue) (ports : Ports) (name : List ℕ) (pairs : List Connection) → IsRead m s child ports name pairs → foreign_formal ports pairs ≡ unknown_formal child s.pairs
 foreign_read m s child ports name pairs r = ap (λ p. foreign_formal p pairs) r.ports_are ∙ ap (foreign_formal (ports_value child)) r.pairs_are ∙ foreign_is child s.pairs
 
-pub formals_err : (m : ModelValue) (line : ℕ) (s : SubcktValue) (child : ModelValue) (ports : Ports) (name : List ℕ) (pairs : List Pair) (e : FlatErr) → IsRead m s child ports name pairs
+pub formals_err : (m : ModelValue) (line : ℕ) (s : SubcktValue) (child : ModelValue) (ports : Ports) (name : List ℕ) (pairs : List Connection) (e : FlatErr) → IsRead m s child ports name pairs
     → IsTold e (option_map (λ n. UnknownFormal name line n) (foreign_formal ports pairs)) → IsTold e (ports_fault m line s child)
 formals_err m line s child ports name pairs e r h = formal_faults m line s child e (unknown_formal child s.pairs)
     (subst (λ o. IsTold e (option_map (λ n. UnknownFormal m.name line n) o)) (foreign_read m s child ports name pairs r)
     (subst (λ k. IsTold e (option_map (λ n. UnknownFormal k line n) (foreign_formal ports pairs))) r.name_is h))
 
-formals_ok : (m : ModelValue) (line : ℕ) (s : SubcktValue) (child : ModelValue) (ports : Ports) (name : List ℕ) (pairs : List Pair) → IsRead m s child ports name pairs → foreign_formal ports pairs ≡ None
+formals_ok : (m : ModelValue) (line : ℕ) (s : SubcktValue) (child : ModelValue) (ports : Ports) (name : List ℕ) (pairs : List Connection) → IsRead m s child ports name pairs → foreign_formal ports pairs ≡ None
     → ports_fault m line s child ≡ input_fault m line (open_input s.pairs (inputs_of child))
 formals_ok m line s child ports name pairs r h = ap (formal_fault m (record { line = line; subckt = s }) child) (sym (foreign_read m s child ports name pairs r) ∙ h)
 
-open_read : (s : SubcktValue) (pairs : List Pair) (index names mine : List (List ℕ)) → pairs ≡ s.pairs → index ≡ with_names [] (formals pairs) → names ≡ mine → open_among index names ≡ open_input s.pairs mine
+open_read : (s : SubcktValue) (pairs : List Connection) (index names mine : List (List ℕ)) → pairs ≡ s.pairs → index ≡ with_names [] (formals pairs) → names ≡ mine → open_among index names ≡ open_input s.pairs mine
 open_read s pairs index names mine p i n =
     ap (λ x. open_among x names) i ∙ ap (λ x. open_among (with_names [] (formals x)) names) p ∙ ap (open_among (with_names [] (formals s.pairs))) n ∙ open_is s.pairs mine
 
@@ -178,21 +178,21 @@ first_fault m line s child e None q h = none_fault e (input_fault m line (open_i
 unconnected_read : (line : ℕ) (e : FlatErr) (a b : List ℕ) (x y : Option (List ℕ)) → a ≡ b → x ≡ y → IsTold e (option_map (λ n. Unconnected a line n) x) → IsTold e (option_map (λ n. Unconnected b line n) y)
 unconnected_read line e a b x y p q h = subst (λ o. IsTold e (option_map (λ n. Unconnected b line n) o)) q (subst (λ k. IsTold e (option_map (λ n. Unconnected k line n) x)) p h)
 
-pub inputs_err : (m : ModelValue) (line : ℕ) (s : SubcktValue) (child : ModelValue) (ports : Ports) (name : List ℕ) (pairs pairs' : List Pair) (index names : List (List ℕ)) (e : FlatErr) → IsRead m s child ports name pairs
+pub inputs_err : (m : ModelValue) (line : ℕ) (s : SubcktValue) (child : ModelValue) (ports : Ports) (name : List ℕ) (pairs pairs' : List Connection) (index names : List (List ℕ)) (e : FlatErr) → IsRead m s child ports name pairs
     → foreign_formal ports pairs ≡ None → pairs' ≡ s.pairs → index ≡ with_names [] (formals pairs') → names ≡ child.inputs
     → IsTold e (option_map (λ n. Unconnected name line n) (open_among index names)) → IsTold e (ports_fault m line s child)
 inputs_err m line s child ports name pairs pairs' index names e r absent p i n h =
     subst (IsTold e) (sym (formals_ok m line s child ports name pairs r absent))
     (first_fault m line s child e (open_input s.pairs child.inputs) refl (unconnected_read line e name m.name (open_among index names) (open_input s.pairs child.inputs) r.name_is (open_read s pairs' index names child.inputs p i n) h))
 
-pub clocks_err : (m : ModelValue) (line : ℕ) (s : SubcktValue) (child : ModelValue) (ports : Ports) (name : List ℕ) (pairs pairs' : List Pair) (index names clocks : List (List ℕ)) (e : FlatErr) → IsRead m s child ports name pairs
+pub clocks_err : (m : ModelValue) (line : ℕ) (s : SubcktValue) (child : ModelValue) (ports : Ports) (name : List ℕ) (pairs pairs' : List Connection) (index names clocks : List (List ℕ)) (e : FlatErr) → IsRead m s child ports name pairs
     → foreign_formal ports pairs ≡ None → pairs' ≡ s.pairs → index ≡ with_names [] (formals pairs') → names ≡ child.inputs → open_among index names ≡ None → clocks ≡ child.clocks
     → IsTold e (option_map (λ n. Unconnected name line n) (open_among index clocks)) → IsTold e (ports_fault m line s child)
 clocks_err m line s child ports name pairs pairs' index names clocks e r absent p i n none k h =
     subst (IsTold e) (sym (formals_ok m line s child ports name pairs r absent ∙ ap (input_fault m line) (open_second child s.pairs (sym (open_read s pairs' index names child.inputs p i n) ∙ none))))
     (input_faults m line e (open_input s.pairs child.clocks) (unconnected_read line e name m.name (open_among index clocks) (open_input s.pairs child.clocks) r.name_is (open_read s pairs' index clocks child.clocks p i k) h))
 
-pub line_ok : (m : ModelValue) (line : ℕ) (s : SubcktValue) (child : ModelValue) (ports : Ports) (name : List ℕ) (pairs pairs' : List Pair) (index names clocks : List (List ℕ)) → IsRead m s child ports name pairs
+pub line_ok : (m : ModelValue) (line : ℕ) (s : SubcktValue) (child : ModelValue) (ports : Ports) (name : List ℕ) (pairs pairs' : List Connection) (index names clocks : List (List ℕ)) → IsRead m s child ports name pairs
     → foreign_formal ports pairs ≡ None → pairs' ≡ s.pairs → index ≡ with_names [] (formals pairs') → names ≡ child.inputs → open_among index names ≡ None → clocks ≡ child.clocks → open_among index clocks ≡ None
     → ports_fault m line s child ≡ None
 line_ok m line s child ports name pairs pairs' index names clocks r absent p i n none k none' = formals_ok m line s child ports name pairs r absent

@@ -1,5 +1,5 @@
 -- The names of a model, each once: they are all there, and no more than the model holds.
-use Rattle.blif_flat.proofs.Common.{◌≡◌, ℕ, ◌+◌, ◌<◌, ◌≤◌, List, [], ◌∷◌, ◌++◌, length, get_or, drop, Option, Some, None, refl, sym, ap, ◌∙◌, arith, length-append, length-map, drop_at, Body, Cover, Latch, Subckt, Command, Pair, ModelValue, control_names, body_names, commands_names, all_names, with_names, distinct_names, control_weight, body_weight, commands_weight, own_weight, with_names-length}
+use Rattle.blif_flat.proofs.Common.{◌≡◌, ℕ, ◌+◌, ◌<◌, ◌≤◌, List, [], ◌∷◌, ◌++◌, length, get_or, drop, Option, Some, None, refl, sym, ap, ◌∙◌, arith, length-append, length-map, drop_at, Body, Cover, Latch, Subckt, Command, Connection, ModelValue, control_names, body_names, commands_names, all_names, with_names, distinct_names, control_weight, body_weight, commands_weight, own_weight, with_names-length}
 pub use Rattle.tl_text.proofs.NameSetLemmas.{with_names-append, place_is, name_place_within}
 
 -- those of the commands from a place on, and those of a model's ports and commands
@@ -20,7 +20,7 @@ control_names-length (Some name) = refl
 body_names-length : (body : Body) → length (body_names body) ≡ body_weight body
 body_names-length (Cover c) = length-append c.inputs (c.output ∷ [])
 body_names-length (Latch l) = let e : length (control_names l.control) ≡ control_weight l.control = control_names-length l.control in omega arith
-body_names-length (Subckt s) = length-map s.pairs (λ (pair : Pair). pair.actual)
+body_names-length (Subckt s) = length-map s.pairs (λ (pair : Connection). pair.actual)
 
 commands_names-length : (cs : List Command) → length (commands_names cs) ≡ commands_weight cs
 commands_names-length [] = refl

@@ -1,5 +1,5 @@
 -- The drivers of a model's commands with the names that they drive, in line order.
-use Rattle.blif_flat.proofs.Common.{◌≡◌, ℕ, zero, suc, true, List, [], ◌∷◌, ◌++◌, map, map-append, filter, in_filter, In-filter, Option, Some, None, refl, sym, ap, ap₂, ◌∙◌, subst, inl, inr, slice_get, option_map, cases_Bool, none-some, same_Some, In, In-left, In-right, In-append, In-map, from_map, false, append_assoc, both_ways, false_from_ne_true, none_else, none_both, Body, Cover, Latch, Subckt, Command, LatchValue, Pair, ModelValue, with_subckt, subckts_of, model_named, is_output, Driver, by_latch, by_cover, by_subckt, output_actuals, driven_pairs, drives, all_drives, has_name, inputs_of, FlatErr, DoublyDriven, Undriven, or_later, reads, driven_names, twice_in, twice_fault, undriven_in, undriven_fault, model_fault, models_fault, CoverValue, SubcktValue, LibraryValue, has_in, in_has, append-nil}
+use Rattle.blif_flat.proofs.Common.{◌≡◌, ℕ, zero, suc, true, List, [], ◌∷◌, ◌++◌, map, map-append, filter, in_filter, In-filter, Option, Some, None, refl, sym, ap, ap₂, ◌∙◌, subst, inl, inr, slice_get, option_map, cases_Bool, none-some, same_Some, In, In-left, In-right, In-append, In-map, from_map, false, append_assoc, both_ways, false_from_ne_true, none_else, none_both, Body, Cover, Latch, Subckt, Command, LatchValue, Connection, ModelValue, with_subckt, subckts_of, model_named, is_output, Driver, by_latch, by_cover, by_subckt, output_actuals, driven_pairs, drives, all_drives, has_name, inputs_of, FlatErr, DoublyDriven, Undriven, or_later, reads, driven_names, twice_in, twice_fault, undriven_in, undriven_fault, model_fault, models_fault, CoverValue, SubcktValue, LibraryValue, has_in, in_has, append-nil}
 
 pub record Tag : Type 0 where
   pub driver : Driver
@@ -8,10 +8,10 @@ pub record Tag : Type 0 where
 abbrev pub tag : Driver → List ℕ → Tag
 tag driver name = record { driver = driver; name = name }
 
-abbrev pub pair_tags : ℕ → ModelValue → List Pair → List Tag
-pair_tags k child pairs = map (λ (p : Pair). tag (by_subckt k p.formal) p.actual) (filter (λ (p : Pair). is_output child p.formal) pairs)
+abbrev pub pair_tags : ℕ → ModelValue → List Connection → List Tag
+pair_tags k child pairs = map (λ (p : Connection). tag (by_subckt k p.formal) p.actual) (filter (λ (p : Connection). is_output child p.formal) pairs)
 
-abbrev pub subckt_tags : ℕ → Option ModelValue → List Pair → List Tag
+abbrev pub subckt_tags : ℕ → Option ModelValue → List Connection → List Tag
 subckt_tags k None pairs = []
 subckt_tags k (Some child) pairs = pair_tags k child pairs
 
@@ -35,14 +35,14 @@ tags library place ordinal (c ∷ cs) = body_tags library (place 0) (ordinal 0) 
 abbrev pub names : List Tag → List (List ℕ)
 names ts = map (λ (t : Tag). t.name) ts
 
-pair_names : (k : ℕ) (child : ModelValue) (pairs : List Pair) → names (pair_tags k child pairs) ≡ output_actuals child pairs
+pair_names : (k : ℕ) (child : ModelValue) (pairs : List Connection) → names (pair_tags k child pairs) ≡ output_actuals child pairs
 pair_names k child [] = refl
 pair_names k child (pair ∷ pairs) = elim (cases_Bool (is_output child pair.formal)) [
   | inl t ↦ (rw t (ap (λ ns. pair.actual ∷ ns) (pair_names k child pairs)))
   | inr f ↦ (rw f (pair_names k child pairs))
 ]
 
-subckt_names : (k : ℕ) (o : Option ModelValue) (pairs : List Pair) → names (subckt_tags k o pairs) ≡ driven_pairs o pairs
+subckt_names : (k : ℕ) (o : Option ModelValue) (pairs : List Connection) → names (subckt_tags k o pairs) ≡ driven_pairs o pairs
 subckt_names k None pairs = refl
 subckt_names k (Some child) pairs = pair_names k child pairs
 
@@ -59,12 +59,12 @@ tag_names library place ordinal (c ∷ cs) = map-append (λ (t : Tag). t.name) (
 pub data Source (library : LibraryValue) (place ordinal : ℕ → ℕ) (cs : List Command) (t : Tag) : Type 0 where
   from_cover : (i : ℕ) (c : CoverValue) → option_map (λ (d : Command). d.body) (slice_get cs i) ≡ Some (Cover c) → t ≡ tag (by_cover (place i)) c.output → Source library place ordinal cs t
   from_latch : (i : ℕ) (l : LatchValue) → option_map (λ (d : Command). d.body) (slice_get cs i) ≡ Some (Latch l) → t ≡ tag (by_latch (place i)) l.output → Source library place ordinal cs t
-  from_subckt : (k : ℕ) (s : SubcktValue) (child : ModelValue) (pair : Pair) → slice_get (subckts_of cs) k ≡ Some s → model_named library.models s.model ≡ Some child → In s.pairs pair
+  from_subckt : (k : ℕ) (s : SubcktValue) (child : ModelValue) (pair : Connection) → slice_get (subckts_of cs) k ≡ Some s → model_named library.models s.model ≡ Some child → In s.pairs pair
       → is_output child pair.formal ≡ true → t ≡ tag (by_subckt (ordinal k) pair.formal) pair.actual → Source library place ordinal cs t
 
-pair_in : (k : ℕ) (child : ModelValue) (pairs : List Pair) (pair : Pair) → In pairs pair → is_output child pair.formal ≡ true → In (pair_tags k child pairs) (tag (by_subckt k pair.formal) pair.actual)
+pair_in : (k : ℕ) (child : ModelValue) (pairs : List Connection) (pair : Connection) → In pairs pair → is_output child pair.formal ≡ true → In (pair_tags k child pairs) (tag (by_subckt k pair.formal) pair.actual)
 pair_in k child pairs pair i out =
-    In-map (λ (p : Pair). tag (by_subckt k p.formal) p.actual) (filter (λ (p : Pair). is_output child p.formal) pairs) pair (in_filter (λ (p : Pair). is_output child p.formal) pairs pair i out)
+    In-map (λ (p : Connection). tag (by_subckt k p.formal) p.actual) (filter (λ (p : Connection). is_output child p.formal) pairs) pair (in_filter (λ (p : Connection). is_output child p.formal) pairs pair i out)
 
 -- a subcircuit is the command's own, or one behind it
 pub subckt_case : (b : Body) (subckts : List SubcktValue) (ordinal : ℕ → ℕ) (k : ℕ) (s : SubcktValue) (P : Type 0) → slice_get (with_subckt b subckts) k ≡ Some s
@@ -82,7 +82,7 @@ module _ (library : LibraryValue) where
   in_body : (i k : ℕ) (b c : Body) (t : Tag) → b ≡ c → In (body_tags library i k c) t → In (body_tags library i k b) t
   in_body i k b c t e h = subst (λ d. In (body_tags library i k d) t) (sym e) h
 
-  tag_of_pair : (k : ℕ) (s : SubcktValue) (child : ModelValue) (pair : Pair) → model_named library.models s.model ≡ Some child → In s.pairs pair → is_output child pair.formal ≡ true
+  tag_of_pair : (k : ℕ) (s : SubcktValue) (child : ModelValue) (pair : Connection) → model_named library.models s.model ≡ Some child → In s.pairs pair → is_output child pair.formal ≡ true
       → In (subckt_tags k (model_named library.models s.model) s.pairs) (tag (by_subckt k pair.formal) pair.actual)
   tag_of_pair k s child pair n i out = rw n (pair_in k child s.pairs pair i out)
 
@@ -107,16 +107,16 @@ module _ (library : LibraryValue) where
       (tag_in (λ x. place (suc x)) (behind d.body ordinal) cs t (from_subckt j s child pair f n i out (q ∙ ap (λ x. tag (by_subckt x pair.formal) pair.actual) (sym o)))))
 
   -- and the other way
-  pub record OfPair (k : ℕ) (child : ModelValue) (pairs : List Pair) (t : Tag) : Type 0 where
-    pub pair : Pair
+  pub record OfPair (k : ℕ) (child : ModelValue) (pairs : List Connection) (t : Tag) : Type 0 where
+    pub pair : Connection
     pub member : In pairs pair
     pub out : is_output child pair.formal ≡ true
     pub is : t ≡ tag (by_subckt k pair.formal) pair.actual
 
-  pub of_pair : (k : ℕ) (child : ModelValue) (pairs : List Pair) (t : Tag) → In (pair_tags k child pairs) t → OfPair k child pairs t
+  pub of_pair : (k : ℕ) (child : ModelValue) (pairs : List Connection) (t : Tag) → In (pair_tags k child pairs) t → OfPair k child pairs t
   of_pair k child pairs t i =
-      let r = from_map (λ (p : Pair). tag (by_subckt k p.formal) p.actual) (filter (λ (p : Pair). is_output child p.formal) pairs) t i in
-      let m = In-filter (λ (p : Pair). is_output child p.formal) pairs r.0 r.1 in
+      let r = from_map (λ (p : Connection). tag (by_subckt k p.formal) p.actual) (filter (λ (p : Connection). is_output child p.formal) pairs) t i in
+      let m = In-filter (λ (p : Connection). is_output child p.formal) pairs r.0 r.1 in
       record { pair = r.0; member = m.0; out = m.1; is = r.2 }
 
   subckt_source : (place ordinal : ℕ → ℕ) (d : Command) (cs : List Command) (t : Tag) (s : SubcktValue) (o : Option ModelValue) → d.body ≡ Subckt s → model_named library.models s.model ≡ o

@@ -1,6 +1,6 @@
 -- The walk of the models has one result; one that refuses nothing has been through models without F1 to F4, and the hierarchy ends.
 use Rattle.blif_flat.proofs.Common.{◌≡◌, ℕ, List, [], ◌∷◌, ◌++◌, Some, sym, ◌∙◌, subst, subst₂, Bool, true, false, cond, Option, refl, ap, inl, inr, ◌⊎◌, bytes_eq, slice_get, same_Some, none-some, option_and_then_some, both_ways, or_left, or_right, or_cases, false≢true, bytes_decides, In, In-left, In-right, In-append, In-get, ◌||◌, None, not, and_parts, false_from_ne_true, place_in, LibraryValue, SubcktValue, stop, placed-is, in_input, same_first, same_rest}
-use Rattle.blif_flat.specs.{ModelValue, Body, Subckt, Command, model_named, Path, with_subckt, subckts_of, placed, model_at, has_name, Ends, ends, SubcktLine, subckt_lines, Walked, refused, walked, Walks, refuse, again, inside, onward, WalksMain, with_line, is_walked, Pair, is_input, inputs_of, ConnectionAt, IsDriven, FlatErr, line_fault}
+use Rattle.blif_flat.specs.{ModelValue, Body, Subckt, Command, model_named, Path, with_subckt, subckts_of, placed, model_at, has_name, Ends, ends, SubcktLine, subckt_lines, Walked, refused, walked, Walks, refuse, again, inside, onward, WalksMain, with_line, is_walked, Connection, is_input, inputs_of, ConnectionAt, IsDriven, FlatErr, line_fault}
 use Rattle.blif_flat.proofs.Models.LineLemmas.{IsPlaced, free_line, Connected, no_unknown_formal, no_open_input, no_line_fault}
 
 module _ (library : LibraryValue) where
@@ -281,7 +281,7 @@ module _ (library : LibraryValue) where
         record { ordinal = k.0; child = c.0; is = k.1; named = c.1; placed_as = p; at = rw e p }
 
     -- no line of an instance has F1 to F4
-    no_formal : (path : Path) (m : ModelValue) (l : SubcktLine) → model_at library path ≡ Some m → (c : IsChild path m l) → (pair : Pair) → In l.subckt.pairs pair → (is_input c.child pair.formal || has_name (c.child).outputs pair.formal) ≡ true
+    no_formal : (path : Path) (m : ModelValue) (l : SubcktLine) → model_at library path ≡ Some m → (c : IsChild path m l) → (pair : Connection) → In l.subckt.pairs pair → (is_input c.child pair.formal || has_name (c.child).outputs pair.formal) ≡ true
     no_formal path m l e c pair i =
         let a : ConnectionAt library path c.ordinal pair = record { model = m; subckt = l.subckt; child = c.child; at = e; is = c.is; member = i; places = c.named } in
         elim (driven.formals path c.ordinal pair a) [

@@ -1,7 +1,7 @@
 -- What one step makes of the models: a line, a walk, the drivers, the weight; and what stands after all.
 use Rattle.std.specs.Prelude.{◌≡◌, Option, Some, ℕ, ◌||◌, if◌then◌else◌, List, [], ◌∷◌, None, ◌++◌, map, unwrap_or, slice_get, Result, MatchResult, ◌+◌, min, take, get_or}
 use Rattle.std.specs.Option.{option_or as or_later, option_to_list as control_names}
-use Rattle.blif_flat.specs.Circuits.{Edge, Node, Stop, Pass, place_of, In, Pair, SubcktValue, ModelValue, has_name, Body, Cover, Latch, Subckt, Command, LibraryValue, model_named, subckts_of, IsDriven, FlatErr, inputs_of, most_weight, own_weight, Weighs, Ports}
+use Rattle.blif_flat.specs.Circuits.{Edge, Node, Stop, Pass, place_of, In, Connection, SubcktValue, ModelValue, has_name, Body, Cover, Latch, Subckt, Command, LibraryValue, model_named, subckts_of, IsDriven, FlatErr, inputs_of, most_weight, own_weight, Weighs, Ports}
 use Rattle.tl_fault.specs.OrMemory.{OrMemory}
 use Rattle.blif_flat.specs.DriverFaults.{model_fault}
 use Rattle.blif_flat.specs.Faults.{IsConnected}
@@ -30,7 +30,7 @@ Finds models name None = model_named models name ≡ None
 abbrev pub body_names : Body → List (List ℕ)
 body_names (Cover c) = c.inputs ++ c.output ∷ []
 body_names (Latch l) = l.input ∷ l.output ∷ control_names l.control
-body_names (Subckt s) = map (λ (pair : Pair). pair.actual) s.pairs
+body_names (Subckt s) = map (λ (pair : Connection). pair.actual) s.pairs
 
 abbrev pub commands_names : List Command → List (List ℕ)
 commands_names [] = []
@@ -57,7 +57,7 @@ IsTold e fault = OrMemory refusal_of (λ r. fault ≡ Some r) e
 -- What the check of one line computes, by the names that are found by their hashes.
 
 -- the first formal that is neither among the inputs nor among the outputs
-abbrev pub foreign_formal : Ports → List Pair → Option (List ℕ)
+abbrev pub foreign_formal : Ports → List Connection → Option (List ℕ)
 foreign_formal ports [] = None
 foreign_formal ports (pair ∷ pairs) = if has_name ports.inputs pair.formal || has_name ports.outputs pair.formal then foreign_formal ports pairs else Some pair.formal
 

@@ -1,7 +1,7 @@
 -- The nets as they are kept: each instance has slots for the names of its model, from its first one on.
 use Rattle.std.specs.Prelude.{◌≡◌, ℕ, ◌+◌, ◌<◌, ◌≤◌, Bool, if◌then◌else◌, List, [], ◌∷◌, length, Option, Some, None, slice_get, slice_set, ◌==◌, ◌&&◌, bytes_eq, take, IsTrue, zero, suc, map}
 use Rattle.std.specs.Option.{option_map, option_and_then}
-use Rattle.blif_flat.specs.Circuits.{place_of, In, Pair, Body, Command, LatchValue, CoverValue, ModelValue, LibraryValue, Path, model_at, is_input, is_output, inputs_of, CoverAt, LatchAt, ConnectionAt, Net, Drives, is_cover, is_latch, Cover, Latch, Subckt, SubcktValue, subckts_of, FlatNet, Places, IsNetOf, most_weight, InputNumber, LatchNumber, CoverNumber, Gate, Instance, Ports}
+use Rattle.blif_flat.specs.Circuits.{place_of, In, Connection, Body, Command, LatchValue, CoverValue, ModelValue, LibraryValue, Path, model_at, is_input, is_output, inputs_of, CoverAt, LatchAt, ConnectionAt, Net, Drives, is_cover, is_latch, Cover, Latch, Subckt, SubcktValue, subckts_of, FlatNet, Places, IsNetOf, most_weight, InputNumber, LatchNumber, CoverNumber, Gate, Instance, Ports}
 use Rattle.blif_flat.specs.Bodies.InstanceRows.{places_at, paths_of, gate_body}
 use Rattle.blif_flat.specs.Bodies.ModelSteps.{all_names, with_names, ports_value}
 use Rattle.blif_flat.specs.declared.circuit.nets.Start.{Start}
@@ -47,30 +47,30 @@ copied n i name None = n
 copied n i name (Some number) = with_found n (slot_number n i name) number
 
 -- the net of one name of a pair is copied to its other name, at another instance, where the formal passes a test; and so pair by pair
-abbrev pub pair_copied : (List ℕ → Bool) → (Pair → List ℕ) → (Pair → List ℕ) → ℕ → ℕ → NetsValue → Pair → NetsValue
+abbrev pub pair_copied : (List ℕ → Bool) → (Connection → List ℕ) → (Connection → List ℕ) → ℕ → ℕ → NetsValue → Connection → NetsValue
 pair_copied test source target from to n pair = if test pair.formal then copied n to (target pair) (table_of n from (source pair)) else n
 
-abbrev pub pairs_copied : (List ℕ → Bool) → (Pair → List ℕ) → (Pair → List ℕ) → ℕ → ℕ → NetsValue → List Pair → NetsValue
+abbrev pub pairs_copied : (List ℕ → Bool) → (Connection → List ℕ) → (Connection → List ℕ) → ℕ → ℕ → NetsValue → List Connection → NetsValue
 pairs_copied test source target from to n [] = n
 pairs_copied test source target from to n (pair ∷ pairs) = pairs_copied test source target from to (pair_copied test source target from to n pair) pairs
 
-abbrev pub formal_of : Pair → List ℕ
+abbrev pub formal_of : Connection → List ℕ
 formal_of pair = pair.formal
 
-abbrev pub actual_of : Pair → List ℕ
+abbrev pub actual_of : Connection → List ℕ
 actual_of pair = pair.actual
 
 -- the nets of formals are copied outside, and those of actuals inside
-abbrev pub pair_out : (List ℕ → Bool) → ℕ → ℕ → NetsValue → Pair → NetsValue
+abbrev pub pair_out : (List ℕ → Bool) → ℕ → ℕ → NetsValue → Connection → NetsValue
 pair_out test inner outer n pair = pair_copied test formal_of actual_of inner outer n pair
 
-abbrev pub pairs_out : (List ℕ → Bool) → ℕ → ℕ → NetsValue → List Pair → NetsValue
+abbrev pub pairs_out : (List ℕ → Bool) → ℕ → ℕ → NetsValue → List Connection → NetsValue
 pairs_out test inner outer n pairs = pairs_copied test formal_of actual_of inner outer n pairs
 
-abbrev pub pair_in : (List ℕ → Bool) → ℕ → ℕ → NetsValue → Pair → NetsValue
+abbrev pub pair_in : (List ℕ → Bool) → ℕ → ℕ → NetsValue → Connection → NetsValue
 pair_in test inner outer n pair = pair_copied test actual_of formal_of outer inner n pair
 
-abbrev pub pairs_in : (List ℕ → Bool) → ℕ → ℕ → NetsValue → List Pair → NetsValue
+abbrev pub pairs_in : (List ℕ → Bool) → ℕ → ℕ → NetsValue → List Connection → NetsValue
 pairs_in test inner outer n pairs = pairs_copied test actual_of formal_of outer inner n pairs
 
 -- A table of nets: for each instance by its place, and for each name, the number of the net that drives it.
@@ -98,7 +98,7 @@ pub record HasOwn (library : LibraryValue) (paths : List Path) (table : ℕ → 
 
 -- the actuals of the output connections to the instances from place t on,
 pub record HasOutputs (library : LibraryValue) (paths : List Path) (table : ℕ → List ℕ → Option FlatNet) (t : ℕ) : Type 0 where
-  pub each : (i j : ℕ) (path : Path) (k : ℕ) (pair : Pair) (at : ConnectionAt library path k pair) → IsTrue (is_output at.child pair.formal) → slice_get paths i ≡ Some path → slice_get paths j ≡ Some (k ∷ path) → t ≤ j
+  pub each : (i j : ℕ) (path : Path) (k : ℕ) (pair : Connection) (at : ConnectionAt library path k pair) → IsTrue (is_output at.child pair.formal) → slice_get paths i ≡ Some path → slice_get paths j ≡ Some (k ∷ path) → t ≤ j
       → ¬ (table i pair.actual ≡ None)
 
 -- and the inputs of the instances before place t
@@ -212,7 +212,7 @@ with_inputs inputs n (name ∷ names) = with_inputs inputs (with_place n name (p
 pub record Link : Type 0 where
   pub outer : ℕ
   pub child : ModelValue
-  pub pairs : List Pair
+  pub pairs : List Connection
 
 -- the `.subckt` line of an ordinal of the model of a row
 abbrev pub line_of : LibraryValue → List Instance → ℕ → ℕ → Option SubcktValue
@@ -258,7 +258,7 @@ pub record AreLinesOf (library : LibraryValue) (lines : List (List SubcktValue))
   pub ports_are : ports ≡ map ports_value library.models
 
 -- a connection that was found is that of a link
-pub record IsLink (o : Option Link) (outer : ℕ) (ports : Ports) (pairs : List Pair) : Type 0 where
+pub record IsLink (o : Option Link) (outer : ℕ) (ports : Ports) (pairs : List Connection) : Type 0 where
   pub link : Link
   pub is : o ≡ Some link
   pub outer_is : outer ≡ link.outer

@@ -11,7 +11,7 @@ ghost use Rattle.netlist.specs.LibraryValue.{LibraryValue};
 use crate::circuit::instances::{Gate, Instance, gate_body};
 use crate::circuit::nets::{Nets, pairs_in, pairs_out};
 use crate::model::ports::Ports;
-use netlist::{BlifModel, Body, Command, Library, Net, Pair, Subckt};
+use netlist::{BlifModel, Body, Command, Connection, Library, Net, Subckt};
 use std::alloc::{AllocError, Global};
 use std::marker::Model;
 use tl_text::Name;
@@ -94,7 +94,7 @@ struct Link<'a> {
     // The ports of its own model.
     ports: &'a Ports,
     // The connections of the line that places it.
-    pairs: &'a [Pair],
+    pairs: &'a [Connection],
 }
 
 // The line of an ordinal of the model of a row.

@@ -6,7 +6,7 @@ ghost use Rattle.blif_flat.specs.{place_of, slot_number, table_of, with_slot, wi
 
 use crate::circuit::instances::Instance;
 use crate::model::ports::Ports;
-use netlist::{BlifModel, Body, Command, Cover, Latch, Library, Net, Pair};
+use netlist::{BlifModel, Body, Command, Connection, Cover, Latch, Library, Net};
 use std::alloc::{AllocError, Global};
 use std::marker::Model;
 use tl_text::{NameIndex, TextKey};
@@ -122,7 +122,7 @@ impl Nets {
 }
 
 // Copies the net of an output's formal inside to its actual outside.
-fn pair_out(nets: &mut Nets, ports: &Ports, inner: u32, outer: u32, pair: &Pair)
+fn pair_out(nets: &mut Nets, ports: &Ports, inner: u32, outer: u32, pair: &Connection)
     requires { IsNets nets.old }
     ensures out { (child : ModelValue) → ports.now ≡ ports_value child → nets.new ≡ pair_out (is_output child) inner outer nets.old pair.now }
     ensures nets { IsNets nets.new }
@@ -134,7 +134,13 @@ fn pair_out(nets: &mut Nets, ports: &Ports, inner: u32, outer: u32, pair: &Pair)
 
 /// Copies the nets of a subcircuit's outputs to their actuals. The time is linear in the bytes of the pairs, on average over the
 /// hashes.
-pub(crate) fn pairs_out(nets: &mut Nets, ports: &Ports, inner: u32, outer: u32, pairs: &[Pair])
+pub(crate) fn pairs_out(
+    nets: &mut Nets,
+    ports: &Ports,
+    inner: u32,
+    outer: u32,
+    pairs: &[Connection],
+)
     requires { IsNets nets.old }
     ensures out { (child : ModelValue) → ports.now ≡ ports_value child → nets.new ≡ pairs_out (is_output child) inner outer nets.old pairs.now }
     ensures nets { IsNets nets.new }
@@ -145,7 +151,7 @@ pub(crate) fn pairs_out(nets: &mut Nets, ports: &Ports, inner: u32, outer: u32, 
 }
 
 // Copies the net of an input's actual outside to its formal inside.
-fn pair_in(nets: &mut Nets, ports: &Ports, inner: u32, outer: u32, pair: &Pair)
+fn pair_in(nets: &mut Nets, ports: &Ports, inner: u32, outer: u32, pair: &Connection)
     requires { IsNets nets.old }
     ensures inside { (child : ModelValue) → ports.now ≡ ports_value child → nets.new ≡ pair_in (is_input child) inner outer nets.old pair.now }
     ensures nets { IsNets nets.new }
@@ -157,7 +163,7 @@ fn pair_in(nets: &mut Nets, ports: &Ports, inner: u32, outer: u32, pair: &Pair)
 
 /// Copies the nets of the actuals to a subcircuit's inputs. The time is linear in the bytes of the pairs, on average over the
 /// hashes.
-pub(crate) fn pairs_in(nets: &mut Nets, ports: &Ports, inner: u32, outer: u32, pairs: &[Pair])
+pub(crate) fn pairs_in(nets: &mut Nets, ports: &Ports, inner: u32, outer: u32, pairs: &[Connection])
     requires { IsNets nets.old }
     ensures inside { (child : ModelValue) → ports.now ≡ ports_value child → nets.new ≡ pairs_in (is_input child) inner outer nets.old pairs.now }
     ensures nets { IsNets nets.new }
@@ -190,8 +196,12 @@ fn with_latch(alloc: Global, index: NameIndex, latch: &Latch) -> Result<NameInde
 }
 
 // The names and the actuals of connections.
-fn with_actuals(alloc: Global, index: NameIndex, pairs: &[Pair]) -> Result<NameIndex, AllocError>
-    ensures { IfOk result (λ all. all ≡ with_all_names index (map (λ (pair : Pair). pair.actual) pairs.now)) }
+fn with_actuals(
+    alloc: Global,
+    index: NameIndex,
+    pairs: &[Connection],
+) -> Result<NameIndex, AllocError>
+    ensures { IfOk result (λ all. all ≡ with_all_names index (map (λ (pair : Connection). pair.actual) pairs.now)) }
 {
     let mut all = index;
     for pair in pairs {

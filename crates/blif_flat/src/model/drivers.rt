@@ -8,7 +8,7 @@ use crate::flat_err::FlatErr;
 use crate::model::driven::Driven;
 use crate::model::line_check::both_copied;
 use crate::model::ports::{ModelIndex, Ports};
-use netlist::{BlifModel, Body, Latch, Library, Pair, Subckt};
+use netlist::{BlifModel, Body, Connection, Latch, Library, Subckt};
 use std::alloc::Global;
 use tl_text::Name;
 
@@ -56,7 +56,12 @@ fn ports_of<'a>(index: &ModelIndex, ports: &'a [Ports], name: &Name) -> Option<&
 }
 
 // Adds the actual of a connection of an output.
-fn drive_actual(site: &Site, driven: &mut Driven, ports: &Ports, pair: &Pair) -> Result<(), FlatErr>
+fn drive_actual(
+    site: &Site,
+    driven: &mut Driven,
+    ports: &Ports,
+    pair: &Connection,
+) -> Result<(), FlatErr>
     ensures { (child : ModelValue) → ports.now ≡ ports_value child
         → Adds result (twice_in site.now.model.now site.now.line driven.old (output_actuals child (pair.now ∷ [])))
         driven.old driven.new (output_actuals child (pair.now ∷ [])) }
@@ -72,7 +77,7 @@ fn drive_actuals(
     site: &Site,
     driven: &mut Driven,
     ports: &Ports,
-    pairs: &[Pair],
+    pairs: &[Connection],
 ) -> Result<(), FlatErr>
     ensures { (child : ModelValue) → ports.now ≡ ports_value child
         → Adds result (twice_in site.now.model.now site.now.line driven.old (output_actuals child pairs.now))
@@ -85,7 +90,12 @@ fn drive_actuals(
 }
 
 // Tells the actual of a connection of an input where it isn't driven.
-fn check_actual(site: &Site, driven: &Driven, ports: &Ports, pair: &Pair) -> Result<(), FlatErr>
+fn check_actual(
+    site: &Site,
+    driven: &Driven,
+    ports: &Ports,
+    pair: &Connection,
+) -> Result<(), FlatErr>
     ensures { (child : ModelValue) → ports.now ≡ ports_value child
         → Tells result (undriven_in site.now.model.now site.now.line driven.now (input_actuals child (pair.now ∷ []))) }
 {
@@ -96,7 +106,12 @@ fn check_actual(site: &Site, driven: &Driven, ports: &Ports, pair: &Pair) -> Res
     }
 }
 
-fn check_actuals(site: &Site, driven: &Driven, ports: &Ports, pairs: &[Pair]) -> Result<(), FlatErr>
+fn check_actuals(
+    site: &Site,
+    driven: &Driven,
+    ports: &Ports,
+    pairs: &[Connection],
+) -> Result<(), FlatErr>
     ensures { (child : ModelValue) → ports.now ≡ ports_value child
         → Tells result (undriven_in site.now.model.now site.now.line driven.now (input_actuals child pairs.now)) }
 {

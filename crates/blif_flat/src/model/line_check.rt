@@ -9,7 +9,7 @@ ghost use Rattle.blif_flat.specs.{ports_value, foreign_formal, open_among, ports
 use crate::flat_err::FlatErr;
 use crate::model::ports::{Models, Ports, formal_index};
 use depth_first::Walk;
-use netlist::{BlifModel, Pair, Subckt};
+use netlist::{BlifModel, Connection, Subckt};
 use std::alloc::{AllocError, Global};
 use tl_fault::Names;
 use tl_text::{Name, NameIndex};
@@ -39,7 +39,7 @@ fn check_formals(
     model: &Name,
     line: u32,
     ports: &Ports,
-    pairs: &[Pair],
+    pairs: &[Connection],
 ) -> Result<(), FlatErr>
     ensures ok { OnOk result (foreign_formal ports.now pairs.now ≡ None) }
     ensures err { IfErr result (λ e. IsTold e (option_map (λ name. unknown_formal_of model.now line name) (foreign_formal ports.now pairs.now))) }

@@ -2,7 +2,7 @@
 ghost use Rattle.std.specs.Prelude.{◌≡◌, [], IfOk, map, ℕ, ◌<◌, ◌^◌, List, length, IfSome};
 ghost use Rattle.blif_flat.specs.{formals, has_name, with_names, In, place_of, ModelValue, IsWellFormedModel, is_input as input_of, is_output as output_of, ports_value, AreOnce, model_names, Finds};
 
-use netlist::{BlifModel, Pair};
+use netlist::{BlifModel, Connection};
 use std::alloc::{AllocError, Global};
 use tl_text::{NameIndex, TextKey};
 
@@ -10,7 +10,7 @@ use tl_text::{NameIndex, TextKey};
 pub(crate) fn formal_index(
     alloc: Global,
     key: TextKey,
-    pairs: &[Pair],
+    pairs: &[Connection],
 ) -> Result<NameIndex, AllocError>
     ensures { IfOk result (λ all. all ≡ with_names [] (formals pairs.now)) }
 {

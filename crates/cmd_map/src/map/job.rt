@@ -8,13 +8,13 @@ ghost use Rattle.cmd_map.specs.Outputs.{IsTunedSource, WritesTemplate};
 
 use crate::map::words::MapWords;
 use cmd_base::Outcome;
-use cmd_stations::{Draft, put_template_header, read_draft, write_pack, write_template};
+use cmd_stations::{WritableSource, put_template_header, read_draft, write_pack, write_template};
 use std::alloc::Global;
 use tl_io::{Failed, Shelf, Sink};
 
 // Writes the template, then the pack of its bits, and then the header line.
 fn write_out<S: Shelf, O: Sink>(
-    draft: &mut Draft,
+    draft: &mut WritableSource,
     template: &str,
     pack: &str,
     shelf: &mut S,

@@ -10,7 +10,7 @@ ghost use Rattle.cmd_map.specs.Outputs.{RunsSpecialised, WritesSpecialised};
 
 use crate::spec::words::SpecWords;
 use cmd_base::Outcome;
-use cmd_stations::{Draft, put_template_header, read_draft, write_specialised};
+use cmd_stations::{WritableSource, put_template_header, read_draft, write_specialised};
 use run_text::Param;
 use std::alloc::{AllocError, Global};
 use tl_io::{Failed, Shelf, Sink};
@@ -23,7 +23,7 @@ fn listed_values(alloc: Global, params: &[Param]) -> Result<Vec<bool>, AllocErro
 }
 
 // The configuration of the listed values.
-fn listed_config(alloc: Global, draft: &Draft) -> Result<Vec<bool>, AllocError>
+fn listed_config(alloc: Global, draft: &WritableSource) -> Result<Vec<bool>, AllocError>
     requires { IsDraft draft.now }
     ensures { IfOk result (λ config. IsConf draft.now.mapped.tables.pack (param_inits draft.now.mapped.source.params.list) config.items) }
 {
@@ -34,7 +34,7 @@ fn listed_config(alloc: Global, draft: &Draft) -> Result<Vec<bool>, AllocError>
 
 // Writes the specialised netlist, and then the header line.
 fn write_out<S: Shelf, O: Sink>(
-    draft: &mut Draft,
+    draft: &mut WritableSource,
     config: &[bool],
     name: &str,
     shelf: &mut S,

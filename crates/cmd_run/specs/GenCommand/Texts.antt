@@ -3,7 +3,7 @@ use Rattle.std.specs.Prelude.{ℕ, List, Some, codes}
 use Rattle.tl_io.specs.Shelf.{Files, ShelfSeen, no_shelf}
 use Rattle.run_text.specs.NamesValue.{NamesValue}
 use Rattle.cover_pick.specs.declared.rule.Rule.{Rule}
-use Rattle.cmd_base.specs.Walk.{Reading, Explains}
+use Rattle.cmd_base.specs.Walk.{FileReading, Explains}
 use Rattle.cmd_base.specs.declared.outcome.Outcome.{Outcome}
 use Rattle.cmd_stations.specs.Mapped.{ToTables}
 use Rattle.cmd_stations.specs.Script.{names_of}
@@ -39,7 +39,7 @@ OfScript script P = (files : Files) → HasText files (codes "script") script �
 abbrev pub ComesCase : Rule → Files → Source → Type 0
 ComesCase rule files source = ComesWith files (case_words rule).source source
 
-abbrev pub StopsIn : Reading → Files → Outcome → Type 0
+abbrev pub StopsIn : FileReading → Files → Outcome → Type 0
 StopsIn reading files o = Explains reading (shelf_of files) (shelf_of files) o
 
 abbrev pub StopsSource : Rule → Files → Outcome → Type 0

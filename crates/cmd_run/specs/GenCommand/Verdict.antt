@@ -6,7 +6,7 @@ use Rattle.tl_io.specs.Shelf.{ShelfSeen}
 use Rattle.tl_io.specs.Sink.{SinkSeen}
 use Rattle.run_core.specs.Events.{MachineValue}
 use Rattle.cover_pick.specs.Template.{TemplateValue}
-use Rattle.cmd_base.specs.Walk.{Reading, Walk, portless_walk, Ends, outside}
+use Rattle.cmd_base.specs.Walk.{FileReading, CommandWalk, portless_walk, Ends, outside}
 use Rattle.cmd_base.specs.Writing.{AreWritten, IsCutInLine}
 use Rattle.cmd_base.specs.declared.outcome.Outcome.{Outcome}
 use Rattle.cmd_base.specs.declared.outcome.File.TheVariants.{Netlist}
@@ -45,7 +45,7 @@ pub record HasGen (words : GenWords) (Ends : List ℕ → Type 0) : Type 0 where
   pub ends : Ends (gen_text words job.template writes total)
 
 -- no file is read: what is told of files holds of the generated texts, whatever a shelf has, and a refused one is told as `gen`
-abbrev pub gen_reading : GenWords → Reading
+abbrev pub gen_reading : GenWords → FileReading
 gen_reading words = record {
   HasFiles = λ told files. files ≡ case_files words;
   IsRead = IsOfScripted;
@@ -57,7 +57,7 @@ gen_reading words = record {
   IsSettled = λ files. IsSettled files (case_words words.rule);
 }
 
-abbrev pub gen_walk : GenWords → Walk
+abbrev pub gen_walk : GenWords → CommandWalk
 gen_walk words =
     portless_walk (gen_reading words) (λ files. HasJob files (case_words words.rule)) (λ files old new. HasGen words (λ text. AreWritten [] text old new)) (λ files old new. HasGen words (λ text. IsCutInLine [] text old new))
     (λ files old new. Unit {0}) ⊥

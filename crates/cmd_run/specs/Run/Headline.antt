@@ -26,7 +26,7 @@ use Rattle.cmd_stations.specs.SourceCircuit.{shape_of, IsSourceCycle}
 use Rattle.cmd_run.specs.Run.Job.{IsJob, RunWords, bank_of}
 
 -- what is shown of a source circuit: the parameters' values that were set last, the latches' states, and the ports
-pub record Shown : Type 0 where
+pub record ShownSource : Type 0 where
   pub params : List Bool
   pub states : List Bool
   pub bank : BankSeen
@@ -41,7 +41,7 @@ IsNoUpset Image = Unit {0}
 
 module _ (source : Source) (g : Aig) (template : TemplateValue) where
   -- Parameters change: the line and the writes to the ports are the addresses where the configurations specialised from scratch before and after differ, each with its bit after the change.
-  pub record ShowsSet (assigned_to : List Bool) (old : Shown) (line : List ℕ) (new : Shown) : Type 0 where
+  pub record ShowsSet (assigned_to : List Bool) (old : ShownSource) (line : List ℕ) (new : ShownSource) : Type 0 where
     pub from : List Bool
     pub before : IsConfiguration g template.luts old.params from
     pub to : List Bool
@@ -52,7 +52,7 @@ module _ (source : Source) (g : Aig) (template : TemplateValue) where
     pub sent : Plays to (differences from to) old.bank new.bank (Ok tt)
 
   -- The clock ticks: the tables under the configuration specialised from scratch for the parameters' values that were set last are played, and no other values fit them; the outputs and the states are those of the source circuit's cycle under these values.
-  pub record ShowsCycle (values : List Bool) (old : Shown) (line : List ℕ) (new : Shown) : Type 0 where
+  pub record ShowsCycle (values : List Bool) (old : ShownSource) (line : List ℕ) (new : ShownSource) : Type 0 where
     pub outputs : List Bool
     pub config : List Bool
     pub is : IsConfiguration g template.luts old.params config
@@ -64,18 +64,18 @@ module _ (source : Source) (g : Aig) (template : TemplateValue) where
     pub bank : new.bank ≡ old.bank
 
   -- no bit stands upset, so there is nothing to set right
-  pub record ShowsScrub (old : Shown) (line : List ℕ) (new : Shown) : Type 0 where
+  pub record ShowsScrub (old : ShownSource) (line : List ℕ) (new : ShownSource) : Type 0 where
     pub line_is : line ≡ scrub_line []
     pub same : new ≡ old
 
   -- the configuration specialised from scratch
-  pub record ShowsImage (old : Shown) (line : List ℕ) (new : Shown) : Type 0 where
+  pub record ShowsImage (old : ShownSource) (line : List ℕ) (new : ShownSource) : Type 0 where
     pub config : List Bool
     pub is : IsConfiguration g template.luts old.params config
     pub line_is : line ≡ image_line config
     pub same : new ≡ old
 
-  abbrev pub Shows : EventValue → Shown → List ℕ → Shown → Type 0
+  abbrev pub Shows : EventValue → ShownSource → List ℕ → ShownSource → Type 0
   Shows (Set assigns) old line new = ShowsSet (assigned old.params assigns) old line new
   Shows (Cycle values) old line new = ShowsCycle values old line new
   Shows (Upset address) old line new = ⊥
@@ -83,13 +83,13 @@ module _ (source : Source) (g : Aig) (template : TemplateValue) where
   Shows Image old line new = ShowsImage old line new
 
   -- some events one after the other, with their lines
-  pub data ShowAll : Shown → List EventValue → List (List ℕ) → Shown → Type 0 where
-    none : {old : Shown} → ShowAll old [] [] old
-    more : {old new : Shown} {events : List EventValue} {lines : List (List ℕ)} (event : EventValue) (line : List ℕ) (mid : Shown) → Shows event old line mid → ShowAll mid events lines new
+  pub data ShowAll : ShownSource → List EventValue → List (List ℕ) → ShownSource → Type 0 where
+    none : {old : ShownSource} → ShowAll old [] [] old
+    more : {old new : ShownSource} {events : List EventValue} {lines : List (List ℕ)} (event : EventValue) (line : List ℕ) (mid : ShownSource) → Shows event old line mid → ShowAll mid events lines new
         → ShowAll old (event ∷ events) (line ∷ lines) new
 
   -- the parameters' listed values, the latches' inits, and the ports with the configuration specialised from scratch for these values
-  pub record IsShownFirst (ports : BankSeen) (first : Shown) : Type 0 where
+  pub record IsShownFirst (ports : BankSeen) (first : ShownSource) : Type 0 where
     pub params : first.params ≡ param_inits source.params.list
     pub states : AreInits source.netlist.library first.states
     pub config : List Bool
@@ -98,9 +98,9 @@ module _ (source : Source) (g : Aig) (template : TemplateValue) where
 
 -- the lines of a script without upsets, and the ports behind it
 pub record ShowsSource (source : Source) (g : Aig) (template : TemplateValue) (events : List EventValue) (lines : List (List ℕ)) (ports last : BankSeen) : Type 0 where
-  pub first : Shown
+  pub first : ShownSource
   pub is_first : IsShownFirst source g template ports first
-  pub end : Shown
+  pub end : ShownSource
   pub all : ShowAll source g template first events lines end
   pub bank : last ≡ end.bank
 

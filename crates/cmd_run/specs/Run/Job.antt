@@ -10,7 +10,7 @@ use Rattle.cmd_stations.specs.Source.{SourceWords, k_of, source_seen}
 use Rattle.cmd_stations.specs.Script.{ScriptedWords, HasScripted, IsScriptedRefused, IsScriptedSettled, scripted_word, scripted_reading}
 use Rattle.tl_fault.specs.RefusalValue.{RefusalValue}
 use Rattle.tl_io.specs.Shelf.{Files}
-use Rattle.cmd_base.specs.Walk.{Reading}
+use Rattle.cmd_base.specs.Walk.{FileReading}
 use Rattle.cmd_base.specs.declared.outcome.File.{File}
 use Rattle.cmd_stations.specs.Machine.{Job}
 use Rattle.tl_io.specs.Port.{PortSeen}
@@ -68,7 +68,7 @@ abbrev pub run_word : RunWords → File → List ℕ
 run_word words file = scripted_word (scripted_of words) file
 
 -- how its files are read
-abbrev pub run_reading : RunWords → Reading
+abbrev pub run_reading : RunWords → FileReading
 run_reading words = scripted_reading (scripted_of words)
 
 -- the ports that are handed in, before the first write

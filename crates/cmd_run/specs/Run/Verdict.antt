@@ -4,7 +4,7 @@ use Rattle.tl_io.specs.Port.{PortSeen}
 use Rattle.tl_io.specs.Shelf.{Files, ShelfSeen}
 use Rattle.tl_io.specs.Sink.{SinkSeen}
 use Rattle.run_core.specs.declared.step_err.StepErr.TheVariants.{WriteFault, PortFault}
-use Rattle.cmd_base.specs.Walk.{Walk, Ends, outside}
+use Rattle.cmd_base.specs.Walk.{CommandWalk, Ends, outside}
 use Rattle.cmd_base.specs.declared.outcome.Outcome.{Outcome}
 use Rattle.cmd_run.specs.declared.run.words.RunWords.{RunWords as RunWordsRead}
 use Rattle.cmd_run.specs.Run.Job.{RunWords, IsJob, run_reading, run_seen}
@@ -17,7 +17,7 @@ pub record HasJob (files : Files) (words : RunWords) : Type 0 where
   pub job : Job
   pub is : IsJob files words job
 
-abbrev pub run_walk : RunWords → Walk
+abbrev pub run_walk : RunWords → CommandWalk
 run_walk words = record {
   reading = run_reading words;
   IsAccepted = λ files. HasJob files words;

@@ -11,7 +11,7 @@ ghost use Rattle.cmd_run.specs.Run.Ready.{CanPlay, StartsOn, IsReadyFor};
 
 use crate::run::words::{RunWords, scripted};
 use cmd_base::Outcome;
-use cmd_stations::{MappedSource, Scripted, Source, Tables, latch_inits, read_scripted};
+use cmd_stations::{MappedSource, Scripted, Source, SourceTables, latch_inits, read_scripted};
 use run_core::Machine;
 use run_text::Event;
 use std::alloc::{AllocError, Global};
@@ -25,7 +25,11 @@ pub struct Ready {
 }
 
 // The machine of a source circuit's LUTs, in its initial state.
-fn start_machine(alloc: Global, source: &Source, tables: Tables) -> Result<Machine, AllocError>
+fn start_machine(
+    alloc: Global,
+    source: &Source,
+    tables: SourceTables,
+) -> Result<Machine, AllocError>
     requires read { IsReadSource source.now }
     requires tables { AreMade source.now tables }
     ensures { IfOk result (StartsOn source.now tables.template) }

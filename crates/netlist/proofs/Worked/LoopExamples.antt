@@ -1,12 +1,12 @@
 -- A worked example of loops: two covers that read each other through two instances.
-use Rattle.netlist.proofs.Common.{ℕ, true, List, [], ◌∷◌, codes, refl, inl, inr, Cover, Subckt, Pair, ModelValue, CoverAt, ConnectionAt, cover_output, from_inside, from_outside, Place, ReadsCover, Depends, direct, through, IsSound, CoverValue, SubcktValue, LibraryValue}
+use Rattle.netlist.proofs.Common.{ℕ, true, List, [], ◌∷◌, codes, refl, inl, inr, Cover, Subckt, Connection, ModelValue, CoverAt, ConnectionAt, cover_output, from_inside, from_outside, Place, ReadsCover, Depends, direct, through, IsSound, CoverValue, SubcktValue, LibraryValue}
 use Rattle.netlist.specs.declared.cell.Cell.TheVariants.{One}
 
 -- .model top / .inputs a / .outputs y / .subckt g i=a f=y o=x / .subckt g i=a f=x o=y / .model g / .inputs i f / .outputs o / .names i f o / 11 1
 abbrev both : CoverValue
 both = record { inputs = codes "i" ∷ codes "f" ∷ []; output = codes "o"; value = true; rows = record { cells = One ∷ One ∷ [] } ∷ [] }
 
-abbrev pair : List ℕ → List ℕ → Pair
+abbrev pair : List ℕ → List ℕ → Connection
 pair formal actual = record { formal = formal; actual = actual }
 
 abbrev first : SubcktValue

@@ -2,7 +2,7 @@ use Rattle.tlut_host.proofs.Common.{◌≡◌, List, [], length, vec_capacity, s
 use Rattle.tl_text.specs.NameSets.{with_names}
 use Rattle.tl_text.proofs.NameSetLemmas.{new_names}
 use Rattle.ppc_pack.specs.declared.pack.PackParam.{PackParam}
-use Rattle.tlut_host.proofs.host.Host.make.Goals as goal
+use Rattle.tlut_host.proofs.host.NamedSpecialiser.make.Goals as goal
 
 pub invariant_of-result : goal.invariant_of-result
 invariant_of-result c =

@@ -1,4 +1,4 @@
-use Rattle.tlut_host.proofs.host.Host.set.Given as goal
+use Rattle.tlut_host.proofs.host.NamedSpecialiser.set.Given as goal
 
 abbrev pub ghosts-change_with : goal.ghosts-change_with
 ghosts-change_with a = record { name = a.blank.name; parts = a.blank.parts }
