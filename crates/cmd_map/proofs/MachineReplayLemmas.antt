@@ -13,8 +13,9 @@ use Rattle.run_core.specs.Events.{MachineValue, event_line, host_line, IsOfHost}
 use Rattle.spec_core.specs.Specialiser.{SpecialiserValue}
 use Rattle.cmd_stations.specs.declared.source.Source.{Source}
 use Rattle.cmd_stations.specs.Tunable.{IsTunable}
-use Rattle.cmd_stations.specs.Machine.{IsStart, Stage, AreSteps, none as no_step, more as one_more}
-use Rattle.cmd_stations.specs.Host.{IsHostStart, AreHostSteps, none, more}
+use Rattle.machine.specs.Machine.{none, more}
+use Rattle.cmd_stations.specs.Machine.{IsStart, Stage, AreSteps}
+use Rattle.cmd_stations.specs.Host.{IsHostStart, AreHostSteps}
 use Rattle.cmd_stations.proofs.ShowLemmas.{pack_inits}
 use Rattle.cmd_stations.proofs.ReplayLemmas.{same_packs_replay, same_both, file_same, pack_at}
 
@@ -57,18 +58,16 @@ line_of_host event m of_host = refl
 
 -- so a machine plays such events as its host does
 host_steps : {old stage : Stage} {events : List EventValue} {lines : List (List ℕ)} → AreSteps old events lines stage → ((event : EventValue) → In events event → IsOfHost event) → AreHostSteps old.machine.host events lines stage.machine.host
-host_steps no_step of_host = none
-host_steps {old} {stage} (one_more {events = events} {lines = lines} event mid step rest) of_host =
+host_steps none of_host = none
+host_steps (more event line mid (step, line_is) rest) of_host =
     let here = of_host event (inl refl) in
-    let later = host_steps rest (λ e i. of_host e (inr i)) in
-    subst (λ line. AreHostSteps old.machine.host (event ∷ events) (line ∷ lines) stage.machine.host) (sym (line_of_host event mid.machine here))
-    (more event mid.machine.host (record { of_host = here; played = step.played.host; steady = step.steady }) later)
+    more event line mid.machine.host (record { of_host = here; played = step.played.host; steady = step.steady }, line_is ∙ line_of_host event mid.machine here) (host_steps rest (λ e i. of_host e (inr i)))
 
 -- and all events that a host plays are such
 steps_of_host : {h k : SpecialiserValue} {events : List EventValue} {lines : List (List ℕ)} → AreHostSteps h events lines k → (event : EventValue) → In events event → IsOfHost event
 steps_of_host none event i = absurd i
-steps_of_host (more first mid step rest) event (inl is) = subst (λ e. IsOfHost e) (sym is) step.of_host
-steps_of_host (more first mid step rest) event (inr i) = steps_of_host rest event i
+steps_of_host (more first line mid step rest) event (inl is) = subst (λ e. IsOfHost e) (sym is) step.0.of_host
+steps_of_host (more first line mid step rest) event (inr i) = steps_of_host rest event i
 
 -- A pack of a source circuit's tables, whose file in version 2 is its own, replays on their machine.
 pub replays_machine : (rule : Rule) (source : Source) (k : ℕ) (template : TemplateValue) (pack : PackValue) (m : IsMapped rule source k template) → IsLeastMapping m.graph k m.roots template → IsTunable source template pack → IsPackFile (present_bytes pack) pack → ReplaysMachine source template pack

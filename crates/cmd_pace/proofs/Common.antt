@@ -14,7 +14,7 @@ pub use Rattle.cover_pick.specs.Template.{TemplateValue}
 pub use Rattle.list_laws.specs.Members.{In}
 pub use Rattle.lut_sim.specs.declared.shape.Shape.{Shape}
 pub use Rattle.pace_core.specs.EventValue.{PaceValue, asks_and_ticks, pace_values, Ask, Tick, pace_value}
-pub use Rattle.pace_core.specs.Pace.{ArePaced, PacerValue, shown_line, Shown, IsTicked, steps, waits, IsPaced, FitsPacer, IsAsked, IsStep, IsWait}
+pub use Rattle.pace_core.specs.Pace.{pacer_machine, ArePaced, PacerValue, shown_line, Shown, IsTicked, steps, waits, IsPaced, FitsPacer, IsAsked, IsStep, IsWait}
 pub use Rattle.param_list.specs.Parameters.{param_inits}
 pub use Rattle.ppc_pack.specs.Pack.{PackValue, IsConf, HasOneConf, inits_of}
 pub use Rattle.run_text.specs.EventValue.{EventValue, event_values}
@@ -24,7 +24,8 @@ pub use Rattle.spec_core.specs.Differences.{differences}
 pub use Rattle.tl_io.specs.Content.{extended}
 pub use Rattle.tl_io.specs.Shelf.{Files}
 pub use Rattle.cmd_pace.specs.Verdict.{HaveShown, IsAllPaced, HasPace, IsPaceCut, pace_walk}
-pub use Rattle.cmd_pace.specs.Headline.{stage_of, IsFirst, ShowAll, HasPaceHeadline, PaceStage, ShowsAsk, ShowsStep, ShowsWait, ShowsTick, Shows, none, more, StallsAnywhere}
+pub use Rattle.cmd_pace.specs.Headline.{stage_of, IsFirst, shown_machine, ShowAll, HasPaceHeadline, PaceStage, ShowsAsk, ShowsStep, ShowsWait, ShowsTick, Shows, StallsAnywhere}
+pub use Rattle.machine.proofs.PassLemmas.{then_one, passes_keep, passes_over}
 pub use Rattle.cmd_pace.specs.Job.{PaceJob, StartsPace, IsPaceStart, pacer_header, PaceWords, scripted_of, pace_seen}
 pub use Rattle.cmd_pace.specs.Ready.{IsReadyFor, CanPace, StartsAt}
 pub use Rattle.cmd_pace.specs.declared.prepare.ReadyPace.{ReadyPace}

@@ -50,7 +50,7 @@ pace_headline files words old new takes done =
       end = stage_of end.end;
       shows = subst (λ (g : Aig). ShowAll job.source g job.template words.rate (stage_of done.pacer) job.events lines (stage_of end.end)) graph
           (subst (λ ls. ShowAll job.source start.pack.graph job.template words.rate (stage_of done.pacer) job.events ls (stage_of end.end)) (sym played.lines_are)
-          (all_shown job.source job.template words.rate done.pacer.pack start.pack job.events played.shown done.pacer end.end kept played.are
+          (all_shown job.source job.template words.rate done.pacer.pack start.pack done.pacer end.end kept played.are
           (script_fits job.source job.template.bits is.script.text done.is_job.read job.events is.script.is done.is_job.events)));
       pacer = done.pacer;
       start = done.start;

@@ -1,5 +1,5 @@
 -- The playing of events: what stands behind one event more; and a job that was made ready is begun, and ends as its playing does.
-use Rattle.cmd_pace.proofs.Common.{◌≡◌, ℕ, List, [], ◌∷◌, ◌++◌, length, refl, sym, ap, ◌∙◌, subst, map-append, Shape, PackValue, PaceValue, Ask, Tick, PacerValue, Shown, shown_line, IsTicked, steps, waits, IsPaced, ArePaced, FitsPacer, Outside, HaveShown, Files, IsBegun, pace_values, ReadyPace, HasPace, IsReadyFor, pace_walk, PaceWords}
+use Rattle.cmd_pace.proofs.Common.{◌≡◌, ℕ, List, [], ◌∷◌, ◌++◌, length, refl, sym, ap, ◌∙◌, subst, map-append, Shape, PackValue, PaceValue, Ask, Tick, PacerValue, Shown, shown_line, IsTicked, steps, waits, IsPaced, pacer_machine, then_one, FitsPacer, Outside, HaveShown, Files, IsBegun, pace_values, ReadyPace, HasPace, IsReadyFor, pace_walk, PaceWords}
 use Rattle.pace_core.specs.EventValue as pace
 use Rattle.cmd_stations.proofs.RefusedLemmas.{least_mapped}
 
@@ -22,18 +22,11 @@ fits_form event old new same fits =
     subst (λ (p : PackValue). pace.Fits (length p.params) new.sim.shape.regular event) (sym same.pack) (subst (λ (s : Shape). pace.Fits (length old.pack.params) s.regular event) (sym same.shape) fits)
 
 -- one event more
-then_paced : (old mid new : PacerValue) (events : List PaceValue) (shown : List Shown) (event : PaceValue) (one : Shown) → ArePaced old events shown mid → IsPaced event mid new one
-    → ArePaced old (events ++ event ∷ []) (shown ++ one ∷ []) new
-then_paced old mid new [] [] event one are paced = (new, subst (λ (p : PacerValue). IsPaced event p new one) are paced, refl)
-then_paced old mid new [] (first ∷ shown) event one are paced = absurd are
-then_paced old mid new (first ∷ events) [] event one are paced = absurd are
-then_paced old mid new (first ∷ events) (here ∷ shown) event one are paced = (are.0, are.1, then_paced are.0 mid new events shown event one are.2 paced)
-
 pub then_shown : (old mid new : PacerValue) (events : List PaceValue) (lines : List (List ℕ)) (event : PaceValue) (one : Shown) → HaveShown old events lines mid → IsPaced event mid new one
     → HaveShown old (events ++ event ∷ []) (lines ++ shown_line one ∷ []) new
 then_shown old mid new events lines event one come paced = record {
   shown = come.shown ++ one ∷ [];
-  are = then_paced old mid new events come.shown event one come.are paced;
+  are = then_one pacer_machine event one come.are paced;
   lines_are = ap (λ ls. ls ++ shown_line one ∷ []) come.lines_are ∙ sym (map-append shown_line come.shown (one ∷ []));
 }
 

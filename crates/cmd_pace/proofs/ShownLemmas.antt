@@ -1,5 +1,5 @@
 -- Asks and ticks show the source circuit.
-use Rattle.cmd_pace.proofs.Common.{◌≡◌, ℕ, Bool, List, [], ◌∷◌, length, map, take, refl, sym, ap, ◌∙◌, subst, inl, inr, arith, length-take, In, TemplateValue, Shape, PackValue, IsConf, differences, length-assigned, PaceValue, Ask, Tick, PacerValue, Shown, shown_line, IsAsked, IsStep, IsWait, IsTicked, steps, waits, IsPaced, ArePaced, Source, width_of, shape_of, IsTunable, cycle_count, param_count, PaceStage, stage_of, ShowsAsk, ShowsStep, ShowsWait, ShowsTick, Shows, ShowAll, none, more, IsSourceCycle}
+use Rattle.cmd_pace.proofs.Common.{◌≡◌, ℕ, Bool, List, [], ◌∷◌, length, map, take, refl, sym, ap, ◌∙◌, subst, inl, inr, arith, length-take, In, TemplateValue, Shape, PackValue, IsConf, differences, length-assigned, PaceValue, Ask, Tick, PacerValue, Shown, shown_line, IsAsked, IsStep, IsWait, IsTicked, steps, waits, IsPaced, ArePaced, Source, width_of, shape_of, IsTunable, cycle_count, param_count, PaceStage, stage_of, ShowsAsk, ShowsStep, ShowsWait, ShowsTick, Shows, ShowAll, shown_machine, pacer_machine, passes_over, none, more, IsSourceCycle}
 use Rattle.tl_io.specs.Assigns.{assigned}
 use Rattle.tl_io.specs.Writes.{written}
 use Rattle.tl_io.specs.declared.Assign.{Assign}
@@ -106,13 +106,9 @@ module _ (source : Source) (template : TemplateValue) (rate : ℕ) (pack : PackV
   paced_kept (Tick values) old new one fits kept is = ticked_kept values old new one fits kept (paced_steady pack rate (Tick values) old new one kept.steady is) is
 
   -- all events of a script
-  pub all_shown : (events : List PaceValue) (shown : List Shown) (old new : PacerValue) → IsKept old → ArePaced old events shown new
+  pub all_shown : {events : List PaceValue} {shown : List Shown} (old new : PacerValue) → IsKept old → ArePaced old events shown new
       → ((event : PaceValue) → In events event → pace.Fits (length source.params.list) (width_of source) event)
       → ShowAll source tunable.graph template rate (stage_of old) events (map shown_line shown) (stage_of new)
-  all_shown [] [] old new kept are fits =
-      subst (λ (p : PacerValue). ShowAll source tunable.graph template rate (stage_of old) [] [] (stage_of p)) (sym are) none
-  all_shown [] (one ∷ shown) old new kept are fits = absurd are
-  all_shown (event ∷ events) [] old new kept are fits = absurd are
-  all_shown (event ∷ events) (one ∷ shown) old new kept are fits =
-      let here = fits event (inl refl) in
-      more event (shown_line one) (stage_of are.0) (shows event old are.0 one here kept are.1) (all_shown events shown are.0 new (paced_kept event old are.0 one here kept are.1) are.2 (λ e i. fits e (inr i)))
+  all_shown old new kept are fits =
+      passes_over pacer_machine (λ event. pace.Fits (length source.params.list) (width_of source) event) IsKept (λ event from one to here kept is. paced_kept event from to one here kept is)
+      (shown_machine source tunable.graph template rate) stage_of shown_line (λ event from one to here kept is. shows event from to one here kept is) fits kept are

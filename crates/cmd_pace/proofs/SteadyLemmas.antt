@@ -1,5 +1,5 @@
 -- What stays of a machine however it is asked and however it ticks: its pack, its rate, and how many values and bits there are. So wherever it has come to, the ticks that come next wait as long as is said.
-use Rattle.cmd_pace.proofs.Common.{◌≡◌, ℕ, ◌≤◌, Bool, List, [], ◌∷◌, length, take, refl, sym, ap, ◌∙◌, subst, arith, PackValue, IsConf, HasOneConf, differences, length-assigned, PaceValue, Ask, Tick, PacerValue, Shown, IsTicked, steps, waits, IsPaced, ArePaced, StallsAnywhere}
+use Rattle.cmd_pace.proofs.Common.{◌≡◌, ℕ, ◌≤◌, Bool, List, [], ◌∷◌, length, take, refl, sym, ap, ◌∙◌, subst, arith, PackValue, IsConf, HasOneConf, differences, length-assigned, PaceValue, Ask, Tick, PacerValue, Shown, IsTicked, steps, waits, IsPaced, pacer_machine, passes_keep, StallsAnywhere}
 use Rattle.tl_io.proofs.BitLemmas.{length-written}
 use Rattle.pace_core.proofs.KeepLemmas.{conf_length}
 use Rattle.pace_core.proofs.StallLemmas.{has_stalls}
@@ -35,16 +35,10 @@ module _ (pack : PackValue) (rate : ℕ) where
   })
   paced_steady (Tick values) old new one steady is = ticked_steady values old new one steady is
 
-  all_steady : (events : List PaceValue) (shown : List Shown) (old new : PacerValue) → IsSteady pack rate old → ArePaced old events shown new → IsSteady pack rate new
-  all_steady [] [] old new steady are = subst (λ (p : PacerValue). IsSteady pack rate p) (sym are) steady
-  all_steady [] (one ∷ shown) old new steady are = absurd are
-  all_steady (event ∷ events) [] old new steady are = absurd are
-  all_steady (event ∷ events) (one ∷ shown) old new steady are = all_steady events shown are.0 new (paced_steady event old are.0 one steady are.1) are.2
-
   -- where under any values there is one configuration, and a tick writes a bit at least
   pub stalls_anywhere : (pacer : PacerValue) → 1 ≤ rate → ((given : List Bool) → length given ≡ length pack.params → HasOneConf pack given) → IsSteady pack rate pacer → StallsAnywhere pacer
   stalls_anywhere pacer takes one steady events shown mid are wanted conf =
-      let there = all_steady events shown pacer mid steady are in
+      let there = passes_keep pacer_machine (λ event. Unit {0}) (λ p. IsSteady pack rate p) (λ event old one new any steady is. paced_steady event old new one steady is) (λ event i. tt) steady are in
       let of_pack : (others : List Bool) → IsConf mid.pack mid.params others → IsConf pack mid.params others = λ others is. subst (λ (p : PackValue). IsConf p mid.params others) there.pack_is is in
       let only = one mid.params there.params in
       has_stalls mid wanted (length (differences mid.config wanted)) (let r : mid.rate ≡ rate = there.rate_is in omega (arith, takes, r))

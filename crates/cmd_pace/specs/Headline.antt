@@ -1,6 +1,7 @@
 -- The headline of `pace`, in the field's words: whatever asks and ticks come, a tick writes at most as many bits as the port takes, and the circuit steps only where the device has the configuration that is specialised from scratch for the values that were asked for last; so each step is a cycle of the source circuit under these values.
 use Rattle.std.specs.Prelude.{◌≡◌, ℕ, ◌≤◌, ◌<◌, Bool, List, [], ◌∷◌, length, map, take}
 use Rattle.std.specs.List.{concat}
+use Rattle.machine.specs.Machine.{Machine, Passes}
 use Rattle.tl_io.specs.Assigns.{assigned}
 use Rattle.tl_io.specs.Content.{extended}
 use Rattle.tl_io.specs.Shelf.{Files}
@@ -69,17 +70,18 @@ module _ (source : Source) (g : Aig) (template : TemplateValue) (rate : ℕ) whe
   Shows (Ask assigns) old line new = ShowsAsk (assigned old.params assigns) old line new
   Shows (Tick values) old line new = ShowsTick values old line new
 
-  -- some events one after the other, with their lines
-  pub data ShowAll : PaceStage → List PaceValue → List (List ℕ) → PaceStage → Type 0 where
-    none : {old : PaceStage} → ShowAll old [] [] old
-    more : {old new : PaceStage} {events : List PaceValue} {lines : List (List ℕ)} (event : PaceValue) (line : List ℕ) (mid : PaceStage) → Shows event old line mid → ShowAll mid events lines new
-        → ShowAll old (event ∷ events) (line ∷ lines) new
-
   -- the parameters' listed values, their configuration specialised from scratch, and the latches' inits
   pub record IsFirst (first : PaceStage) : Type 0 where
     pub params : first.params ≡ param_inits source.params.list
     pub config : IsConfiguration g template.luts (param_inits source.params.list) first.config
     pub states : AreInits source.netlist.library first.states
+
+  -- the machine that asks and ticks show of the source circuit, and some events one after the other, with their lines
+  abbrev pub shown_machine : Machine PaceValue PaceStage (List ℕ)
+  shown_machine = record { IsStart = IsFirst; HasCycle = Shows }
+
+  abbrev pub ShowAll : PaceStage → List PaceValue → List (List ℕ) → PaceStage → Type 0
+  ShowAll = Passes shown_machine
 
 -- However the machine was asked and however it ticked, the ticks that come next wait while the bits that differ then aren't written, as many a tick as the port takes, and each later tick is a cycle.
 abbrev pub StallsAnywhere : PacerValue → Type 0

@@ -10,7 +10,8 @@ pub use Rattle.cmd_base.specs.declared.outcome.Outcome.{Outcome}
 pub use Rattle.cmd_stations.proofs.EventLemmas.{then_host_step, split_by, more_by, value_has}
 pub use Rattle.cmd_stations.proofs.PackLemmas.{pack_or_not, pack_refused_once, pack_once, same_names}
 pub use Rattle.cmd_stations.proofs.WriteLemmas.{cut_in_file, cut_cause, line_ends}
-pub use Rattle.cmd_stations.specs.Host.{IsHostStep, AreHostSteps, none}
+pub use Rattle.cmd_stations.specs.Host.{IsHostStep, AreHostSteps}
+pub use Rattle.machine.specs.Machine.{none}
 pub use Rattle.cmd_stations.specs.Packs.{HasPack, IsPackSettled, pack_names, IsPackItself, pack_reading, present_bytes}
 pub use Rattle.cmd_stations.specs.Script.{HasScript, IsScriptSettled, IsSplit, IsScriptRefused, IsScriptFile, script_reading}
 pub use Rattle.port_bank.specs.Seen.{bank_seen}

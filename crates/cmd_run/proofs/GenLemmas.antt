@@ -1,21 +1,15 @@
 -- A case that was made ready and played: what it adds up to, and what is told of it; and the laws of the walk of `gen`.
-use Rattle.cmd_run.proofs.Common.{◌≡◌, ℕ, ◌+◌, List, [], ◌∷◌, ◌++◌, refl, sym, ap, ◌∙◌, subst, arith, concat, ShelfSeen, TemplateValue, EventValue, event_values, MachineValue, IsPlayed, IsBegun, IsBegunFrom, GenWords, Ready, template_header, least_mapped, machine_header, IsReadyFor, case_words, case_files, writes_of, output_of, Totals, none, more, first_line, last_line, gen_text, HasGen, gen_walk, scripted_of, HasLaws, scripted_or_not, scripted_refused_once}
-
--- the same events with numbers that are the same
-same_totals : {old new : MachineValue} {events : List EventValue} {writes total : ℕ} (all_writes all : ℕ) → Totals old events writes total new → all_writes ≡ writes → all ≡ total → Totals old events all_writes all new
-same_totals {old} {new} {events} {writes} {total} all_writes all t w o = subst (λ n. Totals old events n all new) (sym w) (subst (λ n. Totals old events writes n new) (sym o) t)
+use Rattle.cmd_run.proofs.Common.{◌≡◌, ℕ, ◌+◌, List, [], ◌∷◌, ◌++◌, refl, sym, ap, ◌∙◌, subst, arith, concat, ShelfSeen, TemplateValue, EventValue, event_values, MachineValue, IsPlayed, IsBegun, IsBegunFrom, GenWords, Ready, template_header, least_mapped, machine_header, IsReadyFor, case_words, case_files, writes_of, output_of, tally_machine, Totals, then_one, passes_keep, first_line, last_line, gen_text, HasGen, gen_walk, scripted_of, HasLaws, scripted_or_not, scripted_refused_once}
 
 -- one event more
 pub total_more : {old mid : MachineValue} {events : List EventValue} {writes total : ℕ} (new : MachineValue) (event : EventValue) (all_writes all : ℕ) → Totals old events writes total mid → IsPlayed event mid new
     → all_writes ≡ writes + writes_of event new → all ≡ total + output_of event new → Totals old (events ++ event ∷ []) all_writes all new
-total_more new event all_writes all none played w t = same_totals all_writes all (more event new played none) (omega (arith, w)) (omega (arith, t))
-total_more new event all_writes all (more {writes = writes} {total = total} first next here rest) played w t =
-    same_totals all_writes all (more first next here (total_more new event (writes + writes_of event new) (total + output_of event new) rest played refl refl)) (omega (arith, w)) (omega (arith, t))
+total_more new event all_writes all totals played w t = record { shown = totals.shown ++ tt ∷ []; passes = then_one tally_machine event tt totals.passes (played, w, t) }
 
 -- events leave the tables as they are
 pub same_template : {old new : MachineValue} {events : List EventValue} {writes total : ℕ} → Totals old events writes total new → new.sim.template ≡ old.sim.template
-same_template none = refl
-same_template (more event mid played rest) = same_template rest ∙ played.template
+same_template {old} totals =
+    passes_keep tally_machine (λ event. Unit {0}) (λ tally. tally.machine.sim.template ≡ old.sim.template) (λ event from shown to any same is. is.0.template ∙ same) (λ event i. tt) refl totals.passes
 
 module _ (words : GenWords) (ready : Ready) (is : IsReadyFor (case_files words) (case_words words.rule) ready) where
   -- a case that is ready is begun

@@ -1,7 +1,8 @@
 -- The ports after a job: those that serve and stand by were called, and spares took the places of those that failed.
 use Rattle.cmd_run.proofs.Common.{◌≡◌, ℕ, ◌+◌, ◌≤◌, List, length, take, drop, Option, Result, Ok, Err, sym, subst, ◌∙◌, arith, inl, inr, refl, length-drop, length-take-le, PortSeen, EventValue, BankSeen, all_ports, StepErr, WriteFault, PortFault, MachineValue, PortCounts, HasCome, bank_of, HaveFailed, RunEnd, IsServed}
 use Rattle.port_bank.specs.Moves.{Becomes, start, accepted, replaced, FallsShort, LosesPlace}
-use Rattle.cmd_stations.specs.Machine.{Stage, AreSteps, none, more}
+use Rattle.machine.specs.Machine.{none, more}
+use Rattle.cmd_stations.specs.Machine.{Stage, AreSteps}
 
 -- calls one after the other
 becomes_on : {old mid new : BankSeen} → Becomes old mid → Becomes mid new → Becomes old new
@@ -23,7 +24,7 @@ comes_on old mid new c d = record { becomes = becomes_on c.becomes d.becomes; us
 -- of events, and of the full load
 steps_come : {old : Stage} {events : List EventValue} {lines : List (List ℕ)} {new : Stage} → AreSteps old events lines new → Comes old.bank new.bank
 steps_come {old = old} none = comes_here old.bank
-steps_come {old = old} {new = new} (more event mid step rest) = comes_on old.bank mid.bank new.bank (record { becomes = step.becomes; used = step.places.used }) (steps_come rest)
+steps_come {old = old} {new = new} (more event line mid step rest) = comes_on old.bank mid.bank new.bank (record { becomes = step.0.becomes; used = step.0.places.used }) (steps_come rest)
 
 has_comes : {m : MachineValue} {old : BankSeen} {events : List EventValue} {lines : List (List ℕ)} {stage : Stage} → HasCome m old events lines stage → Comes old stage.bank
 has_comes {m = m} {old = old} {stage = stage} come = comes_on old come.loaded stage.bank (record { becomes = come.load.becomes; used = come.load.places.used }) (steps_come come.steps)

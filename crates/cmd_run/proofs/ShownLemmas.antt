@@ -5,8 +5,9 @@ use Rattle.run_text.specs.Lines.{set_line, scrub_line, image_line}
 use Rattle.bit_fun.specs.Configuration.{IsConfiguration}
 use Rattle.port_bank.specs.Send.{Sends, start, accepted, replaced, with_port, Plays}
 use Rattle.spec_core.proofs.MarkLemmas.{xor-same}
-use Rattle.cmd_run.specs.Run.Headline.{IsNoUpset, ShownSource, Shows, ShowsSet, ShowsCycle, ShowsScrub, ShowsImage, ShowAll, none, more}
-use Rattle.cmd_stations.specs.Machine.{Stage, IsStep, AreSteps, none as no_step, more as one_more}
+use Rattle.cmd_run.specs.Run.Headline.{IsNoUpset, ShownSource, Shows, ShowsSet, ShowsCycle, ShowsScrub, ShowsImage, ShowAll}
+use Rattle.cmd_stations.specs.Machine.{Stage, IsStep, AreSteps}
+use Rattle.machine.specs.Machine.{none, more}
 use Rattle.cmd_run.proofs.KeptLemmas.{IsKept, same_config, of_tables, cycle_is, step_keeps}
 
 -- where nothing passes a test, nothing is left
@@ -123,10 +124,10 @@ module _ (source : Source) (template : TemplateValue) (pack : PackValue) (tunabl
 
   pub all_shown : {old new : Stage} {events : List EventValue} {lines : List (List ℕ)} → IsHere old → AreSteps old events lines new → ((e : EventValue) → In events e → IsNoUpset e)
       → ((e : EventValue) → In events e → FitsShape (shape_of source) e) → AreShown old events lines new
-  all_shown kept no_step calm fits = record { kept = kept; all = none }
-  all_shown {old} kept (one_more event mid step rest) calm fits =
+  all_shown kept none calm fits = record { kept = kept; all = none }
+  all_shown {old} kept (more event line mid (step, line_is) rest) calm fits =
       let calm_here = calm event (inl refl) in
       let fits_here = fits event (inl refl) in
       let here = step_keeps source template pack tunable event old mid calm_here fits_here kept step in
       let later = all_shown here rest (λ e i. calm e (inr i)) (λ e i. fits e (inr i)) in
-      record { kept = later.kept; all = more event (event_line event mid.machine) (shown_of mid) (shows event old mid calm_here fits_here kept here step) later.all }
+      record { kept = later.kept; all = more event line (shown_of mid) (subst (λ l. Shows source tunable.graph template event (shown_of old) l (shown_of mid)) (sym line_is) (shows event old mid calm_here fits_here kept here step)) later.all }

@@ -1,5 +1,5 @@
 -- What the events of a case add up to fits its types: a change writes no more bits than the LUTs have, and the outputs of a cycle are a number of as many digits.
-use Rattle.cmd_run.proofs.Common.{◌≡◌, ℕ, ◌+◌, ◌*◌, ◌^◌, ◌<◌, ◌≤◌, List, [], ◌∷◌, ◌++◌, length, take, refl, ap, ◌∙◌, subst, arith, length-append, length-map, length-take-le, length-range_with_len, number, length-filter_le, lits_of, value_of, Lit, TemplateValue, PackValue, Event, EventValue, event_value, event_values, Set, Cycle, differs_at, differences, write_of, SpecialiserValue, MachineValue, IsPlayed, writes_of, output_of, Totals, none, more, IsSmall}
+use Rattle.cmd_run.proofs.Common.{◌≡◌, ℕ, ◌+◌, ◌*◌, ◌^◌, ◌<◌, ◌≤◌, List, [], ◌∷◌, ◌++◌, length, take, refl, ap, ◌∙◌, subst, arith, length-append, length-map, length-take-le, length-range_with_len, number, length-filter_le, lits_of, value_of, Lit, TemplateValue, PackValue, Event, EventValue, event_value, event_values, Set, Cycle, differs_at, differences, write_of, SpecialiserValue, MachineValue, IsPlayed, writes_of, output_of, Tally, tally_machine, Totals, Passes, none, more, IsSmall}
 use Rattle.std.specs.List.{filter, range_with_len}
 use Rattle.std.proofs.Math.Pow.{pow_mono}
 use Rattle.std.proofs.lemmas.Nat.{pow_pos}
@@ -31,17 +31,20 @@ output_small (Cycle values) old new played =
 output_small event old new played = pow_pos (length old.sim.template.outputs)
 
 -- all of them
-totals_within : {old new : MachineValue} {events : List EventValue} {writes total : ℕ} → Totals old events writes total new → length old.host.pack.bits ≤ 2 ^ 25 → length old.sim.template.outputs ≤ 66
-    → (writes ≤ 2 ^ 25 * length events) × (total ≤ 2 ^ 66 * length events)
-totals_within none few short = (omega arith, omega arith)
-totals_within {old} {new} (more {writes = writes} {total = total} event mid played rest) few short =
-    let pack : length mid.host.pack.bits ≡ length old.host.pack.bits = ap (λ (p : PackValue). length p.bits) played.host.pack in
-    let template : length mid.sim.template.outputs ≡ length old.sim.template.outputs = ap (λ (t : TemplateValue). length t.outputs) played.template in
-    let others = totals_within rest (omega (arith, pack, few)) (omega (arith, template, short)) in
-    let written : writes_of event mid ≤ length old.host.pack.bits = writes_few event old mid played in
-    let put : output_of event mid < 2 ^ length old.sim.template.outputs = output_small event old mid played in
-    let most : 2 ^ length old.sim.template.outputs ≤ 2 ^ 66 = pow_mono short in
-    (omega (arith, others.0, written, few), omega (arith, others.1, put, most))
+tallies_within : {old new : Tally} {events : List EventValue} {shown : List (Unit {0})} → Passes tally_machine old events shown new → length old.machine.host.pack.bits ≤ 2 ^ 25 → length old.machine.sim.template.outputs ≤ 66
+    → (new.writes ≤ old.writes + 2 ^ 25 * length events) × (new.total ≤ old.total + 2 ^ 66 * length events)
+tallies_within none few short = (omega arith, omega arith)
+tallies_within {old} {new} (more event one mid is rest) few short =
+    let played = is.0 in
+    let pack : length mid.machine.host.pack.bits ≡ length old.machine.host.pack.bits = ap (λ (p : PackValue). length p.bits) played.host.pack in
+    let template : length mid.machine.sim.template.outputs ≡ length old.machine.sim.template.outputs = ap (λ (t : TemplateValue). length t.outputs) played.template in
+    let others = tallies_within rest (omega (arith, pack, few)) (omega (arith, template, short)) in
+    let written : writes_of event mid.machine ≤ length old.machine.host.pack.bits = writes_few event old.machine mid.machine played in
+    let put : output_of event mid.machine < 2 ^ length old.machine.sim.template.outputs = output_small event old.machine mid.machine played in
+    let most : 2 ^ length old.machine.sim.template.outputs ≤ 2 ^ 66 = pow_mono short in
+    let writes : mid.writes ≡ old.writes + writes_of event mid.machine = is.1 in
+    let total : mid.total ≡ old.total + output_of event mid.machine = is.2 in
+    (omega (arith, others.0, writes, written, few), omega (arith, others.1, total, put, most))
 
 -- so those up to each of them
 pub next_fits : (m : MachineValue) (events : List Event) (i : ℕ) (item : Event) → IsSmall (event_values events) m → i < length events → {mid : MachineValue} {writes total : ℕ} (new : MachineValue) → Totals m (event_values (take i events)) writes total mid
@@ -49,7 +52,7 @@ pub next_fits : (m : MachineValue) (events : List Event) (i : ℕ) (item : Event
 next_fits m events i item small here {writes = writes} {total = total} new totals played =
     let event : EventValue = event_value item in
     let first : List EventValue = event_values (take i events) in
-    let within = totals_within (total_more new event (writes + writes_of event new) (total + output_of event new) totals played refl refl) small.bits small.outputs in
+    let within = tallies_within (total_more new event (writes + writes_of event new) (total + output_of event new) totals played refl refl).passes small.bits small.outputs in
     let count : length (first ++ event ∷ []) ≡ length first + 1 = length-append first (event ∷ []) in
     let before : length first ≡ i = length-map (take i events) event_value ∙ length-take-le i events (omega (arith, here)) in
     let all : length (event_values events) ≡ length events = length-map events event_value in

@@ -7,7 +7,8 @@ use Rattle.tl_io.specs.Writes.{written}
 use Rattle.run_text.specs.Lines.{set_line, scrub_line, upset_line, image_line}
 use Rattle.spec_core.specs.Differences.{config_bit, differences, write_of}
 use Rattle.spec_core.proofs.AssignLemmas.{length-assigned}
-use Rattle.cmd_stations.specs.Host.{AreHostSteps, none, more}
+use Rattle.machine.specs.Machine.{none, more}
+use Rattle.cmd_stations.specs.Host.{AreHostSteps}
 
 -- packs with as many parameters, and a configuration of one is one of the other
 pub record AreAlike (p q : PackValue) : Type 0 where
@@ -96,14 +97,15 @@ module _ (p q : PackValue) (alike : AreAlike p q) (one : (given : List Bool) →
   pub come_alike : {h k new last : SpecialiserValue} {events others : List EventValue} {lines other_lines : List (List ℕ)} → StandAlike h k → AreHostSteps h events lines new → AreHostSteps k others other_lines last → events ≡ others
       → ComeAlike lines other_lines new last
   come_alike stand none none same = record { lines_are = refl; stand = stand }
-  come_alike stand none (more {events = others} other mid2 step2 rest2) same = absurd (let count : length {A = EventValue} [] ≡ length (other ∷ others) = ap length same in omega (arith, count))
-  come_alike stand (more {events = events} event mid step rest) none same = absurd (let count : length (event ∷ events) ≡ length {A = EventValue} [] = ap length same in omega (arith, count))
-  come_alike {h} {k} stand (more {events = events} {lines = lines} event mid step rest) (more {events = others} {lines = other_lines} other mid2 step2 rest2) same =
+  come_alike stand none (more {xs = others} other line mid2 step2 rest2) same = absurd (let count : length {A = EventValue} [] ≡ length (other ∷ others) = ap length same in omega (arith, count))
+  come_alike stand (more {xs = events} event line mid step rest) none same = absurd (let count : length (event ∷ events) ≡ length {A = EventValue} [] = ap length same in omega (arith, count))
+  come_alike {h} {k} stand (more {xs = events} {outputs = lines} event line mid step rest) (more {xs = others} {outputs = other_lines} other other_line mid2 step2 rest2) same =
       let event_is : event ≡ other = ap (λ (es : List EventValue). get_or es 0 event) same in
       let events_are : events ≡ others = ap (drop 1) same in
-      let next = play_alike h k mid mid2 stand event step.of_host step.played (subst (λ e. IsHostPlayed e k mid2) (sym event_is) step2.played) in
+      let next = play_alike h k mid mid2 stand event step.0.of_host step.0.played (subst (λ e. IsHostPlayed e k mid2) (sym event_is) step2.0.played) in
       let later = come_alike next.stand rest rest2 events_are in
+      let line_is : line ≡ other_line = step.1 ∙ (next.line ∙ ap (λ e. host_line e mid2) event_is) ∙ sym step2.1 in
       record {
-        lines_are = ap (λ (ls : List (List ℕ)). host_line event mid ∷ ls) later.lines_are ∙ ap (λ (line : List ℕ). line ∷ other_lines) (next.line ∙ ap (λ e. host_line e mid2) event_is);
+        lines_are = ap (λ (ls : List (List ℕ)). line ∷ ls) later.lines_are ∙ ap (λ (l : List ℕ). l ∷ other_lines) line_is;
         stand = later.stand;
       }

@@ -1,11 +1,12 @@
 -- The events of a script up to one of them, with their lines, and one event more.
-use Rattle.cmd_stations.proofs.Common.{◌≡◌, ℕ, ◌+◌, ◌<◌, List, [], ◌∷◌, ◌++◌, length, get_or, map, take, drop, Option, sym, ap, ◌∙◌, append-nil, concat, map-append, take_more, take-append-drop, extended, IsSplit, In, EventValue, event_line, host_line, SpecialiserValue}
+use Rattle.cmd_stations.proofs.Common.{◌≡◌, ℕ, ◌+◌, ◌<◌, List, [], ◌∷◌, ◌++◌, length, get_or, map, take, drop, Option, refl, sym, ap, ◌∙◌, append-nil, concat, map-append, take_more, take-append-drop, extended, IsSplit, In, EventValue, event_line, host_line, SpecialiserValue}
 use Rattle.std.proofs.lemmas.List.Folds.{concat-append}
 use Rattle.list_laws.proofs.Items.{drop_at, member_at}
 use Rattle.list_laws.proofs.Members.{In-map}
 use Rattle.tl_io.proofs.ContentLemmas.{extended_twice}
-use Rattle.cmd_stations.specs.Machine.{Stage, IsStep, AreSteps, none, more}
-use Rattle.cmd_stations.specs.Host.{IsHostStep, AreHostSteps, none as no_host_step, more as one_host_step_more}
+use Rattle.machine.proofs.PassLemmas.{then_one}
+use Rattle.cmd_stations.specs.Machine.{Stage, IsStep, script_machine, AreSteps}
+use Rattle.cmd_stations.specs.Host.{IsHostStep, host_machine, AreHostSteps}
 
 -- the values of the items before a place, and that of the one at it
 module _ {Item Value : Type 0} (value : Item → Value) (items : List Item) (i : ℕ) (item : Item) (within : i < length items) (there : item ≡ get_or items i item) where
@@ -33,10 +34,8 @@ one_line lines line = ap (λ l. concat lines ++ l) (sym (append-nil line)) ∙ s
 -- One event more, after some that were played.
 pub then_step : {old mid new : Stage} {events : List EventValue} {lines : List (List ℕ)} (event : EventValue) → AreSteps old events lines mid → IsStep event mid new
     → AreSteps old (events ++ event ∷ []) (lines ++ event_line event new.machine ∷ []) new
-then_step {new = new} event none step = more event new step none
-then_step event (more first next here rest) step = more first next here (then_step event rest step)
+then_step {new = new} event steps step = then_one script_machine event (event_line event new.machine) steps (step, refl)
 
 pub then_host_step : {old mid new : SpecialiserValue} {events : List EventValue} {lines : List (List ℕ)} (event : EventValue) → AreHostSteps old events lines mid → IsHostStep event mid new
     → AreHostSteps old (events ++ event ∷ []) (lines ++ host_line event new ∷ []) new
-then_host_step {new = new} event no_host_step step = one_host_step_more event new step no_host_step
-then_host_step event (one_host_step_more first next here rest) step = one_host_step_more first next here (then_host_step event rest step)
+then_host_step {new = new} event steps step = then_one host_machine event (host_line event new) steps (step, refl)

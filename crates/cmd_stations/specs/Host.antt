@@ -1,5 +1,6 @@
 -- The host of a pack: initially, and after events; and that packs with the same configurations show the same for the same script.
 use Rattle.std.specs.Prelude.{◌≡◌, Bool, List, [], ◌∷◌, ℕ, length}
+use Rattle.machine.specs.Machine.{Machine, Passes}
 use Rattle.ppc_pack.specs.Pack.{PackValue, IsConf, HasOneConf, inits_of}
 use Rattle.run_text.specs.EventValue.{EventValue}
 use Rattle.run_core.specs.Events.{IsHostPlayed, IsSteady, host_line, IsOfHost}
@@ -19,11 +20,13 @@ pub record IsHostStep (event : EventValue) (old new : SpecialiserValue) : Type 0
   pub played : IsHostPlayed event old new
   pub steady : IsSteady event old new
 
+-- the machine of a script that a host plays: it starts as the host of its pack, and in a cycle it takes an event and gives its line
+abbrev pub host_machine : Machine EventValue SpecialiserValue (List ℕ)
+host_machine = record { IsStart = λ h. IsHostStart h.pack h; HasCycle = λ event old line new. IsHostStep event old new × line ≡ host_line event new }
+
 -- some events one after the other, with their lines
-pub data AreHostSteps : SpecialiserValue → List EventValue → List (List ℕ) → SpecialiserValue → Type 0 where
-  none : {old : SpecialiserValue} → AreHostSteps old [] [] old
-  more : {old new : SpecialiserValue} {events : List EventValue} {lines : List (List ℕ)} (event : EventValue) (mid : SpecialiserValue) → IsHostStep event old mid → AreHostSteps mid events lines new
-      → AreHostSteps old (event ∷ events) (host_line event mid ∷ lines) new
+abbrev pub AreHostSteps : SpecialiserValue → List EventValue → List (List ℕ) → SpecialiserValue → Type 0
+AreHostSteps = Passes host_machine
 
 -- hosts that start on two packs put the same lines for the same events
 pub record HaveSameLines (p q : PackValue) : Type 0 where

@@ -1,5 +1,6 @@
 -- The machine of a job with its ports: initially, and after events.
 use Rattle.std.specs.Prelude.{◌≡◌, ℕ, Bool, List, [], ◌∷◌, length, Ok}
+use Rattle.machine.specs.Machine.{Machine, Passes}
 use Rattle.tl_io.specs.Writes.{writes_from}
 use Rattle.ppc_pack.specs.Pack.{PackValue, IsConf, HasOneConf}
 use Rattle.lut_sim.specs.Sim.{SimValue}
@@ -62,11 +63,13 @@ pub record IsStep (event : EventValue) (old new : Stage) : Type 0 where
   pub places : KeepsPlaces old.bank new.bank
   pub holds : Holds new.machine.host.state.config new.bank
 
+-- The machine of a script: it starts where the ports hold the configuration, and in a cycle it takes an event and gives its line.
+abbrev pub script_machine : Machine EventValue Stage (List ℕ)
+script_machine = record { IsStart = λ stage. Holds stage.machine.host.state.config stage.bank; HasCycle = λ event old line new. IsStep event old new × line ≡ event_line event new.machine }
+
 -- some events one after the other, with their lines
-pub data AreSteps : Stage → List EventValue → List (List ℕ) → Stage → Type 0 where
-  none : {old : Stage} → AreSteps old [] [] old
-  more : {old new : Stage} {events : List EventValue} {lines : List (List ℕ)} (event : EventValue) (mid : Stage) → IsStep event old mid → AreSteps mid events lines new
-      → AreSteps old (event ∷ events) (event_line event mid.machine ∷ lines) new
+abbrev pub AreSteps : Stage → List EventValue → List (List ℕ) → Stage → Type 0
+AreSteps = Passes script_machine
 
 -- the full load of the ports, and then some events
 pub record HasCome (m : MachineValue) (ports : BankSeen) (events : List EventValue) (lines : List (List ℕ)) (stage : Stage) : Type 0 where

@@ -1,2 +1,3 @@
 -- The laws that other crates cite.
 pub mod RefineLemmas
+pub mod PassLemmas

@@ -1,6 +1,6 @@
 -- Refinement by starts and cycles carries runs over; one refinement follows another; and where there are cycles, there are runs.
-use Rattle.std.specs.Prelude.{List, [], ◌∷◌, map}
-use Rattle.machine.specs.Machine.{Machine, Runs, stops, steps, IsRun, GivesCycle, GivesRun, Refines, reading}
+use Rattle.std.specs.Prelude.{List, [], ◌∷◌}
+use Rattle.machine.specs.Machine.{Machine, Runs, stops, steps, GivesCycle, GivesRun, Refines}
 
 module _ {I S O : Type 0} (low high : Machine I S O) (cycles : (x : I) (s : S) (output : O) (next : S) → low.HasCycle x s output next → high.HasCycle x s output next) where
   runs_on : {s : S} {xs : List I} {outputs : List O} {states : List S} → Runs low s xs outputs states → Runs high s xs outputs states
@@ -23,22 +23,6 @@ module _ {I S O : Type 0} (low middle high : Machine I S O) where
     cycles = λ x s output next cycle. second.cycles x s output next (first.cycles x s output next cycle);
     runs = λ xs outputs states run. second.runs xs outputs states (first.runs xs outputs states run);
   }
-
--- A machine whose inputs are read by a function from others has the runs of the machine under what is read.
-module _ {A B S O : Type 0} (read : A → B) (m : Machine B S O) where
-  runs_read : {s : S} {xs : List A} {outputs : List O} {states : List S} → Runs (reading read m) s xs outputs states → Runs m s (map read xs) outputs states
-  runs_read stops = stops
-  runs_read (steps x xs output next outputs states cycle rest) = steps (read x) (map read xs) output next outputs states cycle (runs_read rest)
-
-  runs_reading : (xs : List A) {s : S} {outputs : List O} {states : List S} → Runs m s (map read xs) outputs states → Runs (reading read m) s xs outputs states
-  runs_reading [] stops = stops
-  runs_reading (x ∷ xs) (steps y ys output next outputs states cycle rest) = steps x xs output next outputs states cycle (runs_reading xs rest)
-
-  pub run_read : (xs : List A) (outputs : List O) (states : List S) → IsRun (reading read m) xs outputs states → IsRun m (map read xs) outputs states
-  run_read xs outputs states run = record { start = run.start; starts = run.starts; runs = runs_read run.runs }
-
-  pub read_run : (xs : List A) (outputs : List O) (states : List S) → IsRun m (map read xs) outputs states → IsRun (reading read m) xs outputs states
-  read_run xs outputs states run = record { start = run.start; starts = run.starts; runs = runs_reading xs run.runs }
 
 -- A machine that has a cycle under any input from each state that has a property, which its next states have too, has a run under any inputs from such a start.
 module _ {I S O : Type 0} (m : Machine I S O) (Has : S → Type 0) (gives : (x : I) (s : S) → Has s → GivesCycle m x s)

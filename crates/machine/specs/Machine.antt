@@ -18,6 +18,11 @@ pub record IsRun {I S O : Type 0} (m : Machine I S O) (xs : List I) (outputs : L
   pub starts : m.IsStart start
   pub runs : Runs m start xs outputs states
 
+-- The same cycles by the state behind them.
+pub data Passes {I S O : Type 0} (m : Machine I S O) : S → List I → List O → S → Type 0 where
+  none : {s : S} → Passes m s [] [] s
+  more : {old new : S} {xs : List I} {outputs : List O} (x : I) (output : O) (mid : S) → m.HasCycle x old output mid → Passes m mid xs outputs new → Passes m old (x ∷ xs) (output ∷ outputs) new
+
 -- the state behind cycles, from the one before them and those after each
 abbrev pub end_of : {S : Type 0} → S → List S → S
 end_of s [] = s

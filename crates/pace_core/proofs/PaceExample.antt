@@ -4,6 +4,7 @@ use Rattle.list_laws.specs.Digits.{number}
 use Rattle.aig_core.specs.declared.lit.Kind.TheVariants.{Parameter}
 use Rattle.cover_pick.specs.declared.lut.Lut.{Lut}
 use Rattle.lut_sim.specs.Sources.{is_regular, source_value}
+use Rattle.machine.specs.Machine.{none, more}
 use Rattle.pace_core.specs.Pace.{PacerValue, asked, waited, cycled, IsPaced, ArePaced, steps, waits}
 
 -- one parameter p, and the bits p and not p
@@ -120,4 +121,8 @@ cycles = steps (record { right = conf_at_1; outputs = true ∷ []; states = []; 
 -- all of it, one after the other
 all_paced : ArePaced (machine false (false ∷ true ∷ []) false) (Ask (p_gets true) ∷ Tick (true ∷ []) ∷ Tick (true ∷ []) ∷ Tick (false ∷ []) ∷ [])
     (asked 2 ∷ waited (record { address = 0; bit = true } ∷ []) ∷ waited (record { address = 1; bit = false } ∷ []) ∷ cycled (true ∷ []) [] ∷ []) (machine true (true ∷ false ∷ []) true)
-all_paced = (machine true (false ∷ true ∷ []) false, asks_1, (machine true (true ∷ true ∷ []) false, waits_at_0 (true ∷ []), (machine true (true ∷ false ∷ []) false, waits_at_1 (true ∷ []), (machine true (true ∷ false ∷ []) true, cycles, refl))))
+all_paced =
+    more (Ask (p_gets true)) (asked 2) (machine true (false ∷ true ∷ []) false) asks_1
+    (more (Tick (true ∷ [])) (waited (record { address = 0; bit = true } ∷ [])) (machine true (true ∷ true ∷ []) false) (waits_at_0 (true ∷ []))
+    (more (Tick (true ∷ [])) (waited (record { address = 1; bit = false } ∷ [])) (machine true (true ∷ false ∷ []) false) (waits_at_1 (true ∷ []))
+    (more (Tick (false ∷ [])) (cycled (true ∷ []) []) (machine true (true ∷ false ∷ []) true) cycles none)))

@@ -1,6 +1,7 @@
 -- How long a change stalls the circuit, and what a device is behind by, once a wanted bit turns, or a mark is taken.
 use Rattle.pace_core.proofs.Common.{◌≡◌, ℕ, zero, suc, ◌+◌, ◌-◌, ◌*◌, ◌<◌, ◌≤◌, Bool, List, [], ◌∷◌, length, take, Some, slice_get, refl, sym, ap, ◌∙◌, subst, arith, none-some, same_Some, Write, written, length-written, PackValue, IsConf, differences, PaceValue, Ask, Tick, AreTicks, IsStall, IsCycled, HasStalls, ◌⊎◌, true, false, not, ◌++◌, map, replicate, slice_set, inl, inr, append-nil, append_assoc, filter, range_with_len, cases_Bool, false≢true, length-set, length-replicate, get_or-set_same, get_or-set_other, take_all, take_at, same_or, xor, config_bit, differs_at, write_of, none_marked, xor-same, xor-false, BacklogValue, IsBehind, with_write, IsCaughtUp, IsCatchingUp}
 use Rattle.std.proofs.Math.Nat.{suc-mul, zero-mul}
+use Rattle.machine.specs.Machine.{none, more}
 use Rattle.pace_core.specs.Pace.{PacerValue, Shown, IsTicked, steps, waits, ArePaced}
 use Rattle.pace_core.proofs.DifferenceLemmas.{no_own_differences, left_count, one_more, first_is, differing, length-differences, differences_few, differs_some, differs_nowhere, written_fails, written_agrees, wanted_agrees, written-append, xor-true}
 use Rattle.dirty_idx.specs.Marks.{is_marked, IsLeast, IsEmpty}
@@ -78,30 +79,26 @@ module _ (pack : PackValue) (params : List Bool) (rate : ℕ) (wanted : List Boo
       absurd (omega arith)
 
   -- the ticks of the numbers that are below what it is behind by wait
-  pub ticks_wait : (ticks : List PaceValue) (shown : List Shown) (pacer new : PacerValue) (behind : ℕ) → Stands pack params rate wanted pacer behind → AreTicks ticks → ArePaced pacer ticks shown new
+  pub ticks_wait : {ticks : List PaceValue} {shown : List Shown} (pacer : PacerValue) {new : PacerValue} (behind : ℕ) → Stands pack params rate wanted pacer behind → AreTicks ticks → ArePaced pacer ticks shown new
       → (i : ℕ) (one : Shown) → slice_get shown i ≡ Some one → i * rate < behind → IsStall rate one
-  ticks_wait [] [] pacer new behind stands ticks paced i one at below = absurd (none-some one at)
-  ticks_wait [] (first ∷ shown) pacer new behind stands ticks paced i one at below = elim paced [ ]
-  ticks_wait (Ask assigns ∷ events) shown pacer new behind stands ticks paced i one at below = elim ticks [ ]
-  ticks_wait (Tick values ∷ events) [] pacer new behind stands ticks paced i one at below = elim paced [ ]
-  ticks_wait (Tick values ∷ events) (first ∷ shown) pacer new behind stands ticks paced zero one at below =
-      subst (IsStall rate) (same_Some first one at) (tick_waits pacer paced.0 behind values first stands paced.1 (let z : 0 * rate ≡ 0 = zero-mul rate in omega arith))
-  ticks_wait (Tick values ∷ events) (first ∷ shown) pacer new behind stands ticks paced (suc i) one at below =
+  ticks_wait pacer behind stands ticks none i one at below = absurd (none-some one at)
+  ticks_wait pacer behind stands ticks (more (Ask assigns) first mid here rest) i one at below = elim ticks [ ]
+  ticks_wait pacer behind stands ticks (more (Tick values) first mid here rest) zero one at below =
+      subst (IsStall rate) (same_Some first one at) (tick_waits pacer mid behind values first stands here (let z : 0 * rate ≡ 0 = zero-mul rate in omega arith))
+  ticks_wait pacer behind stands ticks (more (Tick values) first mid here rest) (suc i) one at below =
       let n : suc i * rate ≡ i * rate + rate = suc-mul i rate in
-      ticks_wait events shown paced.0 new (behind - rate) (next_stands pacer paced.0 behind values first stands paced.1) ticks paced.2 i one at (omega arith)
+      ticks_wait mid (behind - rate) (next_stands pacer mid behind values first stands here) ticks rest i one at (omega arith)
 
   -- the later ones are cycles
-  pub ticks_cycle : (ticks : List PaceValue) (shown : List Shown) (pacer new : PacerValue) (behind : ℕ) → Stands pack params rate wanted pacer behind → AreTicks ticks → ArePaced pacer ticks shown new
+  pub ticks_cycle : {ticks : List PaceValue} {shown : List Shown} (pacer : PacerValue) {new : PacerValue} (behind : ℕ) → Stands pack params rate wanted pacer behind → AreTicks ticks → ArePaced pacer ticks shown new
       → (i : ℕ) (one : Shown) → slice_get shown i ≡ Some one → behind ≤ i * rate → IsCycled one
-  ticks_cycle [] [] pacer new behind stands ticks paced i one at past = absurd (none-some one at)
-  ticks_cycle [] (first ∷ shown) pacer new behind stands ticks paced i one at past = elim paced [ ]
-  ticks_cycle (Ask assigns ∷ events) shown pacer new behind stands ticks paced i one at past = elim ticks [ ]
-  ticks_cycle (Tick values ∷ events) [] pacer new behind stands ticks paced i one at past = elim paced [ ]
-  ticks_cycle (Tick values ∷ events) (first ∷ shown) pacer new behind stands ticks paced zero one at past =
-      subst IsCycled (same_Some first one at) (tick_cycles pacer paced.0 behind values first stands paced.1 (let z : 0 * rate ≡ 0 = zero-mul rate in omega arith))
-  ticks_cycle (Tick values ∷ events) (first ∷ shown) pacer new behind stands ticks paced (suc i) one at past =
+  ticks_cycle pacer behind stands ticks none i one at past = absurd (none-some one at)
+  ticks_cycle pacer behind stands ticks (more (Ask assigns) first mid here rest) i one at past = elim ticks [ ]
+  ticks_cycle pacer behind stands ticks (more (Tick values) first mid here rest) zero one at past =
+      subst IsCycled (same_Some first one at) (tick_cycles pacer mid behind values first stands here (let z : 0 * rate ≡ 0 = zero-mul rate in omega arith))
+  ticks_cycle pacer behind stands ticks (more (Tick values) first mid here rest) (suc i) one at past =
       let n : suc i * rate ≡ i * rate + rate = suc-mul i rate in
-      ticks_cycle events shown paced.0 new (behind - rate) (next_stands pacer paced.0 behind values first stands paced.1) ticks paced.2 i one at (omega arith)
+      ticks_cycle mid (behind - rate) (next_stands pacer mid behind values first stands here) ticks rest i one at (omega arith)
 
 -- so a change stalls the circuit
 pub has_stalls : (pacer : PacerValue) (wanted : List Bool) (behind : ℕ) → 1 ≤ pacer.rate → ((others : List Bool) → IsConf pacer.pack pacer.params others → others ≡ wanted)
@@ -109,8 +106,8 @@ pub has_stalls : (pacer : PacerValue) (wanted : List Bool) (behind : ℕ) → 1 
 has_stalls pacer wanted behind takes only same behind_by =
     let stands : Stands pacer.pack pacer.params pacer.rate wanted pacer behind = record { pack_is = refl; params_are = refl; rate_is = refl; same = same; behind_by = behind_by } in
     record {
-      stalls = λ ticks shown new are paced i one at below. ticks_wait pacer.pack pacer.params pacer.rate wanted takes only ticks shown pacer new behind stands are paced i one at below;
-      cycles = λ ticks shown new are paced i one at past. ticks_cycle pacer.pack pacer.params pacer.rate wanted takes only ticks shown pacer new behind stands are paced i one at past;
+      stalls = λ ticks shown new are paced i one at below. ticks_wait pacer.pack pacer.params pacer.rate wanted takes only pacer behind stands are paced i one at below;
+      cycles = λ ticks shown new are paced i one at past. ticks_cycle pacer.pack pacer.params pacer.rate wanted takes only pacer behind stands are paced i one at past;
     }
 
 -- a bit differs from the other one

@@ -3,7 +3,8 @@ use Rattle.tlut_cli.proofs.Common.{◌≡◌, ℕ, suc, List, ◌∷◌, length,
 use Rattle.std.specs.FinMap.{get}
 use Rattle.cmd_base.specs.Writing.{AreWritten}
 use Rattle.run_text.specs.Lines.{bits_header_line}
-use Rattle.cmd_stations.specs.Machine.{IsStart, machine_header, Stage, AreSteps, none, more, HasCome}
+use Rattle.machine.proofs.PassLemmas.{one_each}
+use Rattle.cmd_stations.specs.Machine.{IsStart, machine_header, script_machine, HasCome}
 use Rattle.cmd_stations.specs.Mapped.{template_header, ToTables}
 use Rattle.cmd_stations.specs.Packs.{present_bytes, pack_names}
 use Rattle.cmd_stations.specs.Script.{names_of}
@@ -11,11 +12,6 @@ use Rattle.cmd_stations.specs.Source.{IsSourceSettled, HasMapped}
 use Rattle.cmd_stations.proofs.RefusedLemmas.{settled_once, template_once}
 use Rattle.cmd_stations.proofs.ReplayLemmas.{file_same, pack_at, mapped_there, script_same, params_same}
 use Rattle.cmd_run.specs.Run.Ends.{HasRun}
-
--- a line stands for each event
-one_each : {old new : Stage} {events : List EventValue} {lines : List (List ℕ)} → AreSteps old events lines new → length lines ≡ length events
-one_each none = refl
-one_each (more event mid step rest) = ap suc (one_each rest)
 
 module _ (files : Files) (written : MapWords) (before after : Outside) (done : HasMap files written (λ texts line. AreWritten texts line before after)) (settled : IsSourceSettled ToTables files written.source) where
   same_lines : (first others : Files) (run : RunWords) (bits : BitsWords) → HaveTheSameSource files written first run → get others bits.pack ≡ Some (present_bytes done.pack) → get others bits.script ≡ get first run.script
@@ -36,7 +32,7 @@ module _ (files : Files) (written : MapWords) (before after : Outside) (done : H
       record {
         same = sym events;
         lines = r.ends.end.put.lines;
-        one_each = one_each r.ends.end.put.come.steps;
+        one_each = one_each script_machine r.ends.end.put.come.steps;
         put = subst (λ h. new.bytes ≡ extended old.bytes (concat (h ∷ r.ends.end.put.lines))) header r.ends.end.put.bytes;
         other_put = subst₂ (λ h ls. later.bytes ≡ extended other.bytes (concat (h ∷ ls))) other_header lines b.ends.put.bytes;
       }

@@ -1,5 +1,6 @@
 -- What the events of a script add up to: the writes of its changes, and the outputs of its cycles read as numbers.
-use Rattle.std.specs.Prelude.{ℕ, ◌+◌, ◌^◌, ◌≤◌, List, [], ◌∷◌, length}
+use Rattle.std.specs.Prelude.{◌≡◌, ℕ, ◌+◌, ◌^◌, ◌≤◌, List, length}
+use Rattle.machine.specs.Machine.{Machine, Passes}
 use Rattle.list_laws.specs.Digits.{number}
 use Rattle.run_text.specs.EventValue.{EventValue, Set, Cycle, Upset, Scrub, Image}
 use Rattle.run_core.specs.Events.{MachineValue, IsPlayed}
@@ -20,11 +21,23 @@ output_of (Upset address) m = 0
 output_of Scrub m = 0
 output_of Image m = 0
 
+-- a machine, and what its events added up to
+pub record Tally : Type 0 where
+  pub machine : MachineValue
+  pub writes : ℕ
+  pub total : ℕ
+
+-- the machine that adds up: in a cycle it plays an event
+abbrev pub tally_machine : Machine EventValue Tally (Unit {0})
+tally_machine = record {
+  IsStart = λ tally. tally.writes ≡ 0 × tally.total ≡ 0;
+  HasCycle = λ event old shown new. IsPlayed event old.machine new.machine × new.writes ≡ old.writes + writes_of event new.machine × new.total ≡ old.total + output_of event new.machine;
+}
+
 -- some events one after the other, and what they add up to
-pub data Totals : MachineValue → List EventValue → ℕ → ℕ → MachineValue → Type 0 where
-  none : {old : MachineValue} → Totals old [] 0 0 old
-  more : {old new : MachineValue} {events : List EventValue} {writes total : ℕ} (event : EventValue) (mid : MachineValue) → IsPlayed event old mid → Totals mid events writes total new
-      → Totals old (event ∷ events) (writes_of event mid + writes) (output_of event mid + total) new
+pub record Totals (old : MachineValue) (events : List EventValue) (writes total : ℕ) (new : MachineValue) : Type 0 where
+  pub shown : List (Unit {0})
+  pub passes : Passes tally_machine (record { machine = old; writes = 0; total = 0 }) events shown (record { machine = new; writes = writes; total = total })
 
 -- So few events of a machine with so few bits and outputs that what they add up to fits its types: 64 bits for the writes, and 128 for the outputs.
 pub record IsSmall (events : List EventValue) (m : MachineValue) : Type 0 where

@@ -2,6 +2,7 @@
 use Rattle.std.specs.Prelude.{◌≡◌, ℕ, Bool, List, [], ◌∷◌, Ok}
 use Rattle.std.specs.List.{concat}
 use Rattle.list_laws.specs.Members.{In}
+use Rattle.machine.specs.Machine.{Machine, Passes}
 use Rattle.tl_io.specs.Assigns.{assigned}
 use Rattle.tl_io.specs.Content.{extended}
 use Rattle.tl_io.specs.Shelf.{Files}
@@ -82,12 +83,6 @@ module _ (source : Source) (g : Aig) (template : TemplateValue) where
   Shows Scrub old line new = ShowsScrub old line new
   Shows Image old line new = ShowsImage old line new
 
-  -- some events one after the other, with their lines
-  pub data ShowAll : ShownSource → List EventValue → List (List ℕ) → ShownSource → Type 0 where
-    none : {old : ShownSource} → ShowAll old [] [] old
-    more : {old new : ShownSource} {events : List EventValue} {lines : List (List ℕ)} (event : EventValue) (line : List ℕ) (mid : ShownSource) → Shows event old line mid → ShowAll mid events lines new
-        → ShowAll old (event ∷ events) (line ∷ lines) new
-
   -- the parameters' listed values, the latches' inits, and the ports with the configuration specialised from scratch for these values
   pub record IsShownFirst (ports : BankSeen) (first : ShownSource) : Type 0 where
     pub params : first.params ≡ param_inits source.params.list
@@ -95,6 +90,13 @@ module _ (source : Source) (g : Aig) (template : TemplateValue) where
     pub config : List Bool
     pub is : IsConfiguration g template.luts (param_inits source.params.list) config
     pub load : Plays config (writes_from 0 config) ports first.bank (Ok tt)
+
+  -- the machine that a script shows of the source circuit, and some events one after the other, with their lines
+  abbrev pub shown_machine : Machine EventValue ShownSource (List ℕ)
+  shown_machine = record { IsStart = λ first. (ports : BankSeen) × IsShownFirst ports first; HasCycle = Shows }
+
+  abbrev pub ShowAll : ShownSource → List EventValue → List (List ℕ) → ShownSource → Type 0
+  ShowAll = Passes shown_machine
 
 -- the lines of a script without upsets, and the ports behind it
 pub record ShowsSource (source : Source) (g : Aig) (template : TemplateValue) (events : List EventValue) (lines : List (List ℕ)) (ports last : BankSeen) : Type 0 where

@@ -1,11 +1,11 @@
-use Rattle.cmd_run.proofs.Common.{◌≡◌, List, take, refl, sym, ◌∙◌, subst, take_all, Event, event_value, event_values, FitsPack, FitsShape, Totals, none, more_by}
+use Rattle.cmd_run.proofs.Common.{◌≡◌, List, [], take, refl, sym, ◌∙◌, subst, take_all, Event, event_value, event_values, FitsPack, FitsShape, Totals, none, more_by}
 use Rattle.cmd_run.proofs.GenLemmas.{total_more}
 use Rattle.cmd_run.proofs.PlayLemmas.{still_fits}
 use Rattle.cmd_run.proofs.TotalLemmas.{next_fits}
 use Rattle.cmd_run.proofs.gen_command.play.play_with.Goals as goal
 
 pub loop-event-init : goal.loop-event-init
-loop-event-init g c = record { pack = refl; shape = refl; totals = none }
+loop-event-init g c = record { pack = refl; shape = refl; totals = record { shown = []; passes = none } }
 
 pub play-requires-clause-pack : goal.play-requires-clause-pack
 play-requires-clause-pack g c = still_fits c.args.events.now c.loop-event.event-index c.event-item.result c.loop-event-test.true c.event-item.is FitsPack c.loop-event.invariant.pack c.requires.can_play.pack
