@@ -5,7 +5,7 @@ pub use Rattle.std.proofs.lemmas.List.Elements.{All-head, All-tail, All-take, Al
 pub use Rattle.std.proofs.lemmas.Option.{slice_get_read, none-some, same_Some, slice_get_within, slice_get-map, get_or_from_slice_get, unwrap_or-slice_get}
 pub use Rattle.std.specs.Option.{option_map, option_and_then}
 pub use Rattle.std.specs.Prelude.{slice_get, unwrap_or, IsSome}
-pub use Rattle.aig_build.specs.Words.{Aig, AreNormal, IsLit, first_and, complement, Answer, product_of, and_of, with_pairs, RootsValue, lits_of, roots_of, AreRoots, value_of, FitsGraph, Kind, Regular, Parameter, Lit, Pair, RowValue, CoverValue, allows, matches, some_row, cover_value, cover_behind, net_value, gate_value, evaluated, flat_values, FlatCoverValue, FlatValue, LibraryValue, ModelValue, Cell, Zero, One, Any, FlatLatch, Net, Input, Latch, Cover, OutPort, param_names, regular_names, AreParameters, ParamsValue, Param}
+pub use Rattle.aig_build.specs.Words.{Aig, AreNormal, IsLit, first_and, complement, Answer, product_of, and_of, with_pairs, RootsValue, lits_of, roots_of, AreRoots, value_of, FitsGraph, Kind, Regular, Parameter, Lit, Pair, RowValue, CoverValue, allows, matches, some_row, cover_value, cover_behind, net_value, gate_value, evaluated, flat_values, FlatCoverValue, FlatValue, LibraryValue, ModelValue, Cell, Zero, One, Any, FlatLatch, FlatNet, Input, Latch, Cover, OutPort, param_names, regular_names, AreParameters, ParamsValue, Param}
 pub use Rattle.aig_core.proofs.GrowthLemmas.{Extends, Extends-trans, and_again, and_grows, Extends-refl, length-Extends}
 pub use Rattle.aig_core.proofs.ProductLemmas.{AreBase, Makes, Makes-and, Makes-literal, Makes-one, value_of-more, product, AreBase-sources, Makes-complement, Makes-weaker, value_of-complement, complement-below, not-not, Makes-fits, value_of-even}
 pub use Rattle.aig_core.proofs.ValueLemmas.{values_from, values_of, values_old}

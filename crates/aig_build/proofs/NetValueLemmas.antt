@@ -1,6 +1,6 @@
 -- Whatever values fit the graph, the literal of each net has the value that evaluating the flat circuit in its order gives the net; and each net has a
 -- literal of the graph, before a cover is made and after it.
-use Rattle.aig_build.proofs.Common.{◌≡◌, ℕ, zero, suc, ◌+◌, ◌*◌, ◌<◌, ◌≤◌, Bool, false, List, [], ◌∷◌, length, map, replicate, get_or, Option, Some, None, refl, sym, ap, ap₂, ◌∙◌, subst, inl, inr, arith, slice_set, slice_get, unwrap_or, option_map, option_and_then, All-nil, All-cons, All-head, All-tail, All-get_or, All-set, All-replicate, none-some, same_Some, slice_get_within, slice_get-map, get_or_from_slice_get, In, In-get, at_within, get_left, get_right, RowValue, CoverValue, cover_value, ModelValue, LibraryValue, IsWellFormedBody, IsWellFormed, Net, Input, Latch, Cover, FlatCoverValue, FlatValue, input_values, body_at, IsThere, IsWithinBounds, cover_behind, net_value, gate_value, evaluated, flat_values, Param, Kind, Lit, Pair, AreNormal, Answer, value_of, Extends, AreBase, Makes, value_of-even, value_of-more, values_from, values_old, cover_made, input_names, source_kinds, IsSourceLiteral, an_input, a_latch, source_values, NetLitsValue, no_lit, net_lit, net_lits, Built, gate_made, with_gate, walked, drop, drop-cons, slice_get_read, set_length, Aig, IsLit, first_and, with_pairs, length-Extends, cover_of, with_cover, behind_made, gate_of, order_of, IsHeld, HoldsNets, length-map, length-replicate, length-append, map-set, All}
+use Rattle.aig_build.proofs.Common.{◌≡◌, ℕ, zero, suc, ◌+◌, ◌*◌, ◌<◌, ◌≤◌, Bool, false, List, [], ◌∷◌, length, map, replicate, get_or, Option, Some, None, refl, sym, ap, ap₂, ◌∙◌, subst, inl, inr, arith, slice_set, slice_get, unwrap_or, option_map, option_and_then, All-nil, All-cons, All-head, All-tail, All-get_or, All-set, All-replicate, none-some, same_Some, slice_get_within, slice_get-map, get_or_from_slice_get, In, In-get, at_within, get_left, get_right, RowValue, CoverValue, cover_value, ModelValue, LibraryValue, IsWellFormedBody, IsWellFormed, FlatNet, Input, Latch, Cover, FlatCoverValue, FlatValue, input_values, body_at, IsThere, IsWithinBounds, cover_behind, net_value, gate_value, evaluated, flat_values, Param, Kind, Lit, Pair, AreNormal, Answer, value_of, Extends, AreBase, Makes, value_of-even, value_of-more, values_from, values_old, cover_made, input_names, source_kinds, IsSourceLiteral, an_input, a_latch, source_values, NetLitsValue, no_lit, net_lit, net_lits, Built, gate_made, with_gate, walked, drop, drop-cons, slice_get_read, set_length, Aig, IsLit, first_and, with_pairs, length-Extends, cover_of, with_cover, behind_made, gate_of, order_of, IsHeld, HoldsNets, length-map, length-replicate, length-append, map-set, All}
 use Rattle.netlist.specs.declared.command.Body.{Body}
 use Rattle.netlist.specs.declared.command.Body.TheVariants.{Cover as CoverBody}
 use Rattle.netlist.specs.declared.command.Command.{Command}
@@ -59,7 +59,7 @@ module _ (library : LibraryValue) (flat : FlatValue) (params : List Param) (form
   source_count = omega (arith, length-append {A = Kind}, length-append {A = List ℕ}, length-replicate {A = Kind}, length-map params (λ (q : Param). q.name))
 
   -- a source's literal is one of every graph over the sources
-  pub source_below : (net : Net) (lit : ℕ) (ps : List Pair) → IsThere flat net → IsSourceLiteral flat params net lit → lit < 2 * (first + length ps)
+  pub source_below : (net : FlatNet) (lit : ℕ) (ps : List Pair) → IsThere flat net → IsSourceLiteral flat params net lit → lit < 2 * (first + length ps)
   source_below net lit ps there (an_input i place name e g h l) =
       let n : length (source_kinds flat params) ≡ length (input_names flat params) + length flat.latches = source_count in
       omega (arith, slice_get_within (input_names flat params) place name h)
@@ -68,12 +68,12 @@ module _ (library : LibraryValue) (flat : FlatValue) (params : List Param) (form
       let n : length (source_kinds flat params) ≡ length (input_names flat params) + length flat.latches = source_count in
       omega arith
 
-  pub net_below : (b : Built) → AreSourced flat params b.nets → AreBelow first b.pairs (b.nets).covers → (net : Net) → IsThere flat net → IsBelow first b.pairs (net_lit b.nets net)
+  pub net_below : (b : Built) → AreSourced flat params b.nets → AreBelow first b.pairs (b.nets).covers → (net : FlatNet) → IsThere flat net → IsBelow first b.pairs (net_lit b.nets net)
   net_below b sourced below (Input i) there = source_below (Input i) (net_lit b.nets (Input i)).0 b.pairs there (sourced.inputs i there)
   net_below b sourced below (Latch j) there = source_below (Latch j) (net_lit b.nets (Latch j)).0 b.pairs there (sourced.latches j)
   net_below b sourced below (Cover k) there = below_or_zero first b.pairs (b.nets).covers k (slice_get (b.nets).covers k) (omega arith) refl below
 
-  pub nets_below : (b : Built) → AreSourced flat params b.nets → AreBelow first b.pairs (b.nets).covers → (nets : List Net) → ((net : Net) → In nets net → IsThere flat net) → AreBelow first b.pairs (net_lits b.nets nets)
+  pub nets_below : (b : Built) → AreSourced flat params b.nets → AreBelow first b.pairs (b.nets).covers → (nets : List FlatNet) → ((net : FlatNet) → In nets net → IsThere flat net) → AreBelow first b.pairs (net_lits b.nets nets)
   nets_below b sourced below [] there = All-nil (IsBelow first b.pairs)
   nets_below b sourced below (net ∷ nets) there =
       All-cons (IsBelow first b.pairs) (net_lit b.nets net) (net_lits b.nets nets) (net_below b sourced below net (there net (inl refl))) (nets_below b sourced below nets (λ n i. there n (inr i)))
@@ -100,7 +100,7 @@ module _ (library : LibraryValue) (flat : FlatValue) (params : List Param) (form
         let w : place < length given = slice_get_within given place b at in
         value_of-even (values_from base ps) lit (suc place) (omega arith) ∙ values_old base ps (suc place) (omega arith) ∙ get_or_from_slice_get given place b false at
 
-    source_value : (ps : List Pair) (values : List Bool) (net : Net) (lit : ℕ) → IsThere flat net → IsSourceLiteral flat params net lit → value_of (values_from base ps) lit ≡ net_value xs s values net
+    source_value : (ps : List Pair) (values : List Bool) (net : FlatNet) (lit : ℕ) → IsThere flat net → IsSourceLiteral flat params net lit → value_of (values_from base ps) lit ≡ net_value xs s values net
     source_value ps values net lit there (an_input i place name e g h l) =
         let at : slice_get given place ≡ Some (x name) = get_left (map x (input_names flat params)) s place (x name) (slice_get-map x (input_names flat params) place ∙ ap (option_map x) h) in
         let value : net_value xs s values (Input i) ≡ x name = ap (λ o. unwrap_or o false) (slice_get-map x flat.inputs i ∙ ap (option_map x) g) in
@@ -123,14 +123,14 @@ module _ (library : LibraryValue) (flat : FlatValue) (params : List Param) (form
       pub below : AreBelow first b.pairs (b.nets).covers
       pub agree : map (lit_value b.pairs) (b.nets).covers ≡ values
 
-    pub net_right : (b : Built) (values : List Bool) → IsRight b values → (net : Net) → IsThere flat net → lit_value b.pairs (net_lit b.nets net) ≡ net_value xs s values net
+    pub net_right : (b : Built) (values : List Bool) → IsRight b values → (net : FlatNet) → IsThere flat net → lit_value b.pairs (net_lit b.nets net) ≡ net_value xs s values net
     net_right b values right (Input i) there = source_value b.pairs values (Input i) (net_lit b.nets (Input i)).0 there ((right.sourced).inputs i there)
     net_right b values right (Latch j) there = source_value b.pairs values (Latch j) (net_lit b.nets (Latch j)).0 there ((right.sourced).latches j)
     net_right b values right (Cover k) there =
         at_or_zero (lit_value b.pairs) (slice_get (b.nets).covers k) (zero_value first base b.pairs (omega arith) are_base)
         ∙ ap (λ o. unwrap_or o false) (sym (slice_get-map (lit_value b.pairs) (b.nets).covers k)) ∙ ap (λ vs. unwrap_or (slice_get vs k) false) right.agree
 
-    nets_right : (b : Built) (values : List Bool) → IsRight b values → (nets : List Net) → ((net : Net) → In nets net → IsThere flat net) → values_at (net_lits b.nets nets) (values_from base b.pairs) ≡ map (net_value xs s values) nets
+    nets_right : (b : Built) (values : List Bool) → IsRight b values → (nets : List FlatNet) → ((net : FlatNet) → In nets net → IsThere flat net) → values_at (net_lits b.nets nets) (values_from base b.pairs) ≡ map (net_value xs s values) nets
     nets_right b values right [] there = refl
     nets_right b values right (net ∷ nets) there = ap₂ (λ (v : Bool) (vs : List Bool). v ∷ vs) (net_right b values right net (there net (inl refl))) (nets_right b values right nets (λ n i. there n (inr i)))
 
@@ -147,7 +147,7 @@ module _ (library : LibraryValue) (flat : FlatValue) (params : List Param) (form
     gate_right b values k l right =
         let i : IsBehind library flat params bounds k = behind_at library flat params bounds k l in
         let lits : List Lit = net_lits b.nets (i.c).inputs in
-        let there : (net : Net) → In (i.c).inputs net → IsThere flat net = λ net j. bounds.cover_nets k i.c net i.at j in
+        let there : (net : FlatNet) → In (i.c).inputs net → IsThere flat net = λ net j. bounds.cover_nets k i.c net i.at j in
         let below : AreBelow first b.pairs lits = nets_below b right.sourced right.below (i.c).inputs there in
         let made : Answer = cover_made first b.pairs i.cover lits in
         let m : Makes first b.pairs (λ vs. cover_value i.cover (values_at lits vs)) made =
@@ -183,17 +183,17 @@ module _ (library : LibraryValue) (flat : FlatValue) (params : List Param) (form
     flat_right nets sourced none = walked_right flat.order (record { pairs = []; nets = nets }) (replicate (length flat.covers) false) (λ k i. bounds.order_there k i) (start_right nets sourced none)
 
 module _ (flat : FlatValue) (g : Aig) (nets : NetLitsValue) (holds : HoldsNets flat g nets) where
-  pub held : (net : Net) → IsThere flat net → IsHeld nets net
+  pub held : (net : FlatNet) → IsThere flat net → IsHeld nets net
   held (Input i) there = let n : length nets.inputs ≡ length flat.inputs = holds.inputs in let l : i < length flat.inputs = there in omega arith
   held (Latch j) there = let n : nets.latches + length flat.latches ≤ first_and g = holds.latches in let s = holds.small in let l : j < length flat.latches = there in omega (arith, holds.small)
   held (Cover k) there = let n : length nets.covers ≡ length flat.covers = holds.covers in let l : k < length flat.covers = there in omega arith
 
-  pub held_lit : (net : Net) → IsThere flat net → IsLit g (net_lit nets net).0
+  pub held_lit : (net : FlatNet) → IsThere flat net → IsLit g (net_lit nets net).0
   held_lit (Input i) there = below_or_zero (first_and g) g.pairs nets.inputs i (slice_get nets.inputs i) (omega arith) refl holds.input_lits
   held_lit (Latch j) there = let n : nets.latches + length flat.latches ≤ first_and g = holds.latches in let l : j < length flat.latches = there in omega arith
   held_lit (Cover k) there = below_or_zero (first_and g) g.pairs nets.covers k (slice_get nets.covers k) (omega arith) refl holds.cover_lits
 
-  pub held_lits : (ns : List Net) → ((net : Net) → In ns net → IsThere flat net) → All (λ (lit : Lit). IsLit g lit.0) (net_lits nets ns)
+  pub held_lits : (ns : List FlatNet) → ((net : FlatNet) → In ns net → IsThere flat net) → All (λ (lit : Lit). IsLit g lit.0) (net_lits nets ns)
   held_lits [] there = All-nil (λ (lit : Lit). IsLit g lit.0)
   held_lits (net ∷ ns) there = All-cons (λ (lit : Lit). IsLit g lit.0) (net_lit nets net) (net_lits nets ns) (held_lit net (there net (inl refl))) (held_lits ns (λ n i. there n (inr i)))
 

@@ -1,6 +1,6 @@
 -- A worked example: the multiplexer `.names p a b y` with the rows `11- 1` and `0-1 1`, over the inputs a, b and p, of which p is the parameter. Its nodes are 4 = a · p, 5 = b · not p and
 -- 6 = not 4 · not 5, and its root is the complement of node 6, the literal 13.
-use Rattle.aig_build.proofs.Common.{◌≡◌, ℕ, true, false, List, [], ◌∷◌, codes, None, refl, Zero, One, Any, CoverValue, LibraryValue, Net, Input, Cover, FlatCoverValue, FlatValue, Param, Regular, Parameter, Lit, Aig, RootsValue, Literals}
+use Rattle.aig_build.proofs.Common.{◌≡◌, ℕ, true, false, List, [], ◌∷◌, codes, None, refl, Zero, One, Any, CoverValue, LibraryValue, FlatNet, Input, Cover, FlatCoverValue, FlatValue, Param, Regular, Parameter, Lit, Aig, RootsValue, Literals}
 use Rattle.netlist.specs.declared.command.Body.TheVariants.{Cover as CoverBody}
 use Rattle.aig_core.proofs.ValueExample.{pair}
 use Rattle.aig_build.specs.NetlistGraph.{source_kinds, input_names, IsSourceLiteral, an_input, Makes, a_source, a_cover, MakesAll, none, more, AreRootsMade, IsGraphOf}
@@ -49,7 +49,7 @@ kinds = refl
 abbrev lit : ℕ → Lit
 lit n = record { 0 = n }
 
-source : (net : Net) (n : ℕ) → IsSourceLiteral circuit params net n → Makes library circuit params [] net (record { pairs = []; lit = n })
+source : (net : FlatNet) (n : ℕ) → IsSourceLiteral circuit params net n → Makes library circuit params [] net (record { pairs = []; lit = n })
 source net n is = a_source n is refl
 
 inputs : MakesAll library circuit params [] flat_choice.inputs (record { pairs = []; lits = lit 6 ∷ lit 2 ∷ lit 4 ∷ [] })

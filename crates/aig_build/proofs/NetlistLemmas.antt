@@ -1,10 +1,10 @@
 -- The graph that the code makes of a flat circuit is its graph, and its roots have the outputs and the next states of a clock cycle.
-use Rattle.aig_build.proofs.Common.{◌≡◌, ℕ, ◌+◌, ◌<◌, ◌≤◌, Bool, false, List, [], ◌∷◌, ◌++◌, length, map, reverse, replicate, refl, sym, ap, ap₂, ◌∙◌, subst, subst₂, inl, inr, arith, All-from_get_or, All-replicate, unwrap_or-slice_get, In, In-append, place_in, from_map, LibraryValue, IsWellFormed, Net, Input, Cover, OutPort, FlatLatch, FlatValue, cover_numbers, reads_at, PostsAll, IsThere, IsWithinBounds, net_value, flat_values, flat_outputs, flat_next, input_values, HasCycles, Param, AreParameters, Lit, Aig, IsLit, with_pairs, RootsValue, lits_of, roots_of, AreRoots, value_of, FitsGraph, Literals, input_names, source_kinds, root_nets, MakesAll, IsGraphOf, HasTooManyNodes, source_values, literal_values, IsGraphCycle, graph_machine, HasSourceCycles, NetLitsValue, no_lit, net_lit, net_lits, Built, marks_of, regular_lits, regular_next, start_nets, source_aig, order_of, root_lits, HoldsNets, length-map, length-replicate, length-append, map-append}
+use Rattle.aig_build.proofs.Common.{◌≡◌, ℕ, ◌+◌, ◌<◌, ◌≤◌, Bool, false, List, [], ◌∷◌, ◌++◌, length, map, reverse, replicate, refl, sym, ap, ap₂, ◌∙◌, subst, subst₂, inl, inr, arith, All-from_get_or, All-replicate, unwrap_or-slice_get, In, In-append, place_in, from_map, LibraryValue, IsWellFormed, FlatNet, Input, Cover, OutPort, FlatLatch, FlatValue, cover_numbers, reads_at, PostsAll, IsThere, IsWithinBounds, net_value, flat_values, flat_outputs, flat_next, input_values, HasCycles, Param, AreParameters, Lit, Aig, IsLit, with_pairs, RootsValue, lits_of, roots_of, AreRoots, value_of, FitsGraph, Literals, input_names, source_kinds, root_nets, MakesAll, IsGraphOf, HasTooManyNodes, source_values, literal_values, IsGraphCycle, graph_machine, HasSourceCycles, NetLitsValue, no_lit, net_lit, net_lits, Built, marks_of, regular_lits, regular_next, start_nets, source_aig, order_of, root_lits, HoldsNets, length-map, length-replicate, length-append, map-append}
 use Rattle.std.proofs.lemmas.Simd.{map-map}
 use Rattle.netlist.specs.Flattened.{HasValues}
 use Rattle.netlist.specs.FlatCycle.{IsFlatCycle, flat_machine}
 use Rattle.netlist.specs.Runs.{library_machine}
-use Rattle.machine.specs.Machine.{Machine, reading}
+use Rattle.machine.specs.Machine.{MealyMachine, reading}
 use Rattle.machine.proofs.RefineLemmas.{refines_by, refines_on}
 use Rattle.aig_core.proofs.ValueLemmas.{values_of}
 use Rattle.aig_core.proofs.FitLemmas.{is_values_of, fits_values_of}
@@ -13,7 +13,7 @@ use Rattle.aig_build.proofs.SourceLemmas.{length-marked, length-regular, length-
 use Rattle.aig_build.proofs.NetValueLemmas.{source_count, source_below, IsRight, net_right, flat_right, held_lit}
 
 -- the covers among joined nets
-numbers-append : (xs ys : List Net) → cover_numbers (xs ++ ys) ≡ cover_numbers xs ++ cover_numbers ys
+numbers-append : (xs ys : List FlatNet) → cover_numbers (xs ++ ys) ≡ cover_numbers xs ++ cover_numbers ys
 numbers-append [] ys = refl
 numbers-append (Cover k ∷ xs) ys = ap (λ l. k ∷ l) (numbers-append xs ys)
 numbers-append (Input i ∷ xs) ys = numbers-append xs ys
@@ -27,7 +27,7 @@ module _ (library : LibraryValue) (flat : FlatValue) (bounds : IsWithinBounds li
   pub latch_there : (l : FlatLatch) → In flat.latches l → IsThere flat l.input
   latch_there l i = let p = place_in flat.latches l i in bounds.latch_nets p.0 l p.1
 
-  roots_there : (net : Net) → In (root_nets flat) net → IsThere flat net
+  roots_there : (net : FlatNet) → In (root_nets flat) net → IsThere flat net
   roots_there net i = elim (In-append (map (λ (o : OutPort). o.net) flat.outputs) (map (λ (l : FlatLatch). l.input) flat.latches) net i) [
     | inl j ↦ (let r = from_map (λ (o : OutPort). o.net) flat.outputs net j in subst (IsThere flat) (sym r.2) (output_there r.0 r.1))
     | inr j ↦ (let r = from_map (λ (l : FlatLatch). l.input) flat.latches net j in subst (IsThere flat) (sym r.2) (latch_there r.0 r.1))
@@ -45,7 +45,7 @@ module _ (library : LibraryValue) (flat : FlatValue) (bounds : IsWithinBounds li
   ]
 
 -- a list of literals has the values of the nets that they are made for
-values_of_lits : {A : Type 0} (values : List Bool) (nets : NetLitsValue) (x s evaluated : List Bool) (net : A → Net) (items : List A)
+values_of_lits : {A : Type 0} (values : List Bool) (nets : NetLitsValue) (x s evaluated : List Bool) (net : A → FlatNet) (items : List A)
     → ((a : A) → In items a → value_of values (net_lit nets (net a)).0 ≡ net_value x s evaluated (net a)) → literal_values values (map (λ (a : A). net_lit nets (net a)) items) ≡ map (λ (a : A). net_value x s evaluated (net a)) items
 values_of_lits values nets x s evaluated net [] each = refl
 values_of_lits values nets x s evaluated net (a ∷ items) each = ap₂ (λ (v : Bool) (vs : List Bool). v ∷ vs) (each a (inl refl)) (values_of_lits values nets x s evaluated net items (λ b i. each b (inr i)))
@@ -101,8 +101,8 @@ module _ (library : LibraryValue) (flat : FlatValue) (params : List Param) (most
 
     pub is_graph : (g : Aig) (roots : RootsValue) → g ≡ with_pairs g0 final.pairs → roots ≡ root_lits flat final.nets → IsGraphOf library flat params most g roots
     is_graph g roots same same_roots =
-        let os : List Net = map (λ (o : OutPort). o.net) flat.outputs in
-        let ls : List Net = map (λ (l : FlatLatch). l.input) flat.latches in
+        let os : List FlatNet = map (λ (o : OutPort). o.net) flat.outputs in
+        let ls : List FlatNet = map (λ (l : FlatLatch). l.input) flat.latches in
         let a : (root_lits flat final.nets).outputs ≡ net_lits final.nets os = sym (map-map (net_lit final.nets) (λ (o : OutPort). o.net) flat.outputs) in
         let b : (root_lits flat final.nets).next ≡ net_lits final.nets ls = sym (map-map (net_lit final.nets) (λ (l : FlatLatch). l.input) flat.latches) in
         record {
@@ -139,7 +139,7 @@ module _ (library : LibraryValue) (flat : FlatValue) (params : List Param) (most
 
     -- whatever values fit, the roots are the flat circuit's
     module _ (values : List Bool) (fits : FitsGraph graph sources values) where
-      net_values : (net : Net) → IsThere flat net → value_of values (net_lit final.nets net).0 ≡ net_value (input_values flat x) s evaluated net
+      net_values : (net : FlatNet) → IsThere flat net → value_of values (net_lit final.nets net).0 ≡ net_value (input_values flat x) s evaluated net
       net_values net there =
           ap (λ vs. value_of vs (net_lit final.nets net).0) (is_values_of graph sources values right.normal fits)
           ∙ net_right library flat params formed bounds x s states final evaluated right net there
@@ -166,8 +166,8 @@ module _ (library : LibraryValue) (flat : FlatValue) (params : List Param) (most
 
   pub has_cycles : HasCycles library flat → (g : Aig) (roots : RootsValue) → g ≡ graph → roots ≡ graph_roots → HasSourceCycles library flat params g roots
   has_cycles cycles g roots same same_roots =
-      let own : Machine (List ℕ → Bool) (List Bool) (List Bool) = graph_machine flat params graph graph_roots in
-      let flattened : Machine (List ℕ → Bool) (List Bool) (List Bool) = reading (input_values flat) (flat_machine library flat) in
+      let own : MealyMachine (List ℕ → Bool) (List Bool) (List Bool) = graph_machine flat params graph graph_roots in
+      let flattened : MealyMachine (List ℕ → Bool) (List Bool) (List Bool) = reading (input_values flat) (flat_machine library flat) in
       subst₂ (HasSourceCycles library flat params) (sym same) (sym same_roots) (record {
         agrees = record {
           forth = refines_on own flattened (library_machine library) (refines_by own flattened flat_cycle (λ s e. e)) (cycles.agrees).back;

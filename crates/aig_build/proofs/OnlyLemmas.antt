@@ -1,6 +1,6 @@
 -- The nodes of products, rows and covers are those that the functions give, and no others; so the signals made again at every use are one list of nodes
 -- and literals.
-use Rattle.aig_build.proofs.Common.{◌≡◌, ℕ, zero, suc, ◌≤◌, cond, List, [], ◌∷◌, length, refl, sym, ap, ◌∙◌, arith, RowValue, CoverValue, Lit, Pair, complement, Answer, product_of, front_half, back_half, balanced_and, row_literals, Literals, row_made, rows_made, cover_made, ◌+◌, ◌*◌, Some, subst, slice_get, same_Some, LibraryValue, Net, Input, Latch, Cover, FlatCoverValue, FlatValue, cover_behind, AreApart, apart_once, Param}
+use Rattle.aig_build.proofs.Common.{◌≡◌, ℕ, zero, suc, ◌≤◌, cond, List, [], ◌∷◌, length, refl, sym, ap, ◌∙◌, arith, RowValue, CoverValue, Lit, Pair, complement, Answer, product_of, front_half, back_half, balanced_and, row_literals, Literals, row_made, rows_made, cover_made, ◌+◌, ◌*◌, Some, subst, slice_get, same_Some, LibraryValue, FlatNet, Input, Latch, Cover, FlatCoverValue, FlatValue, cover_behind, AreApart, apart_once, Param}
 use Rattle.aig_build.specs.CoverNodes.{IsBalanced, none as no_literal, one as one_literal, halves, AreRows, no_row, a_row, IsCoverMade}
 use Rattle.aig_build.proofs.BalancedLemmas.{balanced_and-halves, front_half-shorter, back_half-shorter}
 use Rattle.aig_build.specs.NetlistGraph.{input_names, source_kinds, IsSourceLiteral, an_input, a_latch, Makes, a_source, a_cover, MakesAll, none, more, HasOneGraph}
@@ -62,7 +62,7 @@ module _ (library : LibraryValue) (flat : FlatValue) (params : List Param) (apar
   abbrev first : ℕ
   first = 1 + length (source_kinds flat params)
 
-  source_only : {net : Net} {a b : ℕ} → IsSourceLiteral flat params net a → IsSourceLiteral flat params net b → a ≡ b
+  source_only : {net : FlatNet} {a b : ℕ} → IsSourceLiteral flat params net a → IsSourceLiteral flat params net b → a ≡ b
   source_only (an_input i p name e g h l) (an_input j q other f k m n) =
       let nets : Input i ≡ Input j = sym e ∙ f in
       let same : i ≡ j = cc in
@@ -76,12 +76,12 @@ module _ (library : LibraryValue) (flat : FlatValue) (params : List Param) (apar
       let same : i ≡ j = cc in
       l ∙ ap (λ x. 2 * (1 + (length (input_names flat params) + x))) same ∙ sym n
 
-  no_cover : {net : Net} {a : ℕ} → IsSourceLiteral flat params net a → (k : ℕ) → net ≡ Cover k → ⊥
+  no_cover : {net : FlatNet} {a : ℕ} → IsSourceLiteral flat params net a → (k : ℕ) → net ≡ Cover k → ⊥
   no_cover (an_input i p name e g h l) k q = let nets : Input i ≡ Cover k = sym e ∙ q in absurd (cc)
   no_cover (a_latch i e l) k q = let nets : Latch i ≡ Cover k = sym e ∙ q in absurd (cc)
 
   mutual
-    makes_only : {ps : List Pair} {net : Net} {a b : Answer} → Makes library flat params ps net a → Makes library flat params ps net b → a ≡ b
+    makes_only : {ps : List Pair} {net : FlatNet} {a b : Answer} → Makes library flat params ps net a → Makes library flat params ps net b → a ≡ b
     makes_only {ps} (a_source l s e) (a_source m t f) = e ∙ ap (λ (x : ℕ). let r : Answer = record { pairs = ps; lit = x } in r) (source_only s t) ∙ sym f
     makes_only (a_source l s e) (a_cover k c cover inputs q at behind all f) = absurd (no_cover s k q)
     makes_only (a_cover k c cover inputs q at behind all f) (a_source l s e) = absurd (no_cover s k q)
@@ -94,7 +94,7 @@ module _ (library : LibraryValue) (flat : FlatValue) (params : List Param) (apar
         cover_only first inputs.pairs cover inputs.lits a e ∙ ap (λ (x : CoverValue). cover_made first inputs.pairs x inputs.lits) covers
         ∙ ap (λ (x : Literals). cover_made first x.pairs other x.lits) made ∙ sym (cover_only first lits.pairs other lits.lits b f)
 
-    all_only : {ps : List Pair} {nets : List Net} {a b : Literals} → MakesAll library flat params ps nets a → MakesAll library flat params ps nets b → a ≡ b
+    all_only : {ps : List Pair} {nets : List FlatNet} {a b : Literals} → MakesAll library flat params ps nets a → MakesAll library flat params ps nets b → a ≡ b
     all_only (none q e) (none r f) = e ∙ sym f
     all_only (none q e) (more net rest this others r one all f) = let no : [] ≡ net ∷ rest = sym q ∙ r in absurd (cc)
     all_only (more net rest this others r one all f) (none q e) = let no : [] ≡ net ∷ rest = sym q ∙ r in absurd (cc)

@@ -1,5 +1,5 @@
 -- Covers made in the order of a depth-first walk, each once, give the nodes and the literals of the signals that are made again at every use.
-use Rattle.aig_build.proofs.Common.{◌≡◌, ℕ, ◌+◌, ◌<◌, List, [], ◌∷◌, ◌++◌, length, Option, Some, None, refl, sym, ap, ◌∙◌, subst, inl, inr, reverse, slice_get, unwrap_or, IsSome, In, In-left, In-right, at_within, set_here, set_other, set_length, same_or, CoverValue, LibraryValue, Net, Input, Latch, Cover, FlatCoverValue, FlatValue, cover_behind, cover_numbers, inputs_at, reads_at, IsThere, IsWithinBounds, Param, Lit, Pair, Answer, Extends, Extends-refl, Extends-trans, cover_made, IsCoverMade, NetLitsValue, no_lit, net_lit, net_lits, with_cover, Built, behind_made, gate_made, with_gate, walked, Posts, skips, posts, PostsAll, none, more}
+use Rattle.aig_build.proofs.Common.{◌≡◌, ℕ, ◌+◌, ◌<◌, List, [], ◌∷◌, ◌++◌, length, Option, Some, None, refl, sym, ap, ◌∙◌, subst, inl, inr, reverse, slice_get, unwrap_or, IsSome, In, In-left, In-right, at_within, set_here, set_other, set_length, same_or, CoverValue, LibraryValue, FlatNet, Input, Latch, Cover, FlatCoverValue, FlatValue, cover_behind, cover_numbers, inputs_at, reads_at, IsThere, IsWithinBounds, Param, Lit, Pair, Answer, Extends, Extends-refl, Extends-trans, cover_made, IsCoverMade, NetLitsValue, no_lit, net_lit, net_lits, with_cover, Built, behind_made, gate_made, with_gate, walked, Posts, skips, posts, PostsAll, none, more}
 use mathlib.Core.List.{reverse_aux, reverse-reverse}
 use Rattle.depth_first.proofs.PostLemmas.{nodes_done}
 use Rattle.aig_build.specs.NetlistGraph.{source_kinds, IsSourceLiteral, Makes, a_source, a_cover, MakesAll}
@@ -39,10 +39,10 @@ module _ (library : LibraryValue) (flat : FlatValue) (params : List Param) where
   first_node = 1 + length (source_kinds flat params)
 
   -- a literal is the one of a net's signal over these nodes, and over all that extend them
-  pub record HasSignal (ps : List Pair) (net : Net) (lit : ℕ) : Type 0 where
+  pub record HasSignal (ps : List Pair) (net : FlatNet) (lit : ℕ) : Type 0 where
     pub makes : (qs : List Pair) → Extends ps qs → Makes library flat params qs net (record { pairs = qs; lit = lit })
 
-  HasSignal-more : (ps qs : List Pair) (net : Net) (lit : ℕ) → Extends ps qs → HasSignal ps net lit → HasSignal qs net lit
+  HasSignal-more : (ps qs : List Pair) (net : FlatNet) (lit : ℕ) → Extends ps qs → HasSignal ps net lit → HasSignal qs net lit
   HasSignal-more ps qs net lit e h = record { makes = λ rs f. h.makes rs (Extends-trans ps qs rs e f) }
 
   -- and so are those of the covers that are done
@@ -52,31 +52,31 @@ module _ (library : LibraryValue) (flat : FlatValue) (params : List Param) where
     pub each : (k : ℕ) → In done k → HasSignal b.pairs (Cover k) (net_lit b.nets (Cover k)).0
 
   -- what drives each net of a list is there
-  abbrev pub AreThere : List Net → Type 0
-  AreThere nets = (net : Net) → In nets net → IsThere flat net
+  abbrev pub AreThere : List FlatNet → Type 0
+  AreThere nets = (net : FlatNet) → In nets net → IsThere flat net
 
   -- the nets of a list are made as these literals, and that leaves these nodes
-  abbrev MadeNets : List Pair → Built → List Net → Type 0
+  abbrev MadeNets : List Pair → Built → List FlatNet → Type 0
   MadeNets ps b nets = MakesAll library flat params ps nets (record { pairs = b.pairs; lits = net_lits b.nets nets })
 
   -- a net in front that adds nothing
-  add_net : (ps : List Pair) (b : Built) (net : Net) (nets : List Net) → Makes library flat params ps net (record { pairs = ps; lit = (net_lit b.nets net).0 }) → MadeNets ps b nets → MadeNets ps b (net ∷ nets)
+  add_net : (ps : List Pair) (b : Built) (net : FlatNet) (nets : List FlatNet) → Makes library flat params ps net (record { pairs = ps; lit = (net_lit b.nets net).0 }) → MadeNets ps b nets → MadeNets ps b (net ∷ nets)
   add_net ps b net nets this others = graph.more net nets (record { pairs = ps; lit = (net_lit b.nets net).0 }) (record { pairs = b.pairs; lits = net_lits b.nets nets }) refl this others refl
 
-  source_made : (ps : List Pair) (b : Built) (net : Net) → AreSourced flat params b.nets → IsThere flat net → cover_numbers (net ∷ []) ≡ [] → Makes library flat params ps net (record { pairs = ps; lit = (net_lit b.nets net).0 })
+  source_made : (ps : List Pair) (b : Built) (net : FlatNet) → AreSourced flat params b.nets → IsThere flat net → cover_numbers (net ∷ []) ≡ [] → Makes library flat params ps net (record { pairs = ps; lit = (net_lit b.nets net).0 })
   source_made ps b (Input i) s l e = a_source (net_lit b.nets (Input i)).0 (s.inputs i l) refl
   source_made ps b (Latch j) s l e = a_source (net_lit b.nets (Latch j)).0 (s.latches j) refl
   source_made ps b (Cover k) s l e = absurd (cc)
 
   -- nets without a cover
-  none_made : (b : Built) → AreSourced flat params b.nets → (nets : List Net) → AreThere nets → cover_numbers nets ≡ [] → MadeNets b.pairs b nets
+  none_made : (b : Built) → AreSourced flat params b.nets → (nets : List FlatNet) → AreThere nets → cover_numbers nets ≡ [] → MadeNets b.pairs b nets
   none_made b s [] there e = graph.none refl refl
   none_made b s (Cover k ∷ nets) there e = absurd (cc)
   none_made b s (net ∷ nets) there e = add_net b.pairs b net nets (source_made b.pairs b net s (there net (inl refl)) refl) (none_made b s nets (λ n m. there n (inr m)) e)
 
   -- nets whose first cover is n
   more_made : (ps qs : List Pair) (b : Built) (n : ℕ) (rest : List ℕ) → AreSourced flat params b.nets → Makes library flat params ps (Cover n) (record { pairs = qs; lit = (net_lit b.nets (Cover n)).0 })
-      → ((nets : List Net) → AreThere nets → cover_numbers nets ≡ rest → MadeNets qs b nets) → (nets : List Net) → AreThere nets → cover_numbers nets ≡ n ∷ rest → MadeNets ps b nets
+      → ((nets : List FlatNet) → AreThere nets → cover_numbers nets ≡ rest → MadeNets qs b nets) → (nets : List FlatNet) → AreThere nets → cover_numbers nets ≡ n ∷ rest → MadeNets ps b nets
   more_made ps qs b n rest s this others [] there e = absurd (cc)
   more_made ps qs b n rest s this others (Cover k ∷ nets) there e =
       let same : k ≡ n = cc in
@@ -88,7 +88,7 @@ module _ (library : LibraryValue) (flat : FlatValue) (params : List Param) where
       add_net ps b net nets (source_made ps b net s (there net (inl refl)) refl) (more_made ps qs b n rest s this others nets (λ m i. there m (inr i)) e)
 
   -- nets whose covers are done add nothing, over any nodes that extend these
-  done_made : (b : Built) (done : List ℕ) → AreKnown b done → (nets : List Net) → AreThere nets → ((k : ℕ) → In (cover_numbers nets) k → In done k) → (qs : List Pair) → Extends b.pairs qs
+  done_made : (b : Built) (done : List ℕ) → AreKnown b done → (nets : List FlatNet) → AreThere nets → ((k : ℕ) → In (cover_numbers nets) k → In done k) → (qs : List Pair) → Extends b.pairs qs
       → MadeNets qs (record { pairs = qs; nets = b.nets }) nets
   done_made b done known [] there among qs e = graph.none refl refl
   done_made b done known (Cover k ∷ nets) there among qs e =
@@ -119,7 +119,7 @@ module _ (library : LibraryValue) (flat : FlatValue) (params : List Param) where
       new : List ℕ
       is : result ≡ reverse_aux new done
       visited : (b : Built) → AreKnown b done → ((k : ℕ) → In new k → k < length flat.covers) → IsVisited b (Walked b new) done result
-      made : (b : Built) → AreKnown b done → ((k : ℕ) → In new k → k < length flat.covers) → (nets : List Net) → AreThere nets → cover_numbers nets ≡ ns → MadeNets b.pairs (Walked b new) nets
+      made : (b : Built) → AreKnown b done → ((k : ℕ) → In new k → k < length flat.covers) → (nets : List FlatNet) → AreThere nets → cover_numbers nets ≡ ns → MadeNets b.pairs (Walked b new) nets
 
     -- a literal that was set, and the others
     lit_set : (nets : NetLitsValue) (k : ℕ) (lit : Lit) → k < length nets.covers → net_lit (with_cover nets k lit) (Cover k) ≡ lit
@@ -275,7 +275,7 @@ module _ (library : LibraryValue) (flat : FlatValue) (params : List Param) where
           visit_more done below result n rest ns a (nodes_done (reads_at flat) (more n [] below refl p (none refl refl)) n (inl refl)) (node_visit p) (nodes_visit ps)
 
     -- the covers of a whole order, from no node on, give the nodes and the literals of the nets from which it is walked
-    pub order_made : (order : List ℕ) (b : Built) → AreKnown b [] → ((k : ℕ) → In order k → k < length flat.covers) → (nets : List Net) → AreThere nets → PostsAll (reads_at flat) [] (cover_numbers nets) (reverse order)
+    pub order_made : (order : List ℕ) (b : Built) → AreKnown b [] → ((k : ℕ) → In order k → k < length flat.covers) → (nets : List FlatNet) → AreThere nets → PostsAll (reads_at flat) [] (cover_numbers nets) (reverse order)
         → MadeNets b.pairs (Walked b order) nets
     order_made order b known there nets are posts_all =
         let v = nodes_visit posts_all in

@@ -1,6 +1,6 @@
 -- The cycles of a netlist's graph: under the values of its sources the roots have the outputs and the next states of the source circuit.
 use Rattle.std.specs.Prelude.{◌≡◌, ℕ, Bool, List, ◌++◌, length, map}
-use Rattle.machine.specs.Machine.{Machine, Agrees, IsDetermined}
+use Rattle.machine.specs.Machine.{MealyMachine, Agrees, IsDetermined}
 use Rattle.aig_build.specs.Words.{LibraryValue, FlatValue, Param, Lit, Aig, RootsValue, lits_of, FitsGraph, value_of}
 use Rattle.netlist.specs.FlatCycle.{flat_inits}
 use Rattle.netlist.specs.Runs.{library_machine}
@@ -23,7 +23,7 @@ pub record IsGraphCycle (flat : FlatValue) (params : List Param) (g : Aig) (root
   pub next_are : next ≡ literal_values values roots.next
 
 -- The machine of a netlist's graph: it takes values of the inputs, by their names, and starts at the latches' inits.
-abbrev pub graph_machine : FlatValue → List Param → Aig → RootsValue → Machine (List ℕ → Bool) (List Bool) (List Bool)
+abbrev pub graph_machine : FlatValue → List Param → Aig → RootsValue → MealyMachine (List ℕ → Bool) (List Bool) (List Bool)
 graph_machine flat params g roots = record { IsStart = λ s. s ≡ flat_inits flat; HasCycle = IsGraphCycle flat params g roots }
 
 -- The graph's machine is the source circuit's; whatever values fit the graph, its cycle is the same.

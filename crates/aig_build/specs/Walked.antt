@@ -1,6 +1,6 @@
 -- The covers of a flat circuit as the code makes them: in order, each one once, into a literal for each cover.
 use Rattle.std.specs.Prelude.{◌≡◌, ℕ, ◌+◌, ◌*◌, ◌^◌, ◌<◌, ◌≤◌, Bool, true, false, if◌then◌else◌, List, [], ◌∷◌, length, map, replicate, Option, Some, None, All, unwrap_or, slice_get, slice_set}
-use Rattle.aig_build.specs.Words.{CoverValue, LibraryValue, Net, Input, Latch, Cover, OutPort, FlatLatch, FlatCoverValue, FlatValue, cover_behind, Param, Lit, Pair, Aig, IsLit, first_and, Answer, RootsValue}
+use Rattle.aig_build.specs.Words.{CoverValue, LibraryValue, FlatNet, Input, Latch, Cover, OutPort, FlatLatch, FlatCoverValue, FlatValue, cover_behind, Param, Lit, Pair, Aig, IsLit, first_and, Answer, RootsValue}
 use Rattle.aig_build.specs.CoverMade.{cover_made}
 use Rattle.aig_build.specs.NetlistGraph.{source_kinds}
 
@@ -14,12 +14,12 @@ pub record NetLitsValue : Type 0 where
 abbrev pub no_lit : Lit
 no_lit = record { 0 = 0 }
 
-abbrev pub net_lit : NetLitsValue → Net → Lit
+abbrev pub net_lit : NetLitsValue → FlatNet → Lit
 net_lit nets (Input i) = unwrap_or (slice_get nets.inputs i) no_lit
 net_lit nets (Latch j) = record { 0 = 2 * (nets.latches + j) }
 net_lit nets (Cover k) = unwrap_or (slice_get nets.covers k) no_lit
 
-abbrev pub net_lits : NetLitsValue → List Net → List Lit
+abbrev pub net_lits : NetLitsValue → List FlatNet → List Lit
 net_lits nets ns = map (net_lit nets) ns
 
 -- a literal for one more cover
@@ -100,7 +100,7 @@ abbrev pub root_lits : FlatValue → NetLitsValue → RootsValue
 root_lits flat nets = record { outputs = map (λ (o : OutPort). net_lit nets o.net) flat.outputs; next = map (λ (l : FlatLatch). net_lit nets l.input) flat.latches }
 
 -- a net has its place among the literals
-abbrev pub IsHeld : NetLitsValue → Net → Type 0
+abbrev pub IsHeld : NetLitsValue → FlatNet → Type 0
 IsHeld nets (Input i) = i < length nets.inputs
 IsHeld nets (Latch j) = nets.latches + j < 2 ^ 30
 IsHeld nets (Cover k) = k < length nets.covers

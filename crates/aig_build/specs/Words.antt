@@ -14,7 +14,7 @@ pub use Rattle.netlist.specs.Evaluation.{cover_behind, net_value, gate_value, ev
 pub use Rattle.netlist.specs.CoverValue.{RowValue, allows, matches, some_row}
 pub use Rattle.netlist.specs.declared.cell.Cell.{Cell}
 pub use Rattle.netlist.specs.declared.cell.Cell.TheVariants.{Zero, One, Any}
-pub use Rattle.netlist.specs.declared.flat.Net.{Net}
-pub use Rattle.netlist.specs.declared.flat.Net.TheVariants.{Input, Latch, Cover}
+pub use Rattle.netlist.specs.declared.flat.FlatNet.{FlatNet}
+pub use Rattle.netlist.specs.declared.flat.FlatNet.TheVariants.{Input, Latch, Cover}
 pub use Rattle.param_list.specs.Parameters.{param_names, regular_names, AreParameters, ParamsValue}
 pub use Rattle.param_list.specs.declared.params.Param.{Param}

@@ -7,7 +7,7 @@ ghost use Rattle.param_list.specs.Parameters.{AreParameters};
 ghost use Rattle.aig_build.specs.Walked.{net_lit, net_lits, with_cover, marked, regular_lit as regular_lit_of, index_behind as index_after, regular_lits as regular_lits_of, regular_next, with_param_lits, start_nets, IsHeld};
 
 use aig_core::Lit;
-use netlist::{Flat, Net};
+use netlist::{Flat, FlatNet};
 use param_list::{Param, Params};
 use std::alloc::{AllocError, Global};
 use std::marker::Model;
@@ -31,14 +31,14 @@ impl Model for NetLits {
 
 impl NetLits {
     /// The literal of a net.
-    pub(crate) fn of(&self, net: Net) -> Lit
+    pub(crate) fn of(&self, net: FlatNet) -> Lit
         requires { IsHeld self.now net }
         ensures { result ≡ net_lit self.now net }
     {
         match net {
-            Net::Input(i) => self.inputs[i as usize],
-            Net::Latch(j) => Lit(2 * (self.latches + j)),
-            Net::Cover(k) => self.covers[k as usize],
+            FlatNet::Input(i) => self.inputs[i as usize],
+            FlatNet::Latch(j) => Lit(2 * (self.latches + j)),
+            FlatNet::Cover(k) => self.covers[k as usize],
         }
     }
 
@@ -135,8 +135,12 @@ pub(crate) fn start(alloc: Global, flat: &Flat, params: &Params) -> Result<NetLi
 }
 
 /// Replaces `lits` by the literals of these nets.
-pub(crate) fn fill(lits: &mut Vec<Lit>, nets: &NetLits, numbers: &[Net]) -> Result<(), AllocError>
-    requires { (net : Net) → In numbers.now net → IsHeld nets.now net }
+pub(crate) fn fill(
+    lits: &mut Vec<Lit>,
+    nets: &NetLits,
+    numbers: &[FlatNet],
+) -> Result<(), AllocError>
+    requires { (net : FlatNet) → In numbers.now net → IsHeld nets.now net }
     ensures { OnOk result (lits.new.items ≡ net_lits nets.now numbers.now) }
 {
     lits.clear();

@@ -3,7 +3,7 @@
 use Rattle.aiger_io.proofs.Common.{◌≡◌, ℕ, ◌+◌, ◌*◌, ◌/◌, ◌^◌, ◌<◌, ◌≤◌, Bool, List, [], ◌∷◌, ◌++◌, length, map, get_or, Some, refl, sym, ap, ◌∙◌, subst, arith, length-append, slice_get, length-map, get_or_from_slice_get, In, In-left, In-right, map_agree, Aig, first_and, node_count, IsLit, AreNormal, RootsValue, lits_of, node_value, value_of, FitsGraph, HasOneFit, FlatValue, LibraryValue, Param, regular_names, param_names, Circuit, input_count, input_at, graph_circuit, IsWrittenFrom, IsGraphsCircuit, literal_value, output_literals, next_literals, init_bits, IsCircuitCycle, circuit_machine, HasSameRuns, inl, inr, mark_of, commands_from, model_of, library_of, library_weight, kind_of_item, AreInSections, Header, Item, Latch, LineKind}
 use Rattle.aig_build.specs.NetlistCycle.{source_values, literal_values, IsGraphCycle, graph_machine, HasSourceCycles}
 use Rattle.aig_build.specs.NetlistGraph.{input_names}
-use Rattle.machine.specs.Machine.{Machine, reading}
+use Rattle.machine.specs.Machine.{MealyMachine, reading}
 use Rattle.machine.proofs.RefineLemmas.{refines_by, refines_on}
 use Rattle.netlist.specs.FlatCycle.{flat_inits}
 use Rattle.netlist.specs.Runs.{library_machine}
@@ -126,10 +126,10 @@ module _ (flat : FlatValue) (params : List Param) (regular : List ℕ) (g : Aig)
         next_are = cycle.next_are ∙ nexts_same (node_value cycle.values) cycle.values (λ n l. refl);
       }
 
-  abbrev circuit : Machine (List ℕ → Bool) (List Bool) (List Bool)
+  abbrev circuit : MealyMachine (List ℕ → Bool) (List Bool) (List Bool)
   circuit = reading (λ (x : List ℕ → Bool). map x written.inputs) (circuit_machine written)
 
-  abbrev graph : Machine (List ℕ → Bool) (List Bool) (List Bool)
+  abbrev graph : MealyMachine (List ℕ → Bool) (List Bool) (List Bool)
   graph = graph_machine flat params g roots
 
   inits_are : init_bits written.items ≡ flat_inits flat

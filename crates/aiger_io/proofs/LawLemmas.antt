@@ -6,7 +6,7 @@ use Rattle.netlist.specs.SubcktValue.{SubcktValue}
 use Rattle.netlist.specs.declared.command.Body.TheVariants as body
 use Rattle.netlist.proofs.LawLemmas.{sound_law}
 use Rattle.netlist.specs.Runs.{library_machine}
-use Rattle.machine.specs.Machine.{Machine, reading}
+use Rattle.machine.specs.Machine.{MealyMachine, reading}
 use Rattle.machine.proofs.RefineLemmas.{refines_by}
 use Rattle.aiger_io.specs.Run.{literal_value, FitsLines, IsDefined, zero_variable, input, latch, gate, HasOneFit, output_literal, next_literal, output_literals, next_literals, init_bits, IsCircuitCycle, circuit_machine, HasSameRuns}
 use Rattle.aiger_io.proofs.FitLemmas.{built, place_among, place_once, variable_built, next_built, output_built, nexts_picked, outputs_picked, fits_library, latches_of, no_subckts, are_latches, cover_in_place, command_in, item_in, circuit_kinds, literal_is, fits_lines}
@@ -238,7 +238,7 @@ module _ (c : Circuit) (kept : IsKept c) (once : AreOnce (c.inputs ++ c.outputs)
 
   pub same_runs : HasSameRuns c (library_of c)
   same_runs =
-      let own : Machine (List ℕ → Bool) (List Bool) (List Bool) = reading (λ (x : List ℕ → Bool). map x c.inputs) (circuit_machine c) in
+      let own : MealyMachine (List ℕ → Bool) (List Bool) (List Bool) = reading (λ (x : List ℕ → Bool). map x c.inputs) (circuit_machine c) in
       record {
         forth = refines_by own (library_machine (library_of c)) cycle_of_lines (λ s e. record { main = model_of c; latches = latches_of c; are_latches = are_latches c; are = e ∙ sym (inits_are c) });
         back = refines_by (library_machine (library_of c)) own lines_of_cycle (λ s a. a.are ∙ ap (inits_of (library_of c)) (its_latches c a.main a.latches a.are_latches).latches_is ∙ inits_are c);

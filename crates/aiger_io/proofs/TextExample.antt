@@ -6,7 +6,7 @@ use Rattle.aiger_io.specs.declared.aag_err.AagErr.TheVariants as aag_err
 use Rattle.aiger_io.proofs.Format.SettledLemmas.{is_text, is_told}
 use Rattle.std.specs.Fmt.{digits}
 use Rattle.aig_core.proofs.ValueExample.{multiplexer}
-use Rattle.netlist.specs.declared.flat.Net.TheVariants as net
+use Rattle.netlist.specs.declared.flat.FlatNet.TheVariants as net
 
 -- a latch that toggles, and an output that is its complement
 abbrev toggle : Circuit

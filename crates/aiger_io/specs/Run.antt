@@ -2,7 +2,7 @@
 use Rattle.std.specs.Prelude.{◌≡◌, ℕ, ◌+◌, ◌/◌, ◌%◌, Bool, false, not, ◌&&◌, if◌then◌else◌, ◌==◌, List, [], ◌∷◌, length, map, Some, slice_get}
 use Rattle.std.specs.List.{flat_map}
 use Rattle.list_laws.specs.Members.{In}
-use Rattle.machine.specs.Machine.{Machine, Agrees, reading}
+use Rattle.machine.specs.Machine.{MealyMachine, Agrees, reading}
 use Rattle.netlist.specs.LibraryValue.{LibraryValue}
 use Rattle.netlist.specs.Runs.{library_machine}
 use Rattle.aiger_io.specs.Circuit.{Circuit}
@@ -71,7 +71,7 @@ pub record IsCircuitCycle (c : Circuit) (x s outputs next : List Bool) : Type 0 
   pub next_are : next ≡ map (literal_value value) (next_literals c.items)
 
 -- The machine of a circuit: it takes values of the inputs in their order, and starts at the latches' inits.
-abbrev pub circuit_machine : Circuit → Machine (List Bool) (List Bool) (List Bool)
+abbrev pub circuit_machine : Circuit → MealyMachine (List Bool) (List Bool) (List Bool)
 circuit_machine c = record { IsStart = λ s. s ≡ init_bits c.items; HasCycle = IsCircuitCycle c }
 
 -- the library's machine is the circuit's, whose inputs have their values by their names

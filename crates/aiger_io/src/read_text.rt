@@ -49,7 +49,7 @@ fn named_library(
 }
 
 // The library of items, given the lines after them.
-fn library_behind(
+fn library_with_symbols(
     alloc: Global,
     key: TextKey,
     header: &Header,
@@ -82,7 +82,7 @@ fn library_under(
         (OrMemory refusal_of (λ e. circuit_under (map (λ row. row.now) rows.now) header.now ≡ Err e)) }
 {
     let items = read_items(alloc, header, rows)?;
-    let made = library_behind(alloc, key, header, &items, rows_behind(rows, items.len()))?;
+    let made = library_with_symbols(alloc, key, header, &items, rows_behind(rows, items.len()))?;
     Ok(made)
 }
 

@@ -43,7 +43,7 @@ fn is_kind(a: Kind, b: Kind) -> bool
 }
 
 // Whether all sources between two places are of a kind.
-fn are(graph: &Graph, start: u32, end: u32, kind: Kind) -> bool
+fn are_of_kind(graph: &Graph, start: u32, end: u32, kind: Kind) -> bool
     requires above { 1 ≤ start }
     requires below { end ≤ first_and graph.now }
     ensures { result ≡ true → (n : ℕ) → start ≤ n → n < end → IsSource graph.now kind n }
@@ -67,13 +67,13 @@ fn has_shape(graph: &Graph, shape: Shape) -> bool
     }
     let params = shape.regular + 1;
     let latches = params + shape.params;
-    if !are(graph, 1, params, Kind::Regular) {
+    if !are_of_kind(graph, 1, params, Kind::Regular) {
         return false;
     }
-    if !are(graph, params, latches, Kind::Parameter) {
+    if !are_of_kind(graph, params, latches, Kind::Parameter) {
         return false;
     }
-    are(graph, latches, graph.sources() + 1, Kind::Regular)
+    are_of_kind(graph, latches, graph.sources() + 1, Kind::Regular)
 }
 
 /// The shape of a graph whose last sources are so many latches, behind so many parameters; `None` where they are not.

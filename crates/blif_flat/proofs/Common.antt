@@ -31,7 +31,7 @@ pub use Rattle.netlist.proofs.OrderLemmas.{flat_all, order_all, order_once, plac
 pub use Rattle.netlist.proofs.PlaceLemmas.{latch_at-some, one_latch, Inside, inside, child_at, command_of, same_place-is, same_place-refl, cover_at-is, body_of, placed-is}
 pub use Rattle.netlist.proofs.PostLemmas.{nodes_only, nodes_after, reversed_forward, reversed_apart, reads_earlier, Reaches, at_once, one_more, reached_only, further, acyclic}
 pub use Rattle.netlist.specs.Flat.{none, more}
-pub use Rattle.netlist.specs.declared.flat.Net.TheVariants.{Input}
+pub use Rattle.netlist.specs.declared.flat.FlatNet.TheVariants.{Input}
 pub use Rattle.tl_fault.proofs.OrMemoryLemmas.{OrMemory-map, Unless-map}
 pub use Rattle.tl_fault.proofs.PassedOn.{passed_on}
 pub use Rattle.tl_text.proofs.NameSetLemmas.{has_with_names, has_in, place_is, in_has, place_some, name_place_within, with_names-length, no_match, with_names-append, new_names}

@@ -6,12 +6,12 @@ pub use Rattle.netlist.specs.declared.command.Command.{Command}
 pub use Rattle.netlist.specs.declared.latch.Latch.{Latch as LatchValue}
 pub use Rattle.netlist.specs.declared.subckt.Connection.{Connection}
 pub use Rattle.netlist.specs.declared.flat.FlatLatch.{FlatLatch}
-pub use Rattle.netlist.specs.declared.flat.Net.{Net as FlatNet}
+pub use Rattle.netlist.specs.declared.flat.FlatNet.{FlatNet}
 pub use Rattle.netlist.specs.declared.flat.OutPort.{OutPort}
 pub use Rattle.netlist.specs.Flat.{IsControl, TellsClocks, Places, IsFlatCover, IsFlatLatch, AreNetsOf, cover_numbers, inputs_at, latch_nets, IsNetOf}
 pub use Rattle.netlist.specs.DepthFirst.{Repeat, MeetsAll}
 pub use Rattle.netlist.specs.Weight.{most_weight, own_weight, Weighs}
-pub use Rattle.netlist.specs.declared.flat.Net.TheVariants.{Input, Input as InputNumber, Latch as LatchNumber, Cover as CoverNumber}
+pub use Rattle.netlist.specs.declared.flat.FlatNet.TheVariants.{Input, Input as InputNumber, Latch as LatchNumber, Cover as CoverNumber}
 pub use Rattle.depth_first.specs.declared.edge.Edge.{Edge}
 pub use Rattle.depth_first.specs.declared.edge.Edge.TheVariants.{Node, Pass, Stop}
 pub use Rattle.tl_text.specs.NameIndex.{place_of}

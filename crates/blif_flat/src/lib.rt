@@ -41,5 +41,5 @@ mod model;
 
 pub use call::flatten;
 pub use flat_err::FlatErr;
-pub use netlist::{Flat, FlatCover, FlatLatch, Net, OutPort};
+pub use netlist::{Flat, FlatCover, FlatLatch, FlatNet, OutPort};
 pub use tl_fault::Names;

@@ -1,10 +1,10 @@
 -- A netlist without hierarchy has a flat circuit. Its covers, of which each reads covers of lower ranks alone, have a postorder.
 use Rattle.blif_write.proofs.Common.{◌≡◌, ◌⊎◌, ℕ, zero, suc, ◌+◌, ◌<◌, Bool, true, false, not, List, [], ◌∷◌, ◌++◌, length, map, filter, reverse, slice_get, bytes_eq, Option, Some, None, is_some, refl, sym, ap, subst, ◌∙◌, inl, inr, arith, append-nil, option_map, option_map_or, length-map, reverse-reverse, none-some, same_Some, slice_get-map, slice_get_within, bytes_eq-Decides, PostsAll, In, In-get, In-append, in_filter, place_in, get_right, Body, Subckt, Command, FlatLatch, OutPort, LatchValue, CoverValue, FlatValue, Places, IsNumbered, an_input, a_latch, a_cover, IsNetOf, AreNetsOf, no_nets, more_nets, TellsClocks, IsControl, some_latch, no_latch, with_control_net, cover_numbers, inputs_at, most_underscores, IsFlatCover, IsFlatLatch, IsFlat, CoverAt, LatchAt, Net, input_net, latch_net, cover_net, Drives, main_input, latch_output, cover_output, IsClock, controls, Place, FlatOrder, flat, is_cover, own_places, Cover, Latch, none, PlainNetlist, all_inputs, read_control, read_latch, latch_commands, cover_commands, model_of, library_of, ◌≤◌, Posts, skips, posts, in_or, rules}
-use Rattle.netlist.specs.declared.flat.Net.{Net as FlatNet}
+use Rattle.netlist.specs.declared.flat.FlatNet.{FlatNet}
 use Rattle.netlist.specs.FlatCoverValue.{FlatCoverValue}
 use Rattle.blif_write.proofs.PlainCycleLemmas.{bodies_of, body_got, body_is, no_subckts, cover_body, latch_there, latch_at_top, IsControlName, places_from, places_are_latches, length_places, main_there, clock_there, not_clock}
 use Rattle.blif_write.proofs.PlainSoundLemmas.{body_output, command_outputs, IsOrderly, mapped, cover_drives}
-use Rattle.netlist.specs.declared.flat.Net.TheVariants as number
+use Rattle.netlist.specs.declared.flat.FlatNet.TheVariants as number
 
 module _ (next : ℕ → List ℕ) (rank : ℕ → ℕ) (falls : (n m : ℕ) → In (next n) m → rank m < rank n) where
   -- several nodes in turn, where there is one of each alone

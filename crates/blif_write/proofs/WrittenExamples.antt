@@ -1,7 +1,7 @@
 -- Worked examples: a multiplexer with a parameter, as a template and specialised, and a latch with a clock and a constant LUT.
 use Rattle.blif_write.proofs.Common.{◌≡◌, true, false, [], ◌∷◌, Some, None, codes, refl, FlatValue, Param, TemplateValue, netlist_text, template_netlist, specialised_netlist}
 use Rattle.std.specs.Fmt.{digits}
-use Rattle.netlist.specs.declared.flat.Net.TheVariants.{Input, Latch, Cover}
+use Rattle.netlist.specs.declared.flat.FlatNet.TheVariants.{Input, Latch, Cover}
 
 -- y is a where the parameter p is 0, and b where it is 1
 multiplexer : FlatValue

@@ -1,7 +1,7 @@
 -- The headline of `pace`, in the field's words: whatever asks and ticks come, a tick writes at most as many bits as the port takes, and the circuit steps only where the device has the configuration that is specialised from scratch for the values that were asked for last; so each step is a cycle of the source circuit under these values.
 use Rattle.std.specs.Prelude.{◌≡◌, ℕ, ◌≤◌, ◌<◌, Bool, List, [], ◌∷◌, length, map, take}
 use Rattle.std.specs.List.{concat}
-use Rattle.machine.specs.Machine.{Machine, Passes}
+use Rattle.machine.specs.Machine.{MealyMachine, Passes}
 use Rattle.tl_io.specs.Assigns.{assigned}
 use Rattle.tl_io.specs.Content.{extended}
 use Rattle.tl_io.specs.Shelf.{Files}
@@ -77,7 +77,7 @@ module _ (source : Source) (g : Aig) (template : TemplateValue) (rate : ℕ) whe
     pub states : AreInits source.netlist.library first.states
 
   -- the machine that asks and ticks show of the source circuit, and some events one after the other, with their lines
-  abbrev pub shown_machine : Machine PaceValue PaceStage (List ℕ)
+  abbrev pub shown_machine : MealyMachine PaceValue PaceStage (List ℕ)
   shown_machine = record { IsStart = IsFirst; HasCycle = Shows }
 
   abbrev pub ShowAll : PaceStage → List PaceValue → List (List ℕ) → PaceStage → Type 0

@@ -32,7 +32,7 @@ fn rate(word: &str) -> Option<u32>
 }
 
 // The arguments of `pace` from their parts.
-fn whole<'a>(
+fn assemble<'a>(
     source: Option<SourceWords<'a>>,
     script: &'a str,
     rate: Option<u32>,
@@ -58,7 +58,7 @@ pub fn read_pace_words(rule: Rule, words: &[String]) -> Option<PaceWords<'_>>
     ensures range { IfSome result IsInRange }
 {
     match words {
-        [command, k, netlist, params, script, bits] if command.as_str() == "pace" => whole(
+        [command, k, netlist, params, script, bits] if command.as_str() == "pace" => assemble(
             read_source_words(rule, k.as_str(), netlist.as_str(), params.as_str()),
             script.as_str(),
             rate(bits.as_str()),

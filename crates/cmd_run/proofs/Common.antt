@@ -62,7 +62,7 @@ pub use Rattle.tl_text.specs.declared.logical_lines.TheConstants.{MOST_BYTES}
 pub use Rattle.cmd_stations.specs.Texts.{HasText, IsNetlistText, NetlistRefusal, IsParamsRefusal, IsScriptRefusal, is_aag, DenotesLibrary}
 pub use Rattle.cmd_run.specs.GenCommand.Case.{case_words, case_files, HasDigits}
 pub use Rattle.cmd_run.specs.GenCommand.Texts.{shelf_of, HaveSource, HaveCase, OfCase, StopsIn, StopsSource}
-pub use Rattle.cmd_run.specs.GenCommand.Totals.{IsSmall, writes_of, output_of, Tally, tally_machine, Totals}
+pub use Rattle.cmd_run.specs.GenCommand.Totals.{IsSmall, writes_of, output_of, TalliedMachine, tally_machine, Totals}
 pub use Rattle.machine.specs.Machine.{Passes, none, more}
 pub use Rattle.machine.proofs.PassLemmas.{then_one, passes_keep}
 pub use Rattle.cmd_run.specs.GenCommand.Verdict.{gen_reading, first_line, last_line, gen_text, HasGen, gen_walk}

@@ -1,5 +1,5 @@
 -- What the events of a case add up to fits its types: a change writes no more bits than the LUTs have, and the outputs of a cycle are a number of as many digits.
-use Rattle.cmd_run.proofs.Common.{◌≡◌, ℕ, ◌+◌, ◌*◌, ◌^◌, ◌<◌, ◌≤◌, List, [], ◌∷◌, ◌++◌, length, take, refl, ap, ◌∙◌, subst, arith, length-append, length-map, length-take-le, length-range_with_len, number, length-filter_le, lits_of, value_of, Lit, TemplateValue, PackValue, Event, EventValue, event_value, event_values, Set, Cycle, differs_at, differences, write_of, SpecialiserValue, MachineValue, IsPlayed, writes_of, output_of, Tally, tally_machine, Totals, Passes, none, more, IsSmall}
+use Rattle.cmd_run.proofs.Common.{◌≡◌, ℕ, ◌+◌, ◌*◌, ◌^◌, ◌<◌, ◌≤◌, List, [], ◌∷◌, ◌++◌, length, take, refl, ap, ◌∙◌, subst, arith, length-append, length-map, length-take-le, length-range_with_len, number, length-filter_le, lits_of, value_of, Lit, TemplateValue, PackValue, Event, EventValue, event_value, event_values, Set, Cycle, differs_at, differences, write_of, SpecialiserValue, MachineValue, IsPlayed, writes_of, output_of, TalliedMachine, tally_machine, Totals, Passes, none, more, IsSmall}
 use Rattle.std.specs.List.{filter, range_with_len}
 use Rattle.std.proofs.Math.Pow.{pow_mono}
 use Rattle.std.proofs.lemmas.Nat.{pow_pos}
@@ -31,7 +31,7 @@ output_small (Cycle values) old new played =
 output_small event old new played = pow_pos (length old.sim.template.outputs)
 
 -- all of them
-tallies_within : {old new : Tally} {events : List EventValue} {shown : List (Unit {0})} → Passes tally_machine old events shown new → length old.machine.host.pack.bits ≤ 2 ^ 25 → length old.machine.sim.template.outputs ≤ 66
+tallies_within : {old new : TalliedMachine} {events : List EventValue} {shown : List (Unit {0})} → Passes tally_machine old events shown new → length old.machine.host.pack.bits ≤ 2 ^ 25 → length old.machine.sim.template.outputs ≤ 66
     → (new.writes ≤ old.writes + 2 ^ 25 * length events) × (new.total ≤ old.total + 2 ^ 66 * length events)
 tallies_within none few short = (omega arith, omega arith)
 tallies_within {old} {new} (more event one mid is rest) few short =

@@ -58,7 +58,7 @@ pub use Rattle.netlist.specs.LibraryValue.{LibraryValue}
 pub use Rattle.netlist.specs.Places.{Place, latch_at}
 pub use Rattle.netlist.specs.Runs.{IsCycle}
 pub use Rattle.netlist.specs.declared.flat.FlatLatch.{FlatLatch}
-pub use Rattle.netlist.specs.declared.flat.Net.{Net}
+pub use Rattle.netlist.specs.declared.flat.FlatNet.{FlatNet}
 pub use Rattle.netlist.specs.declared.flat.OutPort.{OutPort}
 pub use Rattle.param_list.proofs.RegularLemmas.{is_split}
 pub use Rattle.param_list.specs.Parameters.{regular_names, param_inits, param_names}

@@ -1,5 +1,5 @@
 -- The sources and the roots of a source circuit's graph: how many there are, the shape of the sources, how many of them are parameters, and their values in a cycle.
-use Rattle.cmd_stations.proofs.Common.{GRAPH_ROOM, ◌≡◌, ℕ, zero, suc, ◌+◌, ◌-◌, ◌<◌, ◌≤◌, Bool, true, ◌&&◌, leb, ltb, List, ◌++◌, length, map, replicate, Some, refl, sym, ap, ◌∙◌, subst, inl, inr, ◌⊎◌, arith, append_assoc, length-map, length-append, length-replicate, same_Some, slice_get_within, and_parts, and_from, or_cases, or_left, or_right, leb-true, le-leb, lt-ltb, ltb-true, cases_lt, get_left, replicate_at, AreOnce, Param, param_names, regular_names, Kind, Regular, Parameter, Aig, input_names, source_kinds, source_values, Shape, is_regular, last_source, HasShape, AreSourceValues, Source, width_of, shape_of, ◌∷◌, LibraryValue, FlatLatch, Net, OutPort, FlatValue, Lit, Pair, RootsValue, Literals, MakesAll, none, more, IsGraphOf}
+use Rattle.cmd_stations.proofs.Common.{GRAPH_ROOM, ◌≡◌, ℕ, zero, suc, ◌+◌, ◌-◌, ◌<◌, ◌≤◌, Bool, true, ◌&&◌, leb, ltb, List, ◌++◌, length, map, replicate, Some, refl, sym, ap, ◌∙◌, subst, inl, inr, ◌⊎◌, arith, append_assoc, length-map, length-append, length-replicate, same_Some, slice_get_within, and_parts, and_from, or_cases, or_left, or_right, leb-true, le-leb, lt-ltb, ltb-true, cases_lt, get_left, replicate_at, AreOnce, Param, param_names, regular_names, Kind, Regular, Parameter, Aig, input_names, source_kinds, source_values, Shape, is_regular, last_source, HasShape, AreSourceValues, Source, width_of, shape_of, ◌∷◌, LibraryValue, FlatLatch, FlatNet, OutPort, FlatValue, Lit, Pair, RootsValue, Literals, MakesAll, none, more, IsGraphOf}
 use Rattle.std.specs.List.{slice_get}
 use Rattle.list_laws.proofs.TwoLists.{get_right}
 use Rattle.bit_fun.specs.Parameters.{param_count}
@@ -157,12 +157,12 @@ source_values_count source g x s kinds states =
     omega arith
 
 -- there is a literal for each net that is made
-made_count : (library : LibraryValue) (flat : FlatValue) (params : List Param) {pairs : List Pair} {nets : List Net} {made : Literals} → MakesAll library flat params pairs nets made → length made.lits ≡ length nets
-made_count library flat params (none no_nets is) = ap (λ (m : Literals). length m.lits) is ∙ sym (ap (λ (ns : List Net). length ns) no_nets)
+made_count : (library : LibraryValue) (flat : FlatValue) (params : List Param) {pairs : List Pair} {nets : List FlatNet} {made : Literals} → MakesAll library flat params pairs nets made → length made.lits ≡ length nets
+made_count library flat params (none no_nets is) = ap (λ (m : Literals). length m.lits) is ∙ sym (ap (λ (ns : List FlatNet). length ns) no_nets)
 made_count library flat params {nets = nets} {made = made} (more net rest this others are one all is) =
     let later : length others.lits ≡ length rest = made_count library flat params all in
     let here : length made.lits ≡ length (record { 0 = this.lit } ∷ others.lits) = ap (λ (m : Literals). length m.lits) is in
-    let there : length nets ≡ length (net ∷ rest) = ap (λ (ns : List Net). length ns) are in
+    let there : length nets ≡ length (net ∷ rest) = ap (λ (ns : List FlatNet). length ns) are in
     omega arith
 
 module _ (source : Source) (g : Aig) (roots : RootsValue) (is : IsGraphOf source.netlist.library source.netlist.flat source.params.list GRAPH_ROOM g roots) where

@@ -1,6 +1,6 @@
 -- The host of a pack: initially, and after events; and that packs with the same configurations show the same for the same script.
 use Rattle.std.specs.Prelude.{◌≡◌, Bool, List, [], ◌∷◌, ℕ, length}
-use Rattle.machine.specs.Machine.{Machine, Passes}
+use Rattle.machine.specs.Machine.{MealyMachine, Passes}
 use Rattle.ppc_pack.specs.Pack.{PackValue, IsConf, HasOneConf, inits_of}
 use Rattle.run_text.specs.EventValue.{EventValue}
 use Rattle.run_core.specs.Events.{IsHostPlayed, IsSteady, host_line, IsOfHost}
@@ -21,7 +21,7 @@ pub record IsHostStep (event : EventValue) (old new : SpecialiserValue) : Type 0
   pub steady : IsSteady event old new
 
 -- the machine of a script that a host plays: it starts as the host of its pack, and in a cycle it takes an event and gives its line
-abbrev pub host_machine : Machine EventValue SpecialiserValue (List ℕ)
+abbrev pub host_machine : MealyMachine EventValue SpecialiserValue (List ℕ)
 host_machine = record { IsStart = λ h. IsHostStart h.pack h; HasCycle = λ event old line new. IsHostStep event old new × line ≡ host_line event new }
 
 -- some events one after the other, with their lines

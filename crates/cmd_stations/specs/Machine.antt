@@ -1,6 +1,6 @@
 -- The machine of a job with its ports: initially, and after events.
 use Rattle.std.specs.Prelude.{◌≡◌, ℕ, Bool, List, [], ◌∷◌, length, Ok}
-use Rattle.machine.specs.Machine.{Machine, Passes}
+use Rattle.machine.specs.Machine.{MealyMachine, Passes}
 use Rattle.tl_io.specs.Writes.{writes_from}
 use Rattle.ppc_pack.specs.Pack.{PackValue, IsConf, HasOneConf}
 use Rattle.lut_sim.specs.Sim.{SimValue}
@@ -64,7 +64,7 @@ pub record IsStep (event : EventValue) (old new : Stage) : Type 0 where
   pub holds : Holds new.machine.host.state.config new.bank
 
 -- The machine of a script: it starts where the ports hold the configuration, and in a cycle it takes an event and gives its line.
-abbrev pub script_machine : Machine EventValue Stage (List ℕ)
+abbrev pub script_machine : MealyMachine EventValue Stage (List ℕ)
 script_machine = record { IsStart = λ stage. Holds stage.machine.host.state.config stage.bank; HasCycle = λ event old line new. IsStep event old new × line ≡ event_line event new.machine }
 
 -- some events one after the other, with their lines

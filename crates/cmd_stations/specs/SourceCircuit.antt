@@ -3,7 +3,7 @@ use Rattle.std.specs.Prelude.{ℕ, length, ◌≡◌, Bool, List, map}
 use Rattle.param_list.specs.Parameters.{regular_names, param_names}
 use Rattle.lut_sim.specs.declared.shape.Shape.{Shape}
 use Rattle.cmd_stations.specs.declared.source.Source.{Source}
-use Rattle.machine.specs.Machine.{Machine}
+use Rattle.machine.specs.Machine.{MealyMachine}
 use Rattle.netlist.specs.Runs.{AreInits, IsCycle}
 
 -- how many inputs are left besides the parameters: each cycle gives them values
@@ -22,5 +22,5 @@ pub record IsSourceCycle (source : Source) (params values states outputs next : 
   pub cycle : IsCycle source.netlist.library x states outputs next
 
 -- The machine of a source circuit under values of its parameters: it takes values of the regular inputs, and starts at the latches' inits.
-abbrev pub source_machine : Source → List Bool → Machine (List Bool) (List Bool) (List Bool)
+abbrev pub source_machine : Source → List Bool → MealyMachine (List Bool) (List Bool) (List Bool)
 source_machine source params = record { IsStart = AreInits source.netlist.library; HasCycle = IsSourceCycle source params }

@@ -1,6 +1,6 @@
 -- Steps of a walk with marks and a stack.
 use Rattle.depth_first.proofs.Common.{◌≡◌, ℕ, ◌+◌, ◌<◌, List, [], ◌∷◌, length, Option, Some, None, refl, sym, ap, subst, inl, inr, arith, slice_get, slice_set, none-some, same_Some, In, drop_get, drop_past, past_end, set_length, Edge, Node, Stop, Pass, Frame, New, OnPath, Done, LeadsInto, ways_of, ways_from, successors, FramesValue, path_of, first_of, others_of, entered, onward, advanced, finished, left_of, frames_work, new_work, walk_work, MeetsLeft, PostsLeft, EntersLeft, ArePassed, IsGoing, IsLater, Stepped}
-use Rattle.depth_first.specs.DepthFirst.{Way, leads, stops, Ending, repeats, halts, nodes_of, Meets, met, goes, MeetsAll, stop, first, later, skips, posts, PostsAll, more, Outcome, ends_at, goes_through, Enters, ended, stopped_at, back, again, inside, onward as onward_to}
+use Rattle.depth_first.specs.DepthFirst.{Way, leads, stops, Ending, repeats, halts, nodes_of, Meets, met, goes, MeetsAll, stop, first, later, skips, posts, PostsAll, more, WalkOutcome, ends_at, goes_through, Enters, ended, stopped_at, back, again, inside, onward as onward_to}
 use Rattle.depth_first.proofs.DepthLemmas.{done_meets, leads_more}
 use Rattle.depth_first.proofs.MarkLemmas.{marks_entered, marks_finished}
 use Rattle.depth_first.proofs.WorkLemmas.{enter_less, finish_less}
@@ -68,13 +68,13 @@ module _ {S : Type 0} (edges : ℕ → List (Edge S)) where
     posts_same : (done : List ℕ) → ways_of (left_of edges f) ≡ rest → (r : List ℕ) → PostsLeft edges done (onward f ∷ fs) r → PostsLeft edges done (f ∷ fs) r
     posts_same done e r p = (p.0, (subst (λ y. PostsAll (successors edges) done (nodes_of y) p.0) (sym e) (p.1).0, (p.1).1))
 
-    enters_same : (before : List ℕ) → ways_of (left_of edges f) ≡ rest → (r : Outcome ℕ S) → EntersLeft edges before (onward f ∷ fs) r → EntersLeft edges before (f ∷ fs) r
+    enters_same : (before : List ℕ) → ways_of (left_of edges f) ≡ rest → (r : WalkOutcome ℕ S) → EntersLeft edges before (onward f ∷ fs) r → EntersLeft edges before (f ∷ fs) r
     enters_same before e r h = elim h [
       | inl p ↦ inl (p.0, (subst (λ y. Enters ways path before y (ends_at p.0)) (sym e) (p.1).0, (p.1).1))
       | inr p ↦ inr (p.0, (subst (λ y. Enters ways path before y (goes_through p.0)) (sym e) (p.1).0, (p.1).1))
     ]
 
-    enters_end : (before : List ℕ) → ways_of (left_of edges f) ≡ [] → (r : Outcome ℕ S) → EntersLeft edges before fs r → EntersLeft edges before (f ∷ fs) r
+    enters_end : (before : List ℕ) → ways_of (left_of edges f) ≡ [] → (r : WalkOutcome ℕ S) → EntersLeft edges before fs r → EntersLeft edges before (f ∷ fs) r
     enters_end before e r h = inr (before, (ended e refl, h))
 
     meets_end : ways_of (left_of edges f) ≡ [] → (r : Option (Ending ℕ S)) → MeetsLeft edges fs r → MeetsLeft edges (f ∷ fs) r
@@ -102,13 +102,13 @@ module _ {S : Type 0} (edges : ℕ → List (Edge S)) where
       posts_skip : (done : List ℕ) → In done m → (r : List ℕ) → PostsLeft edges done (onward f ∷ fs) r → PostsLeft edges done (f ∷ fs) r
       posts_skip done i r p = (p.0, (more m (nodes_of rest) done nodes_more (skips i refl) (p.1).0, (p.1).1))
 
-      enters_again : (before : List ℕ) → (In path m → ⊥) → In before m → (r : Outcome ℕ S) → EntersLeft edges before (onward f ∷ fs) r → EntersLeft edges before (f ∷ fs) r
+      enters_again : (before : List ℕ) → (In path m → ⊥) → In before m → (r : WalkOutcome ℕ S) → EntersLeft edges before (onward f ∷ fs) r → EntersLeft edges before (f ∷ fs) r
       enters_again before off i r h = elim h [
         | inl p ↦ inl (p.0, (again m rest e off i (p.1).0, (p.1).1))
         | inr p ↦ inr (p.0, (again m rest e off i (p.1).0, (p.1).1))
       ]
 
-      enters_new : (before : List ℕ) → (In path m → ⊥) → (In before m → ⊥) → (r : Outcome ℕ S) → EntersLeft edges (m ∷ before) (begin m ∷ onward f ∷ fs) r → EntersLeft edges before (f ∷ fs) r
+      enters_new : (before : List ℕ) → (In path m → ⊥) → (In before m → ⊥) → (r : WalkOutcome ℕ S) → EntersLeft edges (m ∷ before) (begin m ∷ onward f ∷ fs) r → EntersLeft edges before (f ∷ fs) r
       enters_new before off new r h = elim h [
         | inl p ↦ inl (p.0, (inside m rest p.0 e off new (p.1).0 refl, (p.1).1))
         | inr p ↦ (elim (p.1).1 [

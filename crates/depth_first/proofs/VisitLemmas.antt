@@ -1,6 +1,6 @@
 -- The walk to the end of its stack, and the visit of a start.
 use Rattle.depth_first.proofs.Common.{◌≡◌, ℕ, ◌<◌, true, false, List, [], ◌∷◌, length, Option, Some, None, refl, sym, ap, ◌∙◌, subst, inl, inr, slice_get, is_some, true≢false, false≢true, none-some, In, set_length, Edge, End, Frame, New, OnPath, Done, IsSettled, ways_from, successors, Visited, ending_of, FramesValue, path_of, first_of, entered, AreMarks, AreKept, walk_work, MeetsLeft, PostsLeft, EntersLeft, ArePassed, IsGoing, IsLater, Stepped, Ran, CanVisit, AreNodes, seen, arith}
-use Rattle.depth_first.specs.DepthFirst.{leads, Ending, Meets, goes, MeetsAll, Posts, skips, posts, Outcome, ends_at, goes_through, Enters, ended, again, inside, onward}
+use Rattle.depth_first.specs.DepthFirst.{leads, Ending, Meets, goes, MeetsAll, Posts, skips, posts, WalkOutcome, ends_at, goes_through, Enters, ended, again, inside, onward}
 use Rattle.depth_first.proofs.DepthLemmas.{done_meets, settled_after}
 use Rattle.depth_first.proofs.PostLemmas.{adds_one}
 use Rattle.depth_first.proofs.MarkLemmas.{marks_entered}
@@ -86,7 +86,7 @@ module _ {S : Type 0} (edges : ℕ → List (Edge S)) (IsNode : ℕ → Type 0) 
       start_new : In w.begun start → ⊥
       start_new i = elim (marks.entered start i) [ inl j ↦ off_path start j | inr j ↦ (marks.fresh start new).1 j ]
 
-      start_enters : (r : Outcome ℕ S) → EntersLeft edges (start ∷ w.begun) (entered w start).stack r → Enters (ways_from edges) [] w.begun (leads start ∷ []) r
+      start_enters : (r : WalkOutcome ℕ S) → EntersLeft edges (start ∷ w.begun) (entered w start).stack r → Enters (ways_from edges) [] w.begun (leads start ∷ []) r
       start_enters r h = elim (subst (λ s. EntersLeft edges (start ∷ w.begun) (record { node = start; place = 0 } ∷ s) r) empty h) [
         | inl p ↦ inside start [] p.0 refl (λ i. i) start_new (p.1).0 (p.1).1
         | inr p ↦ onward start [] p.0 refl (λ i. i) start_new (p.1).0 (ended refl (p.1).1)

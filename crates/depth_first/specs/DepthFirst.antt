@@ -41,16 +41,16 @@ mutual
     more : {done ns result : List N} (n : N) (rest below : List N) → ns ≡ n ∷ rest → Posts next done n below → PostsAll next below rest result → PostsAll next done ns result
 
 -- what a walk that passes over nodes that were entered before does: it comes to an end, or it has entered these nodes, the last first
-pub data Outcome (N S : Type 0) : Type 0 where
-  ends_at : Ending N S → Outcome N S
-  goes_through : List N → Outcome N S
+pub data WalkOutcome (N S : Type 0) : Type 0 where
+  ends_at : Ending N S → WalkOutcome N S
+  goes_through : List N → WalkOutcome N S
 
-pub data Enters {N S : Type 0} (ways : N → List (Way N S)) : List N → List N → List (Way N S) → Outcome N S → Type 0 where
-  ended : {path before : List N} {ws : List (Way N S)} {result : Outcome N S} → ws ≡ [] → result ≡ goes_through before → Enters ways path before ws result
-  stopped_at : {path before : List N} {ws : List (Way N S)} {result : Outcome N S} (s : S) (rest : List (Way N S)) → ws ≡ stops s ∷ rest → result ≡ ends_at (halts s path) → Enters ways path before ws result
-  back : {path before : List N} {ws : List (Way N S)} {result : Outcome N S} (n : N) (rest : List (Way N S)) → ws ≡ leads n ∷ rest → In path n → result ≡ ends_at (repeats n path) → Enters ways path before ws result
-  again : {path before : List N} {ws : List (Way N S)} {result : Outcome N S} (n : N) (rest : List (Way N S)) → ws ≡ leads n ∷ rest → ¬ (In path n) → In before n → Enters ways path before rest result → Enters ways path before ws result
-  inside : {path before : List N} {ws : List (Way N S)} {result : Outcome N S} (n : N) (rest : List (Way N S)) (end : Ending N S) → ws ≡ leads n ∷ rest → ¬ (In path n) → ¬ (In before n)
+pub data Enters {N S : Type 0} (ways : N → List (Way N S)) : List N → List N → List (Way N S) → WalkOutcome N S → Type 0 where
+  ended : {path before : List N} {ws : List (Way N S)} {result : WalkOutcome N S} → ws ≡ [] → result ≡ goes_through before → Enters ways path before ws result
+  stopped_at : {path before : List N} {ws : List (Way N S)} {result : WalkOutcome N S} (s : S) (rest : List (Way N S)) → ws ≡ stops s ∷ rest → result ≡ ends_at (halts s path) → Enters ways path before ws result
+  back : {path before : List N} {ws : List (Way N S)} {result : WalkOutcome N S} (n : N) (rest : List (Way N S)) → ws ≡ leads n ∷ rest → In path n → result ≡ ends_at (repeats n path) → Enters ways path before ws result
+  again : {path before : List N} {ws : List (Way N S)} {result : WalkOutcome N S} (n : N) (rest : List (Way N S)) → ws ≡ leads n ∷ rest → ¬ (In path n) → In before n → Enters ways path before rest result → Enters ways path before ws result
+  inside : {path before : List N} {ws : List (Way N S)} {result : WalkOutcome N S} (n : N) (rest : List (Way N S)) (end : Ending N S) → ws ≡ leads n ∷ rest → ¬ (In path n) → ¬ (In before n)
       → Enters ways (n ∷ path) (n ∷ before) (ways n) (ends_at end) → result ≡ ends_at end → Enters ways path before ws result
-  onward : {path before : List N} {ws : List (Way N S)} {result : Outcome N S} (n : N) (rest : List (Way N S)) (after : List N) → ws ≡ leads n ∷ rest → ¬ (In path n) → ¬ (In before n)
+  onward : {path before : List N} {ws : List (Way N S)} {result : WalkOutcome N S} (n : N) (rest : List (Way N S)) (after : List N) → ws ≡ leads n ∷ rest → ¬ (In path n) → ¬ (In before n)
       → Enters ways (n ∷ path) (n ∷ before) (ways n) (goes_through after) → Enters ways path after rest result → Enters ways path before ws result

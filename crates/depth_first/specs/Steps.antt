@@ -8,7 +8,7 @@ use Rattle.depth_first.specs.declared.edge.End.TheVariants.{Loop, Stop as stoppe
 use Rattle.depth_first.specs.declared.frames.Frame.{Frame}
 use Rattle.depth_first.specs.declared.frames.Mark.{Mark}
 use Rattle.depth_first.specs.declared.frames.Mark.TheVariants.{New, OnPath, Done}
-use Rattle.depth_first.specs.DepthFirst.{Way, Ending, nodes_of, MeetsAll, PostsAll, Outcome, ends_at, goes_through, Enters}
+use Rattle.depth_first.specs.DepthFirst.{Way, Ending, nodes_of, MeetsAll, PostsAll, WalkOutcome, ends_at, goes_through, Enters}
 use Rattle.depth_first.specs.Order.{LeadsInto, IsSettled}
 use Rattle.depth_first.specs.Edges.{AreNodes, ways_of, ways_from, successors}
 use Rattle.depth_first.specs.Walk.{WalkValue, ending_of, leads_to}
@@ -63,7 +63,7 @@ PostsLeft edges done (f ∷ fs) result =
     (below : List ℕ) × (PostsAll (successors edges) done (nodes_of (ways_of (left_of edges f))) below × PostsLeft edges (f.node ∷ below) fs result)
 
 -- what the rest of the walk does, where it passes over the nodes that were entered before
-abbrev pub EntersLeft : {S : Type 0} → (ℕ → List (Edge S)) → List ℕ → List Frame → Outcome ℕ S → Type 0
+abbrev pub EntersLeft : {S : Type 0} → (ℕ → List (Edge S)) → List ℕ → List Frame → WalkOutcome ℕ S → Type 0
 EntersLeft edges before [] result = result ≡ goes_through before
 EntersLeft {S} edges before (f ∷ fs) result =
     ((end : Ending ℕ S) × (Enters (ways_from edges) (f.node ∷ path_of fs) before (ways_of (left_of edges f)) (ends_at end) × (result ≡ ends_at end)))
@@ -95,7 +95,7 @@ pub record IsLater {S : Type 0} (edges : ℕ → List (Edge S)) (IsNode : ℕ �
   pub going : IsGoing edges IsNode v
   pub meets : (result : Option (Ending ℕ S)) → MeetsLeft edges v.stack result → MeetsLeft edges w.stack result
   pub posts : (result : List ℕ) → PostsLeft edges v.order v.stack result → PostsLeft edges w.order w.stack result
-  pub enters : (result : Outcome ℕ S) → EntersLeft edges v.begun v.stack result → EntersLeft edges w.begun w.stack result
+  pub enters : (result : WalkOutcome ℕ S) → EntersLeft edges v.begun v.stack result → EntersLeft edges w.begun w.stack result
 
 -- the walk came to an end
 pub record IsAtEnd {S : Type 0} (edges : ℕ → List (Edge S)) (w v : FramesValue) (end : End S) : Type 0 where

@@ -2,7 +2,7 @@
 use Rattle.std.specs.Prelude.{◌≡◌, ℕ, ◌+◌, ◌*◌, Bool, false, IsTrue, List, length, map, slice_index_or}
 use Rattle.list_laws.specs.Members.{In}
 use Rattle.list_laws.specs.Digits.{number}
-use Rattle.machine.specs.Machine.{Machine}
+use Rattle.machine.specs.Machine.{MealyMachine}
 use Rattle.aig_core.specs.Roots.{lits_of}
 use Rattle.cover_pick.specs.declared.lut.Lut.{Lut}
 use Rattle.cover_pick.specs.Template.{TemplateValue}
@@ -40,7 +40,7 @@ pub record Driven : Type 0 where
   pub values : List Bool
 
 -- The machine of LUTs: in each cycle it takes a configuration and values of the regular inputs, and it starts at its latches' inits.
-abbrev pub table_machine : TemplateValue → Shape → List Bool → Machine Driven (List Bool) (List Bool)
+abbrev pub table_machine : TemplateValue → Shape → List Bool → MealyMachine Driven (List Bool) (List Bool)
 table_machine t shape inits = record { IsStart = λ s. s ≡ inits; HasCycle = λ x s outputs next. IsTableCycle t shape x.config x.values s outputs next }
 
 -- a cycle with a value for each regular input, and a state for each latch
@@ -50,5 +50,5 @@ pub record IsLutCycle (t : TemplateValue) (shape : Shape) (config x s outputs ne
   pub only : IsOnlyTableCycle t shape config x s outputs next
 
 -- The machine of LUTs under one configuration: it takes values of the regular inputs.
-abbrev pub lut_machine : TemplateValue → Shape → List Bool → List Bool → Machine (List Bool) (List Bool) (List Bool)
+abbrev pub lut_machine : TemplateValue → Shape → List Bool → List Bool → MealyMachine (List Bool) (List Bool) (List Bool)
 lut_machine t shape config inits = record { IsStart = λ s. s ≡ inits; HasCycle = IsLutCycle t shape config }

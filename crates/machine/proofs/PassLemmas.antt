@@ -1,9 +1,9 @@
 -- What passes from a state on: one cycle more, the same cycles with the state after each, a property that cycles keep, and what another machine shows of them.
 use Rattle.std.proofs.Common.{◌≡◌, suc, List, [], ◌∷◌, ◌++◌, length, map, refl, ap, inl, inr}
 use Rattle.list_laws.specs.Members.{In}
-use Rattle.machine.specs.Machine.{Machine, Runs, stops, steps, Passes, none, more, end_of}
+use Rattle.machine.specs.Machine.{MealyMachine, Runs, stops, steps, Passes, none, more, end_of}
 
-module _ {I S O : Type 0} (m : Machine I S O) where
+module _ {I S O : Type 0} (m : MealyMachine I S O) where
   -- one cycle more
   pub then_one : {old mid new : S} {xs : List I} {outputs : List O} (x : I) (output : O) → Passes m old xs outputs mid → m.HasCycle x mid output new → Passes m old (xs ++ x ∷ []) (outputs ++ output ∷ []) new
   then_one {new = new} x output none cycle = more x output new cycle none
@@ -26,14 +26,14 @@ module _ {I S O : Type 0} (m : Machine I S O) where
       (mid ∷ later.0, steps x xs output mid outputs later.0 cycle later.1, later.2)
 
 -- A machine under inputs that it allows, from a state that has a property which its cycles keep.
-module _ {I S O : Type 0} (low : Machine I S O) (Allows : I → Type 0) (Has : S → Type 0)
+module _ {I S O : Type 0} (low : MealyMachine I S O) (Allows : I → Type 0) (Has : S → Type 0)
     (keeps : (x : I) (old : S) (output : O) (new : S) → Allows x → Has old → low.HasCycle x old output new → Has new) where
   pub passes_keep : {old new : S} {xs : List I} {outputs : List O} → ((x : I) → In xs x → Allows x) → Has old → Passes low old xs outputs new → Has new
   passes_keep allows has none = has
   passes_keep {old} allows has (more x output mid cycle rest) = passes_keep (λ y i. allows y (inr i)) (keeps x old output mid (allows x (inl refl)) has cycle) rest
 
   -- each cycle is one of another machine, by what this shows of its states and outputs
-  module _ {T P : Type 0} (high : Machine I T P) (state : S → T) (shown : O → P)
+  module _ {T P : Type 0} (high : MealyMachine I T P) (state : S → T) (shown : O → P)
       (cycles : (x : I) (old : S) (output : O) (new : S) → Allows x → Has old → low.HasCycle x old output new → high.HasCycle x (state old) (shown output) (state new)) where
     pub passes_over : {old new : S} {xs : List I} {outputs : List O} → ((x : I) → In xs x → Allows x) → Has old → Passes low old xs outputs new → Passes high (state old) xs (map shown outputs) (state new)
     passes_over allows has none = none

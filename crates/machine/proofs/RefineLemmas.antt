@@ -1,8 +1,8 @@
 -- Refinement by starts and cycles carries runs over; one refinement follows another; and where there are cycles, there are runs.
 use Rattle.std.specs.Prelude.{List, [], ◌∷◌}
-use Rattle.machine.specs.Machine.{Machine, Runs, stops, steps, GivesCycle, GivesRun, Refines}
+use Rattle.machine.specs.Machine.{MealyMachine, Runs, stops, steps, GivesCycle, GivesRun, Refines}
 
-module _ {I S O : Type 0} (low high : Machine I S O) (cycles : (x : I) (s : S) (output : O) (next : S) → low.HasCycle x s output next → high.HasCycle x s output next) where
+module _ {I S O : Type 0} (low high : MealyMachine I S O) (cycles : (x : I) (s : S) (output : O) (next : S) → low.HasCycle x s output next → high.HasCycle x s output next) where
   runs_on : {s : S} {xs : List I} {outputs : List O} {states : List S} → Runs low s xs outputs states → Runs high s xs outputs states
   runs_on stops = stops
   runs_on {s} (steps x xs output next outputs states cycle rest) = steps x xs output next outputs states (cycles x s output next cycle) (runs_on rest)
@@ -15,7 +15,7 @@ module _ {I S O : Type 0} (low high : Machine I S O) (cycles : (x : I) (s : S) (
     runs = λ xs outputs states run. record { start = run.start; starts = starts run.start run.starts; runs = runs_on run.runs };
   }
 
-module _ {I S O : Type 0} (low middle high : Machine I S O) where
+module _ {I S O : Type 0} (low middle high : MealyMachine I S O) where
   -- one refinement after the other
   pub refines_on : Refines low middle → Refines middle high → Refines low high
   refines_on first second = record {
@@ -25,7 +25,7 @@ module _ {I S O : Type 0} (low middle high : Machine I S O) where
   }
 
 -- A machine that has a cycle under any input from each state that has a property, which its next states have too, has a run under any inputs from such a start.
-module _ {I S O : Type 0} (m : Machine I S O) (Has : S → Type 0) (gives : (x : I) (s : S) → Has s → GivesCycle m x s)
+module _ {I S O : Type 0} (m : MealyMachine I S O) (Has : S → Type 0) (gives : (x : I) (s : S) → Has s → GivesCycle m x s)
     (keeps : (x : I) (s : S) (output : O) (next : S) → Has s → m.HasCycle x s output next → Has next) where
   record HaveRuns (s : S) (xs : List I) : Type 0 where
     outputs : List O

@@ -3,7 +3,7 @@ use Rattle.netlist.proofs.Common.{◌≡◌, ℕ, Bool, false, List, [], ◌∷�
 use Rattle.netlist.specs.Flat.{Places, none, more}
 use Rattle.netlist.specs.{cover_value, ModelValue, Path, body_at, CoverAt, input_net, latch_net, cover_net, Place, cover_in, FlatNet, Fits, an_input, a_latch, a_cover, IsNetOf, AreNetsOf, cover_numbers, IsFlat, reads_at, inputs_at, IsFlatCover, net_value, AreGiven, cover_behind, value_of, gate_value, evaluated, flat_values, Evaluates, same_place, latch_at, is_latch, FlatOrder, OutPort, FlatLatch, flat_roots, IsFlatLatch, init_state, inits_of, state_of, next_state, IsCycle, AreInits, library_machine, flat_outputs, flat_next, flat_inits, IsFlatCycle, flat_machine, input_values, HasCycles, IsSound, latch_nets}
 use Rattle.std.proofs.lemmas.Simd.{map-map}
-use Rattle.netlist.specs.declared.flat.Net.TheVariants.{Cover}
+use Rattle.netlist.specs.declared.flat.FlatNet.TheVariants.{Cover}
 use Rattle.machine.specs.Machine.{reading}
 use Rattle.machine.proofs.RefineLemmas.{refines_by}
 use Rattle.netlist.proofs.RunLemmas.{cycle_there, run_there}

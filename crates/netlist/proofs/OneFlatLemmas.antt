@@ -1,7 +1,7 @@
 -- A sound library has one flat circuit at most: each name has one net, and each net one number.
 use Rattle.netlist.proofs.Common.{◌≡◌, ℕ, List, [], ◌∷◌, Some, sym, ap, ap₂, ◌∙◌, subst, refl, Bool, not, ◌++◌, map, length, filter, Option, subst₂, inl, inr, slice_get, reverse, is_some, AreApart, apart_once, cases_Bool, reverse-reverse, none-some, same_Some, In-get, LibraryValue, ModelValue, input_ports, LatchValue, Path, Net, IsDriven, Place, is_cover, is_latch, FlatOrder, FlatNet, IsNumbered, an_input, a_latch, a_cover, IsNetOf, AreNetsOf, TellsClocks, IsControl, some_latch, no_latch, with_control_net, cover_numbers, inputs_at, reads_at, flat_roots, most_underscores, IsFlatCover, IsFlatLatch, IsFlat, OutPort, FlatLatch, PostsAll, HasOneFlat, IsSound, CoverValue, FlatCoverValue, FlatValue, filtered_apart, same_list, item_there}
 use Rattle.netlist.specs.Flat.{Places, none, more}
-use Rattle.netlist.specs.declared.flat.Net.TheVariants.{Input, Latch, Cover}
+use Rattle.netlist.specs.declared.flat.FlatNet.TheVariants.{Input, Latch, Cover}
 use Rattle.netlist.proofs.NetLemmas.{one_net}
 use Rattle.netlist.proofs.OrderLemmas.{order_once, places_apart}
 use Rattle.netlist.proofs.PlaceLemmas.{cover_at-is, one_latch}

@@ -5,7 +5,7 @@ use Rattle.netlist.specs.Circuits.{In, FlatCoverValue, FlatValue, CoverValue, Li
 use Rattle.netlist.specs.Evaluation.{cover_behind}
 use Rattle.netlist.specs.Flat.{reads_at, flat_roots}
 use Rattle.netlist.specs.Weight.{most_weight}
-use Rattle.netlist.specs.declared.flat.Net.TheVariants.{Input, Latch, Cover}
+use Rattle.netlist.specs.declared.flat.FlatNet.TheVariants.{Input, Latch, Cover}
 
 -- what drives a net is there
 abbrev pub IsThere : FlatValue → Net → Type 0

@@ -6,7 +6,7 @@ pub use Rattle.netlist.specs.Nets.{input_net, Drives, IsClock, listed, controls,
 pub use Rattle.netlist.specs.Places.{Place, is_latch, FlatOrder, InFlatOrder, InFlatOrderUnder, own_of, cover_in, latch_in, cover_at, latch_at, is_cover, own_places, flat, FlatUnder, none, more, same_place}
 pub use Rattle.netlist.specs.Drivers.{IsDriven, IsRead, latch_control, Driver, by_input, by_latch, by_cover, by_subckt, IsDriver, input, latch, cover, output, input_actual, model_output, Ends, ends, cover_input, latch_input, InstanceAt}
 pub use Rattle.list_laws.specs.Members.{In}
-pub use Rattle.netlist.specs.declared.flat.Net.{Net as FlatNet}
+pub use Rattle.netlist.specs.declared.flat.FlatNet.{FlatNet}
 pub use Rattle.netlist.specs.declared.flat.OutPort.{OutPort}
 pub use Rattle.netlist.specs.declared.flat.FlatLatch.{FlatLatch}
 pub use Rattle.netlist.specs.FlatValue.{FlatValue}

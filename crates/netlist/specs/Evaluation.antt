@@ -4,7 +4,7 @@ use Rattle.std.specs.Option.{option_and_then}
 use Rattle.netlist.specs.Circuits.{In, FlatCoverValue, FlatValue, CoverAt, Path, body_at, Net, Drives, Place, cover_in, CoverValue, cover_value, ModelValue, LibraryValue, FlatNet}
 use Rattle.netlist.specs.Cycle.{Fits}
 use Rattle.netlist.specs.Flat.{Places, IsNumbered}
-use Rattle.netlist.specs.declared.flat.Net.TheVariants.{Input, Latch, Cover}
+use Rattle.netlist.specs.declared.flat.FlatNet.TheVariants.{Input, Latch, Cover}
 
 -- the cover behind a flat one
 abbrev pub cover_behind : LibraryValue → FlatCoverValue → Option CoverValue

@@ -2,7 +2,7 @@
 use Rattle.std.specs.Prelude.{◌≡◌, ℕ, ◌+◌, ◌==◌, Bool, true, false, not, if◌then◌else◌, List, [], ◌∷◌, ◌++◌, filter, map, max, length, reverse, Option, Some, None, is_some, slice_get}
 use Rattle.depth_first.specs.DepthFirst.{PostsAll}
 use Rattle.netlist.specs.Circuits.{FlatCoverValue, FlatValue, CoverAt, LatchAt, Path, model_at, has_name, Net, input_net, latch_net, cover_net, Drives, IsClock, Place, is_cover, is_latch, FlatOrder, LatchValue, CoverValue, ModelValue, LibraryValue, FlatLatch, FlatNet, OutPort}
-use Rattle.netlist.specs.declared.flat.Net.TheVariants.{Input, Latch, Cover}
+use Rattle.netlist.specs.declared.flat.FlatNet.TheVariants.{Input, Latch, Cover}
 
 -- the drivers by whose places the nets are numbered
 pub record Places : Type 0 where

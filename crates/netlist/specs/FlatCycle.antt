@@ -1,6 +1,6 @@
 -- A clock cycle of a flat circuit: its outputs and next states, by evaluating its covers in its order. Its machine is that of the library's hierarchy.
 use Rattle.std.specs.Prelude.{◌≡◌, ℕ, Bool, List, length, map}
-use Rattle.machine.specs.Machine.{Machine, GivesRun, Agrees, reading}
+use Rattle.machine.specs.Machine.{MealyMachine, GivesRun, Agrees, reading}
 use Rattle.netlist.specs.Circuits.{FlatValue, LibraryValue, FlatLatch, OutPort}
 use Rattle.netlist.specs.Evaluation.{net_value, flat_values}
 use Rattle.netlist.specs.Runs.{library_machine}
@@ -21,7 +21,7 @@ pub record IsFlatCycle (library : LibraryValue) (flat : FlatValue) (x s outputs 
   pub next_are : next ≡ flat_next library flat x s
 
 -- The machine of a flat circuit: it takes values of the inputs in their order, and starts at the latches' inits.
-abbrev pub flat_machine : LibraryValue → FlatValue → Machine (List Bool) (List Bool) (List Bool)
+abbrev pub flat_machine : LibraryValue → FlatValue → MealyMachine (List Bool) (List Bool) (List Bool)
 flat_machine library flat = record { IsStart = λ s. s ≡ flat_inits flat; HasCycle = IsFlatCycle library flat }
 
 -- the values of the flat circuit's inputs, by their names

@@ -50,7 +50,7 @@ pub use Bounds.*
 pub use CoverWalk.*
 pub use Rattle.netlist.specs.declared.flat.OutPort.{OutPort}
 pub use Rattle.netlist.specs.declared.flat.FlatLatch.{FlatLatch}
-pub use Rattle.netlist.specs.declared.flat.Net.{Net as FlatNet}
+pub use Rattle.netlist.specs.declared.flat.FlatNet.{FlatNet}
 pub use Rattle.netlist.specs.SubcktValue.{formals}
 pub use Rattle.tl_text.specs.Once.{AreOnce}
 pub use Rattle.netlist.specs.WellFormed.{IsWellFormed, IsWellFormedModel}

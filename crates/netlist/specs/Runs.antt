@@ -1,6 +1,6 @@
 -- The clock cycle of the source circuit, and its machine.
 use Rattle.std.specs.Prelude.{◌≡◌, ℕ, Bool, false, if◌then◌else◌, List, [], ◌∷◌, length, map, Option, Some, None}
-use Rattle.machine.specs.Machine.{Machine}
+use Rattle.machine.specs.Machine.{MealyMachine}
 use Rattle.netlist.specs.Circuits.{Path, model_at, Place, same_place, latch_at, is_latch, FlatOrder, LatchValue, ModelValue, LibraryValue}
 use Rattle.netlist.specs.Cycle.{Fits}
 
@@ -51,5 +51,5 @@ pub record AreInits (library : LibraryValue) (states : List Bool) : Type 0 where
   pub are : states ≡ inits_of library latches
 
 -- The machine of a library: it takes values of the main inputs, by their names, and starts at the latches' inits.
-abbrev pub library_machine : LibraryValue → Machine (List ℕ → Bool) (List Bool) (List Bool)
+abbrev pub library_machine : LibraryValue → MealyMachine (List ℕ → Bool) (List Bool) (List Bool)
 library_machine library = record { IsStart = AreInits library; HasCycle = IsCycle library }

@@ -10,7 +10,7 @@ use tl_text::Name;
 
 /// A net, identified by its driver.
 #[derive(Clone, Copy, Debug, PartialEq, Eq)]
-pub enum Net {
+pub enum FlatNet {
     /// A regular input, by its index in [`Flat::inputs`].
     Input(u32),
     /// A latch, by its index in [`Flat::latches`].
@@ -23,7 +23,7 @@ pub enum Net {
 #[derive(Drop)]
 pub struct OutPort {
     pub name: Name,
-    pub net: Net,
+    pub net: FlatNet,
 }
 
 /// A cover of an instance.
@@ -33,7 +33,7 @@ pub struct FlatCover {
     pub model: u32,
     pub command: u32,
     /// The nets of its inputs, in order.
-    pub inputs: Vec<Net>,
+    pub inputs: Vec<FlatNet>,
 }
 
 impl Model for FlatCover {
@@ -63,7 +63,7 @@ impl FlatCover {
 #[derive(Clone, Copy, Debug, PartialEq, Eq)]
 pub struct FlatLatch {
     /// The net of the next state.
-    pub input: Net,
+    pub input: FlatNet,
     /// The initial state.
     pub init: bool,
     /// Whether it has a control.

@@ -35,7 +35,7 @@ mod subckt;
 pub use cell::Cell;
 pub use command::{Body, Command};
 pub use cover::Cover;
-pub use flat::{Flat, FlatCover, FlatLatch, Net, OutPort};
+pub use flat::{Flat, FlatCover, FlatLatch, FlatNet, OutPort};
 pub use latch::Latch;
 pub use law::{cycle_law, flat_law};
 pub use library::{BlifModel, Library};

@@ -1,6 +1,6 @@
 -- The machine at a limited rate, as a relation over configurations that are specialised from scratch (`IsConf`): the values that were asked for last, the configuration that the device has, and the circuit with its states.
 use Rattle.std.specs.Prelude.{◌≡◌, ℕ, ◌<◌, Bool, List, [], ◌∷◌, length, take}
-use Rattle.machine.specs.Machine.{Machine, Passes}
+use Rattle.machine.specs.Machine.{MealyMachine, Passes}
 use Rattle.tl_io.specs.declared.Assign.{Assign}
 use Rattle.tl_io.specs.declared.Write.{Write}
 use Rattle.tl_io.specs.Assigns.{assigned}
@@ -69,7 +69,7 @@ IsPaced (Ask assigns) old new shown = IsAsked assigns old new shown
 IsPaced (Tick values) old new shown = IsTicked values old new shown
 
 -- the machine of asks and ticks: it starts with the configuration of its values, and in a cycle it takes an event and shows it
-abbrev pub pacer_machine : Machine PaceValue PacerValue Shown
+abbrev pub pacer_machine : MealyMachine PaceValue PacerValue Shown
 pacer_machine = record { IsStart = λ p. IsConf p.pack p.params p.config; HasCycle = λ event old shown new. IsPaced event old new shown }
 
 -- events one after the other, what each shows, and the machine behind them

@@ -1,5 +1,5 @@
 //! What differs between what a job left and what it must leave.
-use crate::play::{Ran, untouched};
+use crate::play::{PlayedCall, untouched};
 use crate::scene::{PlayedJob, SceneFile, find};
 use std::alloc::{AllocError, Global};
 
@@ -80,7 +80,7 @@ fn put_ports(
     alloc: Global,
     text: &mut String,
     job: &PlayedJob,
-    ran: &Ran,
+    ran: &PlayedCall,
 ) -> Result<(), AllocError> {
     if job.wanted.ports.is_empty() {
         let wanted = untouched(alloc, job.ports.len())?;
@@ -96,7 +96,7 @@ pub fn differences(
     alloc: Global,
     before: &[SceneFile],
     job: &PlayedJob,
-    ran: &Ran,
+    ran: &PlayedCall,
 ) -> Result<String, AllocError> {
     let mut text = String::new(alloc);
     let (status, wanted) = (ran.status, job.wanted.status);

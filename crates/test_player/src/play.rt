@@ -27,7 +27,7 @@ pub trait Program {
 
 /// The calls of the shelf and of both outputs that fail.
 #[derive(Clone, Copy)]
-pub struct Fails<'a> {
+pub struct FailingCalls<'a> {
     pub shelf: &'a [u64],
     pub out: &'a [u64],
     pub err: &'a [u64],
@@ -35,7 +35,7 @@ pub struct Fails<'a> {
 
 /// What a call left.
 #[derive(Drop)]
-pub struct Ran {
+pub struct PlayedCall {
     pub status: u8,
     pub out: MemSink,
     pub err: MemSink,
@@ -149,7 +149,7 @@ fn world_of(
     alloc: Global,
     files: &[SceneFile],
     job: &PlayedJob,
-    fails: &Fails,
+    fails: &FailingCalls,
 ) -> Result<World, AllocError> {
     let shelf = shelf_of(alloc, files, job, fails.shelf)?;
     let out = sink_of(alloc, job.wanted.out.as_slice(), fails.out)?;
@@ -164,9 +164,9 @@ fn left(
     status: u8,
     world: World,
     ports: String,
-) -> Result<Ran, AllocError> {
+) -> Result<PlayedCall, AllocError> {
     let files = files_of(alloc, &world.shelf, files)?;
-    Ok(Ran {
+    Ok(PlayedCall {
         status,
         out: world.out,
         err: world.err,
@@ -182,8 +182,8 @@ pub fn run<P: Program>(
     files: &[SceneFile],
     job: &PlayedJob,
     words: &[String],
-    fails: &Fails,
-) -> Result<Ran, PlayStop> {
+    fails: &FailingCalls,
+) -> Result<PlayedCall, PlayStop> {
     let mut ports: Vec<Box<dyn ConfigPort>> = Vec::new(alloc);
     for (number, port) in (0..u32::MAX).zip(&job.ports) {
         let made = numbered(alloc, number, port)?;

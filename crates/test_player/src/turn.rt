@@ -1,6 +1,6 @@
 //! Each call of the shelf or of an output failing in turn, until a job leaves what it must.
 use crate::compare::{differences, wanted_bytes};
-use crate::play::{Fails, Program, Ran, run, untouched};
+use crate::play::{FailingCalls, PlayedCall, Program, run, untouched};
 use crate::scene::{Calls, PlayedJob, SceneFile, find};
 use crate::stop::PlayStop;
 use std::alloc::{AllocError, Global};
@@ -34,7 +34,7 @@ fn how_written(is: &SceneFile, was: &SceneFile, wanted: &[u8]) -> Option<Written
 }
 
 // Whether the files that are written are whole ones in the order of the words, then at most one in part, then ones as before.
-fn are_cut_off(before: &[SceneFile], job: &PlayedJob, words: &[String], ran: &Ran) -> bool {
+fn are_cut_off(before: &[SceneFile], job: &PlayedJob, words: &[String], ran: &PlayedCall) -> bool {
     let mut is_whole = true;
     for word in words {
         let name = word.as_str();
@@ -56,7 +56,7 @@ fn are_cut_off(before: &[SceneFile], job: &PlayedJob, words: &[String], ran: &Ra
 }
 
 // Whether the files that aren't written are as before; where `all` is told, each of them.
-fn are_kept(before: &[SceneFile], job: &PlayedJob, ran: &Ran, all: bool) -> bool {
+fn are_kept(before: &[SceneFile], job: &PlayedJob, ran: &PlayedCall, all: bool) -> bool {
     for (is, was) in ran.files.iter().zip(before) {
         let is_written = find(job.wanted.files.as_slice(), was.name.as_str()).is_some();
         if (all || !is_written) && is.bytes.as_slice() != was.bytes.as_slice() {
@@ -83,7 +83,7 @@ fn is_allowed(
     before: &[SceneFile],
     job: &PlayedJob,
     words: &[String],
-    ran: &Ran,
+    ran: &PlayedCall,
 ) -> Result<bool, AllocError> {
     match ran.status {
         READ_FAULT => Ok(
@@ -103,7 +103,7 @@ fn is_allowed(
 }
 
 // Whether a fault of the error output allows what was left: all as it must be, but for a beginning of the fault line.
-fn is_line_cut_off(job: &PlayedJob, before: &[SceneFile], ran: &Ran) -> bool {
+fn is_line_cut_off(job: &PlayedJob, before: &[SceneFile], ran: &PlayedCall) -> bool {
     for (is, was) in ran.files.iter().zip(before) {
         if is.bytes.as_slice() != wanted_bytes(job, was) {
             return false;
@@ -133,10 +133,10 @@ fn run_in_turn<P: Program>(
     files: &[SceneFile],
     job: &PlayedJob,
     words: &[String],
-) -> Result<(Ran, String), PlayStop> {
+) -> Result<(PlayedCall, String), PlayStop> {
     for call in 0..MOST_CALLS {
         let turn = [call];
-        let fails = Fails {
+        let fails = FailingCalls {
             shelf: these(&job.shelf, &turn),
             out: these(&job.out, &turn),
             err: these(&job.err, &turn),
@@ -170,11 +170,11 @@ pub fn run_job<P: Program>(
     files: &[SceneFile],
     job: &PlayedJob,
     words: &[String],
-) -> Result<(Ran, String), PlayStop> {
+) -> Result<(PlayedCall, String), PlayStop> {
     if is_in_turn(&job.shelf) || is_in_turn(&job.out) || is_in_turn(&job.err) {
         return run_in_turn(alloc, program, files, job, words);
     }
-    let fails = Fails {
+    let fails = FailingCalls {
         shelf: these(&job.shelf, &[]),
         out: these(&job.out, &[]),
         err: these(&job.err, &[]),

@@ -10,7 +10,7 @@ use Rattle.netlist.specs.LibraryValue.{LibraryValue}
 use Rattle.blif_read.specs.Refusals.{refusal_of as blif_refusal}
 use Rattle.blif_read.specs.declared.blif_err.BlifErr.TheVariants as blif_err
 use Rattle.netlist.specs.FlatValue.{FlatValue}
-use Rattle.netlist.specs.declared.flat.Net.TheVariants as net
+use Rattle.netlist.specs.declared.flat.FlatNet.TheVariants as net
 use Rattle.blif_flat.specs.Refusals.{refusal_of as flat_refusal}
 use Rattle.blif_flat.specs.declared.flat_err.FlatErr.TheVariants as flat_err
 use Rattle.param_list.specs.Parameters.{regular_names, param_names}

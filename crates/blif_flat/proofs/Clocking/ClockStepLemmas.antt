@@ -1,7 +1,7 @@
 -- The walk over the controls: what the net of one control says, and where the walk comes to.
 use Rattle.blif_flat.proofs.Common.{◌≡◌, ℕ, ◌+◌, ◌<◌, ◌≤◌, List, [], ◌∷◌, length, drop, drop_of_length-le, Option, Some, None, refl, sym, ap, ◌∙◌, subst, inl, inr, arith, slice_get, same_Some, slice_get_within, at_within, drop_get, Bool, true, false, Result, Ok, Err, ap₂, IfOk, IfErr, option_map, slice_get-map, OrMemory-map, suc, ltb, not, ◌||◌, ◌++◌, map, bytes_eq, filter, IsTrue, option_and_then, ltb-true, ltb-false, lt-ltb, le-ltb, or_parts, cases_Bool, both_ways, none-some, some_then, bytes_decides, list_any-append, list_any-position_none, LibraryValue, position_or_len, net_of_driver, one_net, latch_at-some, flat_all, has_with_names, LatchValue, ModelValue, Path, model_at, inputs_of, LatchAt, input_net, latch_net, cover_net, Drives, IsDriven, IsRead, latch_control, Place, latch_at, is_cover, is_latch, Latch as LatchBody, FlatErr, ClockNotInput, Gate, Instance, places_at, AreInstances, paths_of, IsWritten, Clocks, free, no_input, second, same, IsControl, some_latch, no_latch, NetsValue, table_of, AreAllNets, IsGateAt, AreGatesAt, IsControlled, IsWrittenAt, input_at, IsKeptInput, IsSecond, IsMetInput, IsRefused, not_input, another, ControlNext, ControlFault, IsControlSoFar, CameTo, OrMemory, IsClock, FlatNet, refusal_of, is_gate, data_of, ClockAmong, ClockData, outputs, here as clock_here, AreClockMarks, or_later, Tells, marked_name, clock_named, clock_fault, names_fault, place_of as index_place, has_name, listed, controls, FlatOrder, with_names, input_name, is_control, clock_test, TellsClocks, fun_ext}
 use Rattle.blif_flat.specs.ClockFaults.{stop, none, first as clock_first, later}
-use Rattle.netlist.specs.declared.flat.Net.TheVariants.{Input, Latch, Cover}
+use Rattle.netlist.specs.declared.flat.FlatNet.TheVariants.{Input, Latch, Cover}
 use Rattle.blif_flat.proofs.Clocking.ControlLemmas.{clocks-one}
 use Rattle.blif_flat.proofs.Connections.NetCopyLemmas.{latch_of, cover_of, none_found, input_found, latch_found, cover_found}
 use Rattle.blif_flat.proofs.Hierarchy.GateLemmas.{HasPlace, has_place, flat_places, place_within, latch_place}

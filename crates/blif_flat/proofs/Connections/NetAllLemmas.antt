@@ -1,6 +1,6 @@
 -- How the instances of rows are connected: an inner one by the line that places it, and the main model's own by none.
 use Rattle.blif_flat.proofs.Common.{◌≡◌, ℕ, zero, suc, ◌<◌, List, [], ◌∷◌, ◌++◌, length, map, Option, Some, None, refl, sym, ap, ◌∙◌, subst, inl, inr, arith, slice_get, option_and_then, none-some, same_Some, slice_get_within, In, In-left, In-right, In-map, at_within, item_there, ◌≤◌, get_or, IsTrue, or_cases, slice_get_read, apart_once, Body, Cover, Latch, Subckt, Command, Connection, ModelValue, Path, with_subckt, subckts_of, model_at, ConnectionAt, Instance, path_of, paths_of, IsRow, AreInstances, body_names, commands_names, Link, line_of, link_of, link_under, link_at, has_name, is_input, is_output, inputs_of, IsDriven, is_cover, is_latch, Gate, places_at, AreGatesAt, IsSoundTable, HasOwn, HasOutputs, HasInputs, AreNetsAt, net_places, HasSlots, AreEmptyNets, IsNext, AreAllNets, NetsValue, table_of, IsNets, output_of_cover, output_of_latch, with_covers, with_latches, with_inputs, linked_out, linked_in, formal_of, actual_of, links_out, links_in, AreLinesOf, IsWellFormed, Ports, ports_value, IsLight, SubcktValue, LibraryValue, Places, Inside, inside, child_at, has_in}
-use Rattle.netlist.specs.declared.flat.Net.TheVariants.{Latch as LatchNumber, Cover as CoverNumber}
+use Rattle.netlist.specs.declared.flat.FlatNet.TheVariants.{Latch as LatchNumber, Cover as CoverNumber}
 use Rattle.blif_flat.proofs.Connections.NetCopyLemmas.{sound_empty, own_kept, inputs_start, outputs_start, inputs_step, outputs_step, next_same, next_on, pairs_next, pairs_known, IsConnection, passes_out, passes_in}
 use Rattle.blif_flat.proofs.Connections.NetLemmas.{HasParent, has_parent, formal_known, actual_known, table_found}
 use Rattle.blif_flat.proofs.Connections.NetOwnLemmas.{commands_within, slots_on, gates_next, gates_known, covers_own, latches_own, gate_of, input_named, main_next, main_known}

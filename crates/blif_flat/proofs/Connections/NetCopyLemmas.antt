@@ -1,6 +1,6 @@
 -- Slots of nets: the slot of a name, and the table when one more slot is filled.
 use Rattle.blif_flat.proofs.Common.{◌≡◌, ℕ, ◌+◌, ◌<◌, ◌≤◌, Bool, eqb, List, length, Option, Some, None, refl, sym, ap, ◌∙◌, inl, inr, bytes_eq, arith, slice_get, slice_set, ◌&&◌, option_map, option_and_then, get_or, slice_get_read, cases_Bool, cases_lt, both_ways, cond-true, cond-false, and_parts, and_from, bytes_decides, set_here, set_other, set_length, [], subst, suc, ◌∷◌, ◌⊎◌, IsTrue, none-some, same_Some, slice_get_within, In, place_of, Connection, FlatNet, Start, with_net, NetsValue, name_place, slot_number, slot_at, table_of, with_slot, with_found, copied, pair_copied, pairs_copied, IsNets, most_weight, ModelValue, Path, model_at, inputs_of, Net, input_net, latch_net, cover_net, Drives, Place, is_cover, is_latch, Instance, places_at, AreInstances, paths_of, IsNumbered, an_input, a_latch, a_cover, net_places, IsNetFound, AreAllNets, is_input, is_output, ConnectionAt, IsNetOf, IsSoundTable, HasOwn, HasOutputs, HasInputs, IsKeptIn, IsNext, LibraryValue, Places, eqb-true, eq-eqb}
-use Rattle.netlist.specs.declared.flat.Net.TheVariants.{Input, Latch, Cover}
+use Rattle.netlist.specs.declared.flat.FlatNet.TheVariants.{Input, Latch, Cover}
 use Rattle.blif_flat.proofs.Connections.NetLemmas.{outer_number, inner_number}
 
 -- the slot of a name

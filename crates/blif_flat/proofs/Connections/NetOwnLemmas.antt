@@ -1,6 +1,6 @@
 -- The covers and latches of all instances are put in at their outputs: the table stays right, and their outputs stand in it.
 use Rattle.blif_flat.proofs.Common.{◌≡◌, ℕ, zero, suc, ◌+◌, Bool, List, [], ◌∷◌, ◌++◌, Option, Some, None, refl, sym, ap, ◌∙◌, subst, inl, inr, arith, slice_get, IsTrue, option_and_then, apart_once, none-some, same_Some, option_and_then_some, In, In-left, In-right, item_there, true, is_some, or_cases, false≢true, In-get, LibraryValue, Places, place_is, has_in, in_has, in_input, input_in, place_some, Net, Place, Drives, Body, Cover, Latch, Command, ModelValue, Path, body_at, model_at, latch_net, cover_net, is_cover, is_latch, FlatNet, Gate, Instance, latch_output as drives_latch, cover_output as drives_cover, places_at, paths_of, AreInstances, IsNumbered, a_latch, a_cover, IsNetOf, IsGateAt, AreGatesAt, body_names, commands_names, all_names, IsSoundTable, net_places, own_number, HasSlots, IsNext, NetsValue, table_of, IsNets, body_in, gate_body, output_of_cover, output_of_latch, with_named, with_gates, place_of as index_place, has_name, is_input, inputs_of, with_place, with_inputs}
-use Rattle.netlist.specs.declared.flat.Net.TheVariants.{Latch as LatchNumber, Cover as CoverNumber, Input as InputNumber}
+use Rattle.netlist.specs.declared.flat.FlatNet.TheVariants.{Latch as LatchNumber, Cover as CoverNumber, Input as InputNumber}
 use Rattle.blif_flat.proofs.Connections.NetCopyLemmas.{copied-nets, copied-kept, copied-known, copied-slots, copied-sound, next_same, next_on}
 use Rattle.blif_flat.proofs.Connections.NetLemmas.{gate_place_at, input_number}
 use Rattle.blif_flat.proofs.Hierarchy.GateLemmas.{gate_place, gate_body-is}

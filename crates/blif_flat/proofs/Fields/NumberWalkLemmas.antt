@@ -3,7 +3,7 @@ use Rattle.blif_flat.proofs.Common.{choose, In-push, of_range, ◌≡◌, ℕ, �
 use Rattle.std.proofs.lemmas.List.FromFn.{length-range_with_len, get_or-range_with_len}
 use Rattle.depth_first.specs.Walk.{leads_to, from_node as from_number, VisitedAll}
 use Rattle.depth_first.specs.declared.edge.End.TheVariants.{Loop, Stop}
-use Rattle.netlist.specs.declared.flat.Net.TheVariants.{Cover}
+use Rattle.netlist.specs.declared.flat.FlatNet.TheVariants.{Cover}
 use Rattle.netlist.proofs.MeetLemmas.{meets_append, found_append, nodes_met, result_mapped, repeat_mapped, IsInside, nodes_inside, nodes_mapped}
 
 pub range_below : (ns : List ℕ) (count : ℕ) → ns ≡ range_with_len 0 count → (k d : ℕ) → k < length ns → get_or ns k d < count

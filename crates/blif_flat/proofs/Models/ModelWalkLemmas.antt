@@ -1,7 +1,7 @@
 -- The walk of the models by their numbers is that of the definition, and its order puts each model behind those that it places.
 use Rattle.blif_flat.proofs.Common.{◌≡◌, ℕ, ◌<◌, false, List, Vec, Global, [], ◌∷◌, ◌++◌, map, reverse, length, Option, Some, None, refl, sym, ap, ◌∙◌, subst, subst₂, inl, inr, slice_get, option_map, unwrap_or, both_ways, length-map, none-some, same_Some, slice_get_within, slice_get-map, In, In-map, at_within, in_reversed, OrMemory-map, LibraryValue, ways_of, ways_from, successors, AreNodes, ending_of, Visited, stop, reached_only, reverse-append, Node, Stop, Pass}
 use Rattle.blif_flat.specs.{leads, WalkValue, OrMemory, place_of, Body, Subckt, Command, ModelValue, has_name, model_named, AreOnce, FlatErr, or_later, SubcktLine, with_line, subckt_lines, line_fault, is_walked, Walked, refused, walked, Walks, refuse, again, inside, onward, WalksMain, refusal_of, IsTold, model_names, IsModelOf, Finds, models_at, IsBehind, AreChildrenFirst, edge_by, line_edge, body_edge, commands_edges, edge_rows, edges_at, with_model_name, names_at, lines_fault, model_lines_fault, path_fault}
-use Rattle.depth_first.specs.DepthFirst.{Way, stops, Ending, repeats, halts, nodes_of, Outcome, ends_at, goes_through, Enters, ended, stopped_at, back, again as enters_again, inside as enters_inside, onward as enters_onward}
+use Rattle.depth_first.specs.DepthFirst.{Way, stops, Ending, repeats, halts, nodes_of, WalkOutcome, ends_at, goes_through, Enters, ended, stopped_at, back, again as enters_again, inside as enters_inside, onward as enters_onward}
 use Rattle.depth_first.specs.Order.{LeadsInto, IsSettled}
 use Rattle.depth_first.specs.declared.edge.Edge.{Edge}
 use Rattle.depth_first.specs.declared.edge.End.{End}
@@ -129,12 +129,12 @@ module _ (models : List ModelValue) (names : AreOnce (model_names models)) where
   path_of_end (repeats n path) = path
   path_of_end (halts s path) = path
 
-  abbrev Linked : List (List ℕ) → ModelValue → List ModelValue → List SubcktLine → Outcome ℕ (Unit {0}) → Type 0
+  abbrev Linked : List (List ℕ) → ModelValue → List ModelValue → List SubcktLine → WalkOutcome ℕ (Unit {0}) → Type 0
   Linked chain m before lines (goes_through after) = Walks library chain m before lines (walked (models_at models (reverse after)))
   Linked chain m before lines (ends_at end) = (fault : FlatErr) × ((path_fault models (path_of_end end) ≡ Some fault) × Walks library chain m before lines (refused fault))
 
   moved : (chain other : List (List ℕ)) (m k : ModelValue) (before between : List ModelValue) (lines rest : List SubcktLine) → ((r : Walked) → Walks library other k between rest r → Walks library chain m before lines r)
-      → (o : Outcome ℕ (Unit {0})) → Linked other k between rest o → Linked chain m before lines o
+      → (o : WalkOutcome ℕ (Unit {0})) → Linked other k between rest o → Linked chain m before lines o
   moved chain other m k before between lines rest f (goes_through after) h = f (walked (models_at models (reverse after))) h
   moved chain other m k before between lines rest f (ends_at end) h = (h.0, ((h.1).0, f (refused h.0) (h.1).1))
 
@@ -163,7 +163,7 @@ module _ (models : List ModelValue) (names : AreOnce (model_names models)) where
       (ap (λ o. with_model_name o (names_at models path)) at) (ap (models_at models)
       (reverse-append (n ∷ []) before) ∙ models_at-push models (reverse before) n child at) w
 
-  linked : {path before : List ℕ} {ws : List (Way ℕ (Unit {0}))} {result : Outcome ℕ (Unit {0})} → Enters ways path before ws result → (m : ModelValue) (cs : List Command) → ws ≡ lines_ways m cs
+  linked : {path before : List ℕ} {ws : List (Way ℕ (Unit {0}))} {result : WalkOutcome ℕ (Unit {0})} → Enters ways path before ws result → (m : ModelValue) (cs : List Command) → ws ≡ lines_ways m cs
       → IsFirstFault path m (subckt_lines cs) → Linked (names_at models path) m (models_at models (reverse before)) (subckt_lines cs) result
   linked {path} {before} (ended e q) m cs z is = subst (Linked (names_at models path) m (models_at models (reverse before)) (subckt_lines cs)) (sym q) (stop (no_lines m cs (sym z ∙ e)) refl)
   linked {path} {before} (stopped_at s rest e q) m cs z is =
@@ -208,14 +208,14 @@ module _ (models : List ModelValue) (names : AreOnce (model_names models)) where
 
   -- the walk from the main model
   module _ (main : ModelValue) (at : slice_get models 0 ≡ Some main) where
-    abbrev MainLinked : Outcome ℕ (Unit {0}) → Type 0
+    abbrev MainLinked : WalkOutcome ℕ (Unit {0}) → Type 0
     MainLinked (goes_through after) = WalksMain library main (walked (models_at models (reverse after)))
     MainLinked (ends_at end) = (fault : FlatErr) × ((path_fault models (path_of_end end) ≡ Some fault) × WalksMain library main (refused fault))
 
     begun : (r : Walked) → Walks library (names_at models (0 ∷ [])) main (models_at models (reverse (0 ∷ []))) (subckt_lines main.commands) r → WalksMain library main r
     begun r w = record { walks = inner [] [] 0 main r at w }
 
-    nothing_left : {path before : List ℕ} {ws : List (Way ℕ (Unit {0}))} {result : Outcome ℕ (Unit {0})} → Enters ways path before ws result → ws ≡ [] → result ≡ goes_through before
+    nothing_left : {path before : List ℕ} {ws : List (Way ℕ (Unit {0}))} {result : WalkOutcome ℕ (Unit {0})} → Enters ways path before ws result → ws ≡ [] → result ≡ goes_through before
     nothing_left (ended e q) z = q
     nothing_left (stopped_at s rest e q) z = absurd (cc)
     nothing_left (back n rest e i q) z = absurd (cc)
@@ -223,7 +223,7 @@ module _ (models : List ModelValue) (names : AreOnce (model_names models)) where
     nothing_left (enters_inside n rest end e off new w q) z = absurd (cc)
     nothing_left (enters_onward n rest after e off new w v) z = absurd (cc)
 
-    pub main_linked : {ws : List (Way ℕ (Unit {0}))} {result : Outcome ℕ (Unit {0})} → Enters ways [] [] ws result → ws ≡ leads 0 ∷ [] → MainLinked result
+    pub main_linked : {ws : List (Way ℕ (Unit {0}))} {result : WalkOutcome ℕ (Unit {0})} → Enters ways [] [] ws result → ws ≡ leads 0 ∷ [] → MainLinked result
     main_linked (ended e q) z = absurd (cc)
     main_linked (stopped_at s rest e q) z = absurd (cc)
     main_linked (back n rest e i q) z = absurd i
@@ -309,7 +309,7 @@ module _ (models : List ModelValue) (names : AreOnce (model_names models)) where
     ]
 
     module _ (main : ModelValue) (at : slice_get models 0 ≡ Some main) where
-      entered_from : (o : Outcome ℕ (Unit {0})) → Enters ways [] w.begun (leads 0 ∷ []) o → MainLinked main at o
+      entered_from : (o : WalkOutcome ℕ (Unit {0})) → Enters ways [] w.begun (leads 0 ∷ []) o → MainLinked main at o
       entered_from o h = main_linked main at (subst (λ (x : WalkValue). Enters ways [] x.begun (leads 0 ∷ []) o) new h) refl
 
       pub visit_walks : Visited (edges_at (edge_rows models models)) w v 0 None → WalksMain library main (walked (models_at models (reverse v.begun)))

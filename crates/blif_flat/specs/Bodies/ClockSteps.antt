@@ -6,7 +6,7 @@ use Rattle.blif_flat.specs.ClockFaults.{Clocks}
 use Rattle.blif_flat.specs.Bodies.InstanceRows.{places_at}
 use Rattle.blif_flat.specs.Bodies.NetTable.{NetsValue, table_of}
 use Rattle.blif_flat.specs.Written.{IsWritten}
-use Rattle.netlist.specs.declared.flat.Net.TheVariants.{Latch, Cover}
+use Rattle.netlist.specs.declared.flat.FlatNet.TheVariants.{Latch, Cover}
 
 -- the name of an input's number
 abbrev pub input_name : ModelValue → Option ℕ → Option (List ℕ)

@@ -19,7 +19,7 @@ use Rattle.blif_flat.specs.declared.clock.clock_check.ClockNets.{ClockNets}
 use Rattle.blif_flat.specs.declared.circuit.connect.Circuit.{Circuit}
 use Rattle.blif_flat.specs.declared.field.loops.Found.{Found}
 use Rattle.blif_flat.specs.declared.field.loops.Found.TheVariants.{Loop as found_loop, Order as found_order}
-use Rattle.netlist.specs.declared.flat.Net.TheVariants.{Latch, Cover}
+use Rattle.netlist.specs.declared.flat.FlatNet.TheVariants.{Latch, Cover}
 
 -- the numbers of the inputs that aren't marked, counted on from n; a marked one has the number of the next one
 abbrev pub regular_numbers : ℕ → List Bool → List ℕ

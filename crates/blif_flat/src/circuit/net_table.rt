@@ -11,7 +11,7 @@ ghost use Rattle.netlist.specs.LibraryValue.{LibraryValue};
 use crate::circuit::instances::{Gate, Instance, gate_body};
 use crate::circuit::nets::{Nets, pairs_in, pairs_out};
 use crate::model::ports::Ports;
-use netlist::{BlifModel, Body, Command, Connection, Library, Net, Subckt};
+use netlist::{BlifModel, Body, Command, Connection, FlatNet, Library, Subckt};
 use std::alloc::{AllocError, Global};
 use std::marker::Model;
 use tl_text::Name;
@@ -196,22 +196,22 @@ fn links_in(placed: &Placed<'_, '_>, nets: &mut Nets)
 // Puts a cover in at its output.
 fn set_cover(library: &Library, instances: &[Instance], nets: &mut Nets, gate: &Gate, k: u32)
     requires { IsNets nets.old }
-    ensures cover { nets.new ≡ with_named nets.old gate.now.row (option_and_then cover_output (body_of library.now instances.now gate.now)) (Net.Cover k) }
+    ensures cover { nets.new ≡ with_named nets.old gate.now.row (option_and_then cover_output (body_of library.now instances.now gate.now)) (FlatNet.Cover k) }
     ensures nets { IsNets nets.new }
 {
     if let Some(Body::Cover(cover)) = gate_body(library, instances, *gate) {
-        nets.set(gate.row, cover.output.bytes(), Net::Cover(k));
+        nets.set(gate.row, cover.output.bytes(), FlatNet::Cover(k));
     }
 }
 
 // Puts a latch in at its output.
 fn set_latch(library: &Library, instances: &[Instance], nets: &mut Nets, gate: &Gate, k: u32)
     requires { IsNets nets.old }
-    ensures latch { nets.new ≡ with_named nets.old gate.now.row (option_and_then latch_output (body_of library.now instances.now gate.now)) (Net.Latch k) }
+    ensures latch { nets.new ≡ with_named nets.old gate.now.row (option_and_then latch_output (body_of library.now instances.now gate.now)) (FlatNet.Latch k) }
     ensures nets { IsNets nets.new }
 {
     if let Some(Body::Latch(latch)) = gate_body(library, instances, *gate) {
-        nets.set(gate.row, latch.output.bytes(), Net::Latch(k));
+        nets.set(gate.row, latch.output.bytes(), FlatNet::Latch(k));
     }
 }
 
@@ -258,7 +258,7 @@ fn set_input(ports: &Ports, nets: &mut Nets, name: &[u8])
     ensures nets { IsNets nets.new }
 {
     if let Some(place) = ports.input_place(name) {
-        nets.set(0, name, Net::Input(place as u32));
+        nets.set(0, name, FlatNet::Input(place as u32));
     }
 }
 

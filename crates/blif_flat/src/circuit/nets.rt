@@ -6,7 +6,7 @@ ghost use Rattle.blif_flat.specs.{place_of, slot_number, table_of, with_slot, wi
 
 use crate::circuit::instances::Instance;
 use crate::model::ports::Ports;
-use netlist::{BlifModel, Body, Command, Connection, Cover, Latch, Library, Net};
+use netlist::{BlifModel, Body, Command, Connection, Cover, FlatNet, Latch, Library};
 use std::alloc::{AllocError, Global};
 use std::marker::Model;
 use tl_text::{NameIndex, TextKey};
@@ -26,7 +26,7 @@ pub(crate) struct Nets {
     /// The slots of each instance.
     starts: Vec<Start>,
     /// A slot for each name of each instance.
-    slots: Vec<Option<Net>>,
+    slots: Vec<Option<FlatNet>>,
 }
 
 impl Model for Nets {
@@ -63,7 +63,11 @@ fn slot_of(nets: &Nets, i: u32, name: &[u8]) -> Option<usize>
 
 impl Nets {
     /// A table with these names of the models, these starts of the instances, and these slots.
-    pub(crate) fn new(names: Vec<NameIndex>, starts: Vec<Start>, slots: Vec<Option<Net>>) -> Nets
+    pub(crate) fn new(
+        names: Vec<NameIndex>,
+        starts: Vec<Start>,
+        slots: Vec<Option<FlatNet>>,
+    ) -> Nets
         ensures { result ≡ record { names = names.items; starts = starts.items; slots = slots.items } }
     {
         Nets {
@@ -75,7 +79,7 @@ impl Nets {
 
     /// The net of a name of an instance. `None` if nothing drives it, or if the instance or the name doesn't exist. The time is
     /// linear in the name's bytes, on average over the hashes.
-    pub(crate) fn net(&self, i: u32, name: &[u8]) -> Option<Net>
+    pub(crate) fn net(&self, i: u32, name: &[u8]) -> Option<FlatNet>
         requires { IsNets self.now }
         ensures { result ≡ table_of self.now i name.now }
     {
@@ -89,7 +93,7 @@ impl Nets {
     }
 
     // Puts a net into a slot.
-    fn put(&mut self, k: usize, net: Net)
+    fn put(&mut self, k: usize, net: FlatNet)
         requires { k < length self.old.slots }
         ensures { self.new ≡ with_slot self.old k net }
     {
@@ -97,7 +101,7 @@ impl Nets {
     }
 
     /// Sets the net of a name of an instance, if it has a slot. It takes the time of `net`.
-    pub(crate) fn set(&mut self, i: u32, name: &[u8], net: Net)
+    pub(crate) fn set(&mut self, i: u32, name: &[u8], net: FlatNet)
         requires { IsNets self.old }
         ensures found { self.new ≡ with_found self.old (slot_number self.old i name.now) net }
         ensures nets { IsNets self.new }
@@ -294,7 +298,7 @@ fn row_starts(
 }
 
 // Slots without nets.
-fn empty_slots(alloc: Global, count: usize) -> Result<Vec<Option<Net>>, AllocError>
+fn empty_slots(alloc: Global, count: usize) -> Result<Vec<Option<FlatNet>>, AllocError>
     ensures { IfOk result (λ slots. slots.items ≡ replicate count None) }
 {
     let slots = vec![in alloc; None; count]?;

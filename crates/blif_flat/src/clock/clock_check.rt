@@ -12,7 +12,7 @@ use crate::clock::clocks::clock_marks;
 use crate::clock::controls::check_controls;
 use crate::clock::wiring::Wiring;
 use crate::flat_err::FlatErr;
-use netlist::{BlifModel, Body, Library, Net};
+use netlist::{BlifModel, Body, FlatNet, Library};
 use std::alloc::Global;
 use tl_text::Name;
 
@@ -27,14 +27,14 @@ fn marked_input<'a>(inputs: &'a [Name], marks: &[bool], j: u32) -> Option<&'a Na
 }
 
 // The marked input that a net is.
-fn clock_of<'a>(inputs: &'a [Name], marks: &[bool], net: Option<Net>) -> Option<&'a Name>
+fn clock_of<'a>(inputs: &'a [Name], marks: &[bool], net: Option<FlatNet>) -> Option<&'a Name>
     ensures { MatchOption result (clock_named inputs.now marks.now net ≡ None) (λ name. clock_named inputs.now marks.now net ≡ Some name.now) }
 {
     match net {
         None => None,
-        Some(Net::Input(j)) => marked_input(inputs, marks, j),
-        Some(Net::Latch(_)) => None,
-        Some(Net::Cover(_)) => None,
+        Some(FlatNet::Input(j)) => marked_input(inputs, marks, j),
+        Some(FlatNet::Latch(_)) => None,
+        Some(FlatNet::Cover(_)) => None,
     }
 }
 

@@ -8,7 +8,7 @@ use crate::circuit::instances::{Gate, Instance, gate_at, gate_latch};
 use crate::clock::wiring::Wiring;
 use crate::field::written::{write_net, written_cover};
 use crate::flat_err::FlatErr;
-use netlist::{Library, Net};
+use netlist::{FlatNet, Library};
 use std::alloc::{AllocError, Global};
 use tl_text::Name;
 
@@ -93,9 +93,11 @@ fn meet_control(
 {
     match wiring.nets.net(row, control.bytes()) {
         None => Ok(first),
-        Some(Net::Input(j)) => Ok(Some(keep_input(alloc, wiring.inputs, first, j)?)),
-        Some(Net::Latch(k)) => Err(FlatErr::ClockNotInput(write_latch(alloc, library, wiring, k)?)),
-        Some(Net::Cover(k)) => Err(FlatErr::ClockNotInput(written_cover(
+        Some(FlatNet::Input(j)) => Ok(Some(keep_input(alloc, wiring.inputs, first, j)?)),
+        Some(FlatNet::Latch(k)) => Err(FlatErr::ClockNotInput(write_latch(
+            alloc, library, wiring, k,
+        )?)),
+        Some(FlatNet::Cover(k)) => Err(FlatErr::ClockNotInput(written_cover(
             alloc,
             library,
             wiring.instances,

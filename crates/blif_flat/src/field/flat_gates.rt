@@ -7,7 +7,7 @@ ghost use Rattle.blif_flat.specs.{number_or_zero, regular_numbers as numbers_of,
 
 use crate::circuit::instances::{Gate, Instance, gate_body};
 use crate::circuit::nets::Nets;
-use netlist::{Body, FlatCover, FlatLatch, Latch, Library, Net};
+use netlist::{Body, FlatCover, FlatLatch, FlatNet, Latch, Library};
 use std::alloc::{AllocError, Global};
 use tl_text::Name;
 
@@ -38,24 +38,24 @@ fn number_at(numbers: &[u32], j: u32) -> u32
 }
 
 // A net with its regular number.
-fn renumbered(numbers: &[u32], net: Net) -> Net
+fn renumbered(numbers: &[u32], net: FlatNet) -> FlatNet
     ensures { result ≡ renumbered_of numbers.now net }
 {
     match net {
-        Net::Input(j) => Net::Input(number_at(numbers, j)),
-        Net::Latch(j) => Net::Latch(j),
-        Net::Cover(j) => Net::Cover(j),
+        FlatNet::Input(j) => FlatNet::Input(number_at(numbers, j)),
+        FlatNet::Latch(j) => FlatNet::Latch(j),
+        FlatNet::Cover(j) => FlatNet::Cover(j),
     }
 }
 
 /// The net of a name of an instance, with inputs numbered among the regular ones. `Input(0)` if nothing drives the name. The
 /// time is linear in the name's bytes, on average over the hashes.
-pub(crate) fn net_at(nets: &Nets, numbers: &[u32], i: u32, name: &[u8]) -> Net
+pub(crate) fn net_at(nets: &Nets, numbers: &[u32], i: u32, name: &[u8]) -> FlatNet
     requires { IsNets nets.now }
     ensures { result ≡ regular_net numbers.now nets.now i name.now }
 {
     match nets.net(i, name) {
-        None => Net::Input(0),
+        None => FlatNet::Input(0),
         Some(net) => renumbered(numbers, net),
     }
 }
@@ -67,7 +67,7 @@ pub(crate) fn net_list(
     numbers: &[u32],
     i: u32,
     names: &[Name],
-) -> Result<Vec<Net>, AllocError>
+) -> Result<Vec<FlatNet>, AllocError>
     requires { IsNets nets.now }
     ensures { IfOk result (λ list. list.items ≡ regular_nets numbers.now nets.now i names.now) }
 {
@@ -174,7 +174,7 @@ fn no_latch() -> FlatLatch
     ensures { result ≡ no_latch_value }
 {
     FlatLatch {
-        input: Net::Input(0),
+        input: FlatNet::Input(0),
         init: false,
         clocked: false,
     }

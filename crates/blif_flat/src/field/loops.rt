@@ -9,7 +9,7 @@ use crate::circuit::instances::{Gate, Instance};
 use crate::field::written::written_cover;
 use crate::flat_err::FlatErr;
 use depth_first::{Edge, End, Successors, Walk};
-use netlist::{FlatCover, FlatLatch, Library, Net, OutPort};
+use netlist::{FlatCover, FlatLatch, FlatNet, Library, OutPort};
 use std::alloc::{AllocError, Global};
 use tl_fault::{Name, Names};
 
@@ -23,7 +23,7 @@ pub(crate) enum Found {
 }
 
 // The inputs of a cover.
-fn inputs_of(covers: &[FlatCover], n: u32) -> &[Net]
+fn inputs_of(covers: &[FlatCover], n: u32) -> &[FlatNet]
     requires { n < length covers.now }
     ensures { result.now ≡ inputs_at (slice_get covers.now n) }
 {
@@ -32,13 +32,13 @@ fn inputs_of(covers: &[FlatCover], n: u32) -> &[Net]
 }
 
 // The edge to the driver of a net.
-fn edge(net: Net) -> Edge<()>
+fn edge(net: FlatNet) -> Edge<()>
     ensures { result ≡ edge_of net }
 {
     match net {
-        Net::Input(_) => Edge::Pass,
-        Net::Latch(_) => Edge::Pass,
-        Net::Cover(n) => Edge::Node(n),
+        FlatNet::Input(_) => Edge::Pass,
+        FlatNet::Latch(_) => Edge::Pass,
+        FlatNet::Cover(n) => Edge::Node(n),
     }
 }
 
@@ -122,13 +122,13 @@ pub(crate) fn walk_covers(
 }
 
 // Adds the cover that drives a net, if one does.
-fn add_cover(covers: &mut Vec<u32>, net: Net) -> Result<(), AllocError>
+fn add_cover(covers: &mut Vec<u32>, net: FlatNet) -> Result<(), AllocError>
     ensures { OnOk result ((nets : List NetValue) → covers.new.items ++ cover_numbers nets ≡ covers.old.items ++ cover_numbers (net ∷ nets)) }
 {
     match net {
-        Net::Input(_) => Ok(()),
-        Net::Latch(_) => Ok(()),
-        Net::Cover(n) => {
+        FlatNet::Input(_) => Ok(()),
+        FlatNet::Latch(_) => Ok(()),
+        FlatNet::Cover(n) => {
             covers.push(n)?;
             Ok(())
         }

@@ -1,6 +1,6 @@
 -- What the events of a script add up to: the writes of its changes, and the outputs of its cycles read as numbers.
 use Rattle.std.specs.Prelude.{◌≡◌, ℕ, ◌+◌, ◌^◌, ◌≤◌, List, length}
-use Rattle.machine.specs.Machine.{Machine, Passes}
+use Rattle.machine.specs.Machine.{MealyMachine, Passes}
 use Rattle.list_laws.specs.Digits.{number}
 use Rattle.run_text.specs.EventValue.{EventValue, Set, Cycle, Upset, Scrub, Image}
 use Rattle.run_core.specs.Events.{MachineValue, IsPlayed}
@@ -22,13 +22,13 @@ output_of Scrub m = 0
 output_of Image m = 0
 
 -- a machine, and what its events added up to
-pub record Tally : Type 0 where
+pub record TalliedMachine : Type 0 where
   pub machine : MachineValue
   pub writes : ℕ
   pub total : ℕ
 
 -- the machine that adds up: in a cycle it plays an event
-abbrev pub tally_machine : Machine EventValue Tally (Unit {0})
+abbrev pub tally_machine : MealyMachine EventValue TalliedMachine (Unit {0})
 tally_machine = record {
   IsStart = λ tally. tally.writes ≡ 0 × tally.total ≡ 0;
   HasCycle = λ event old shown new. IsPlayed event old.machine new.machine × new.writes ≡ old.writes + writes_of event new.machine × new.total ≡ old.total + output_of event new.machine;

@@ -2,7 +2,7 @@
 use Rattle.std.specs.Prelude.{◌≡◌, ℕ, Bool, List, [], ◌∷◌, Ok}
 use Rattle.std.specs.List.{concat}
 use Rattle.list_laws.specs.Members.{In}
-use Rattle.machine.specs.Machine.{Machine, Passes}
+use Rattle.machine.specs.Machine.{MealyMachine, Passes}
 use Rattle.tl_io.specs.Assigns.{assigned}
 use Rattle.tl_io.specs.Content.{extended}
 use Rattle.tl_io.specs.Shelf.{Files}
@@ -92,7 +92,7 @@ module _ (source : Source) (g : Aig) (template : TemplateValue) where
     pub load : Plays config (writes_from 0 config) ports first.bank (Ok tt)
 
   -- the machine that a script shows of the source circuit, and some events one after the other, with their lines
-  abbrev pub shown_machine : Machine EventValue ShownSource (List ℕ)
+  abbrev pub shown_machine : MealyMachine EventValue ShownSource (List ℕ)
   shown_machine = record { IsStart = λ first. (ports : BankSeen) × IsShownFirst ports first; HasCycle = Shows }
 
   abbrev pub ShowAll : ShownSource → List EventValue → List (List ℕ) → ShownSource → Type 0

@@ -19,7 +19,7 @@ pub struct GenWords {
 }
 
 // The arguments of `gen`, if their numbers are in range.
-fn whole(rule: Rule, digits: Option<u64>, seed: Option<u64>) -> Option<GenWords>
+fn assemble(rule: Rule, digits: Option<u64>, seed: Option<u64>) -> Option<GenWords>
     ensures value { result ≡ gen_words rule digits seed }
     ensures range { IfSome result HasDigits }
 {
@@ -43,7 +43,7 @@ pub fn read_gen(rule: Rule, words: &[String]) -> Option<GenWords>
 {
     match words {
         [command, digits, seed] if command.as_str() == "gen" => {
-            whole(rule, decimal(digits.as_bytes()), decimal(seed.as_bytes()))
+            assemble(rule, decimal(digits.as_bytes()), decimal(seed.as_bytes()))
         }
         _ => None,
     }

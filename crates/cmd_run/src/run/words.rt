@@ -43,7 +43,7 @@ fn counts(ports: usize, serving: Option<u64>, spares: Option<u64>) -> Option<Por
 }
 
 // The arguments of `run`, from their parts.
-fn whole<'a>(
+fn assemble<'a>(
     rule: Rule,
     netlist: &'a str,
     params: &'a str,
@@ -83,7 +83,7 @@ pub fn read_run(rule: Rule, ports: usize, words: &[String]) -> Option<RunWords<'
                 decimal(serving.as_bytes()),
                 decimal(spares.as_bytes()),
             );
-            whole(
+            assemble(
                 rule,
                 netlist.as_str(),
                 params.as_str(),

@@ -1,6 +1,6 @@
 -- A worked example of flat circuits: two inverters in a row, each an instance, and a latch behind them.
 use Rattle.netlist.proofs.Common.{◌≡◌, true, false, [], ◌∷◌, codes, None, refl, inl, inr, Zero, Cover, Latch, Subckt, LatchValue, ModelValue, cover_net, cover_output, from_inside, from_outside, is_cover, FlatOrder, flat, flat_roots, IsNetOf, a_cover, most_underscores, flat_outputs, flat_next, CoverValue, SubcktValue, LibraryValue, Places, FlatValue, more, none}
-use Rattle.netlist.specs.declared.flat.Net.TheVariants as net
+use Rattle.netlist.specs.declared.flat.FlatNet.TheVariants as net
 
 -- .model top / .inputs a / .outputs y q / .subckt inv i=a o=t / .subckt inv i=t o=y / .latch y q 1 / .model inv / .inputs i / .outputs o / .names i o / 0 1
 abbrev flip : CoverValue

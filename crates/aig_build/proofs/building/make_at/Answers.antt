@@ -1,4 +1,4 @@
-use Rattle.aig_build.proofs.Common.{◌≡◌, ◌≤◌, List, Some, length, refl, rules, sym, ap, ◌∙◌, subst, arith, slice_get, length-map, In, Net, FlatCoverValue, FlatValue, Lit, Aig, IsLit, first_and, Answer, with_pairs, cover_of, NetLitsValue, net_lit, net_lits, with_cover, gate_of, HoldsNets, All}
+use Rattle.aig_build.proofs.Common.{◌≡◌, ◌≤◌, List, Some, length, refl, rules, sym, ap, ◌∙◌, subst, arith, slice_get, length-map, In, FlatNet, FlatCoverValue, FlatValue, Lit, Aig, IsLit, first_and, Answer, with_pairs, cover_of, NetLitsValue, net_lit, net_lits, with_cover, gate_of, HoldsNets, All}
 use Rattle.aig_build.proofs.BalancedLemmas.{full_weaker}
 use Rattle.aig_build.proofs.CoverLemmas.{cover_made-grows}
 use Rattle.aig_build.proofs.NetValueLemmas.{behind_width, held, held_lits, holds_next, cover_read, gate_at}
@@ -10,7 +10,7 @@ fill-requires c net i =
     let fc : FlatCoverValue = c.index-flat_cover.result.now in
     let at : slice_get flat.covers c.args.k ≡ Some fc = cover_read flat c.flat.inside.covers.items c.args.k fc (ap (λ (f : FlatValue). f.covers) c.flat.view_is) c.index-flat_cover.ensures c.requires.there in
     let same : c.deref.result.now ≡ fc.inputs = c.deref.ensures.value ∙ ap (λ (x : FlatCoverValue). x.inputs) c.flat_cover.view_is in
-    held flat c.args.graph.now c.args.nets.now c.requires.holds net (c.requires.bounds.cover_nets c.args.k fc net at (subst (λ (ns : List Net). In ns net) same i))
+    held flat c.args.graph.now c.args.nets.now c.requires.holds net (c.requires.bounds.cover_nets c.args.k fc net at (subst (λ (ns : List FlatNet). In ns net) same i))
 
 pub cover-requires : goal.cover-requires
 cover-requires c =

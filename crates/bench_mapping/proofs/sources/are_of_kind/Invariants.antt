@@ -1,6 +1,6 @@
 use Rattle.std.proofs.Common.{◌<◌, ◌≤◌, ℕ}
 use Rattle.aig_core.specs.Aig.{IsSource}
-use Rattle.bench_mapping.proofs.sources.are.Given as goal
+use Rattle.bench_mapping.proofs.sources.are_of_kind.Given as goal
 
 abbrev pub invariant-loop-n : goal.invariant-loop-n
 invariant-loop-n l = (m : ℕ) → l.start ≤ m → m < l.n → IsSource l.graph l.kind m

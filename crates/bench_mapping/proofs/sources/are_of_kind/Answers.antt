@@ -1,7 +1,7 @@
 use Rattle.std.proofs.Common.{◌≡◌, Some, inl, inr, ap, ◌∙◌, subst, arith}
 use Rattle.std.proofs.lemmas.Bool.{cases_lt}
 use Rattle.aig_core.specs.Aig.{IsSource}
-use Rattle.bench_mapping.proofs.sources.are.Goals as goal
+use Rattle.bench_mapping.proofs.sources.are_of_kind.Goals as goal
 
 pub loop-n-preserved : goal.loop-n-preserved
 loop-n-preserved c m above below =
