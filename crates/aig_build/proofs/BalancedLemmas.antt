@@ -1,5 +1,5 @@
 -- The balanced AND of a list: it only adds nodes, doesn't depend on how many halvings are allowed, and has the value of the product of all.
-use Rattle.aig_build.proofs.Common.{◌≡◌, ℕ, zero, suc, ◌+◌, ◌*◌, ◌<◌, ◌≤◌, Bool, true, ◌&&◌, min, max, List, [], ◌∷◌, ◌++◌, length, refl, sym, ap, ◌∙◌, arith, take-append-drop, length-take, length-drop, All-head, All-tail, All-take, All-drop, All-weaker, Lit, Pair, Aig, AreNormal, IsLit, first_and, Answer, and_of, with_pairs, product_of, value_of, values_from, Extends, Extends-refl, Extends-trans, length-Extends, and_grows, AreBase, Makes, Makes-and, Makes-literal, Makes-one, value_of-more, product, front_half, back_half, balanced, balanced_and, All}
+use Rattle.aig_build.proofs.Common.{◌≡◌, ℕ, zero, suc, ◌+◌, ◌*◌, ◌<◌, ◌≤◌, Bool, true, ◌&&◌, min, max, List, [], ◌∷◌, ◌++◌, length, refl, sym, ap, ◌∙◌, arith, take-append-drop, length-take, length-drop, All-head, All-tail, All-take, All-drop, All-weaker, Lit, Pair, Aig, AreNormal, IsLit, first_and, Answer, and_of, with_pairs, product_of, value_of, values_from, Extends, Extends-refl, Extends-trans, length-Extends, and_grows, AreBase, Makes, Makes-and, Makes-literal, Makes-one, value_of-more, product, front_half, back_half, balanced, balanced_and, All, rules}
 use Rattle.std.specs.Int.{div_ceil}
 
 -- it only adds nodes
@@ -24,10 +24,9 @@ balanced-depth : (first m n : ℕ) (pairs : List Pair) (lits : List Lit) → len
 balanced-depth first (suc m) (suc n) pairs (a ∷ b ∷ rest) lm ln =
     let lits : List Lit = a ∷ b ∷ rest in
     let two : 2 ≤ length lits = omega arith in
-    let f : balanced first m pairs (front_half lits) ≡ balanced first n pairs (front_half lits) = balanced-depth first m n pairs (front_half lits) (front_half-shorter lits m two lm) (front_half-shorter lits n two ln) in
     let k : (qs : List Pair) → balanced first m qs (back_half lits) ≡ balanced first n qs (back_half lits) = λ qs. balanced-depth first m n qs (back_half lits) (back_half-shorter lits m two lm) (back_half-shorter lits n two ln) in
     let after : Answer → Answer → Answer = λ x y. product_of first y.pairs x.lit y.lit in
-    ap (λ (x : Answer). after x (balanced first m x.pairs (back_half lits))) f
+    ap (λ (x : Answer). after x (balanced first m x.pairs (back_half lits))) (balanced-depth first m n pairs (front_half lits) (front_half-shorter lits m two lm) (front_half-shorter lits n two ln))
     ∙ ap (λ (y : Answer). after (balanced first n pairs (front_half lits)) y) (k (balanced first n pairs (front_half lits)).pairs)
 balanced-depth first (suc m) (suc n) pairs lits lm ln = refl
 balanced-depth first zero zero pairs lits lm ln = refl
@@ -41,10 +40,9 @@ balanced_and-halves first pairs (a ∷ b ∷ rest) two =
     let lits : List Lit = a ∷ b ∷ rest in
     let n : ℕ = suc (length rest) in
     let few : length lits ≤ suc n = omega arith in
-    let f : balanced first n pairs (front_half lits) ≡ balanced_and first pairs (front_half lits) = balanced-depth first n (length (front_half lits)) pairs (front_half lits) (front_half-shorter lits n two few) (omega arith) in
     let k : (qs : List Pair) → balanced first n qs (back_half lits) ≡ balanced_and first qs (back_half lits) = λ qs. balanced-depth first n (length (back_half lits)) qs (back_half lits) (back_half-shorter lits n two few) (omega arith) in
     let after : Answer → Answer → Answer = λ x y. product_of first y.pairs x.lit y.lit in
-    ap (λ (x : Answer). after x (balanced first n x.pairs (back_half lits))) f
+    ap (λ (x : Answer). after x (balanced first n x.pairs (back_half lits))) (balanced-depth first n (length (front_half lits)) pairs (front_half lits) (front_half-shorter lits n two few) (omega arith))
     ∙ ap (λ (y : Answer). after (balanced_and first pairs (front_half lits)) y) (k (balanced_and first pairs (front_half lits)).pairs)
 balanced_and-halves first pairs lits two = absurd (omega arith)
 
@@ -98,7 +96,6 @@ Makes-balanced first (suc depth) ps (a ∷ b ∷ rest) normal some below few =
     let back_below : AreBelow first ps (back_half lits) = All-drop (IsBelow first ps) (div_ceil (length lits) 2) lits below in
     let my : Makes first x.pairs (all_true (back_half lits)) y = Makes-balanced first depth x.pairs (back_half lits) mx.normal some (AreBelow-more first ps x.pairs (back_half lits) mx.grows back_below) (back_half-shorter lits depth two few) in
     let n : length x.pairs ≤ length y.pairs = length-Extends x.pairs y.pairs my.grows in
-    let lx : x.lit < 2 * (first + length x.pairs) = mx.below in
     let m : Makes first y.pairs (product x.lit y.lit) (product_of first y.pairs x.lit y.lit) = Makes-and first y.pairs x.lit y.lit my.normal some (omega arith) my.below in
     record {
       grows = Extends-trans ps x.pairs (product_of first y.pairs x.lit y.lit).pairs mx.grows (Extends-trans x.pairs y.pairs (product_of first y.pairs x.lit y.lit).pairs my.grows m.grows);
@@ -129,10 +126,7 @@ balanced_and-front_length first pairs lits two =
     rw (balanced_and-halves first pairs lits two) (omega (arith, length-Extends x.pairs y.pairs (balanced-grows first (length (back_half lits)) x.pairs (back_half lits))))
 
 pub balanced_and-back_length : (first : ℕ) (pairs : List Pair) (lits : List Lit) → 2 ≤ length lits → length (balanced_and first (balanced_and first pairs (front_half lits)).pairs (back_half lits)).pairs ≤ length (balanced_and first pairs lits).pairs
-balanced_and-back_length first pairs lits two =
-    let x : Answer = balanced_and first pairs (front_half lits) in
-    let y : Answer = balanced_and first x.pairs (back_half lits) in
-    rw (balanced_and-halves first pairs lits two) (length-Extends y.pairs (product_of first y.pairs x.lit y.lit).pairs (and_grows first y.pairs (min x.lit y.lit) (max x.lit y.lit)))
+balanced_and-back_length first pairs lits two = search (rules, balanced_and-halves, length-Extends, and_grows)
 
 -- a literal of a graph is one of a graph with more pairs
 pub IsLit-more : (g : Aig) (ps : List Pair) (lit : ℕ) → Extends g.pairs ps → IsLit g lit → IsLit (with_pairs g ps) lit

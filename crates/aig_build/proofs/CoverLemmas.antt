@@ -199,7 +199,6 @@ with_pairs-again g g0 g1 ps qs e0 e1 = rw (e1, e0) refl
 pub row_made-grows : (first : ℕ) (ps : List Pair) (cells : List Cell) (inputs : List Lit) → Extends ps (row_made first ps cells inputs).pairs
 row_made-grows first ps cells inputs = balanced-grows first (length (row_literals cells inputs)) ps (row_literals cells inputs)
 
--- of a balanced AND
 pub balanced-again : (first depth : ℕ) (ps qs : List Pair) (lits : List Lit) → Extends (balanced first depth ps lits).pairs qs → balanced first depth qs lits ≡ record { pairs = qs; lit = (balanced first depth ps lits).lit }
 balanced-again first (suc depth) ps qs (a ∷ b ∷ rest) e =
     let lits : List Lit = a ∷ b ∷ rest in

@@ -60,13 +60,8 @@ module _ (library : LibraryValue) (flat : FlatValue) (params : List Param) (form
 
   -- a source's literal is one of every graph over the sources
   pub source_below : (net : FlatNet) (lit : ℕ) (ps : List Pair) → IsThere flat net → IsSourceLiteral flat params net lit → lit < 2 * (first + length ps)
-  source_below net lit ps there (an_input i place name e g h l) =
-      let n : length (source_kinds flat params) ≡ length (input_names flat params) + length flat.latches = source_count in
-      omega (arith, slice_get_within (input_names flat params) place name h)
-  source_below net lit ps there (a_latch j e l) =
-      let w : j < length flat.latches = subst (IsThere flat) e there in
-      let n : length (source_kinds flat params) ≡ length (input_names flat params) + length flat.latches = source_count in
-      omega arith
+  source_below net lit ps there (an_input i place name e g h l) = omega (arith, source_count, slice_get_within (input_names flat params) place name h)
+  source_below net lit ps there (a_latch j e l) = omega (arith, subst (IsThere flat) e there, source_count)
 
   pub net_below : (b : Built) → AreSourced flat params b.nets → AreBelow first b.pairs (b.nets).covers → (net : FlatNet) → IsThere flat net → IsBelow first b.pairs (net_lit b.nets net)
   net_below b sourced below (Input i) there = source_below (Input i) (net_lit b.nets (Input i)).0 b.pairs there (sourced.inputs i there)
@@ -75,8 +70,7 @@ module _ (library : LibraryValue) (flat : FlatValue) (params : List Param) (form
 
   pub nets_below : (b : Built) → AreSourced flat params b.nets → AreBelow first b.pairs (b.nets).covers → (nets : List FlatNet) → ((net : FlatNet) → In nets net → IsThere flat net) → AreBelow first b.pairs (net_lits b.nets nets)
   nets_below b sourced below [] there = All-nil (IsBelow first b.pairs)
-  nets_below b sourced below (net ∷ nets) there =
-      All-cons (IsBelow first b.pairs) (net_lit b.nets net) (net_lits b.nets nets) (net_below b sourced below net (there net (inl refl))) (nets_below b sourced below nets (λ n i. there n (inr i)))
+  nets_below b sourced below (net ∷ nets) there = grind (arith, first, net_below, nets_below b sourced below nets (λ n i. there n (inr i)))
 
   module _ (x : List ℕ → Bool) (s : List Bool) (states : length s ≡ length flat.latches) where
     abbrev pub xs : List Bool
@@ -214,8 +208,7 @@ cover_read flat items k c same is there = slice_get_read flat.covers (length fla
 
 pub gate_at : (library : LibraryValue) (flat : FlatValue) (g : Aig) (nets : NetLitsValue) (k : ℕ) (items : List FlatCoverValue) (c : FlatCoverValue) (cover : CoverValue) (lits : List Lit) → items ≡ flat.covers → c ≡ get_or items k c → k < length flat.covers
     → cover_behind library c ≡ Some cover → lits ≡ net_lits nets c.inputs → gate_of library flat g nets k ≡ cover_of g cover lits
-gate_at library flat g nets k items c cover lits read is there behind same =
-    ap (gate_made library (first_and g) (record { pairs = g.pairs; nets = nets })) (cover_read flat items k c read is there) ∙ ap (λ o. behind_made (first_and g) g.pairs o (net_lits nets c.inputs)) behind ∙ ap (cover_of g cover) (sym same)
+gate_at library flat g nets k items c cover lits read is there behind same = grind (arith, cover_read)
 
 -- one cover has no more nodes than what is left of an order
 pub order_gate_length : (library : LibraryValue) (flat : FlatValue) (g : Aig) (nets : NetLitsValue) (order : List ℕ) (i d : ℕ) → i < length order

@@ -1,5 +1,5 @@
 -- The graph that the code makes of a flat circuit is its graph, and its roots have the outputs and the next states of a clock cycle.
-use Rattle.aig_build.proofs.Common.{◌≡◌, ℕ, ◌+◌, ◌<◌, ◌≤◌, Bool, false, List, [], ◌∷◌, ◌++◌, length, map, reverse, replicate, refl, sym, ap, ap₂, ◌∙◌, subst, subst₂, inl, inr, arith, All-from_get_or, All-replicate, unwrap_or-slice_get, In, In-append, place_in, from_map, LibraryValue, IsWellFormed, FlatNet, Input, Cover, OutPort, FlatLatch, FlatValue, cover_numbers, reads_at, PostsAll, IsThere, IsWithinBounds, net_value, flat_values, flat_outputs, flat_next, input_values, HasCycles, Param, AreParameters, Lit, Aig, IsLit, with_pairs, RootsValue, lits_of, roots_of, AreRoots, value_of, FitsGraph, Literals, input_names, source_kinds, root_nets, MakesAll, IsGraphOf, HasTooManyNodes, source_values, literal_values, IsGraphCycle, graph_machine, HasSourceCycles, NetLitsValue, no_lit, net_lit, net_lits, Built, marks_of, regular_lits, regular_next, start_nets, source_aig, order_of, root_lits, HoldsNets, length-map, length-replicate, length-append, map-append}
+use Rattle.aig_build.proofs.Common.{◌≡◌, ℕ, ◌+◌, ◌<◌, ◌≤◌, Bool, false, List, [], ◌∷◌, ◌++◌, length, map, reverse, replicate, refl, sym, ap, ap₂, ◌∙◌, subst, subst₂, inl, inr, arith, All-from_get_or, All-replicate, unwrap_or-slice_get, In, In-append, place_in, from_map, LibraryValue, IsWellFormed, FlatNet, Input, Cover, OutPort, FlatLatch, FlatValue, cover_numbers, reads_at, PostsAll, IsThere, IsWithinBounds, net_value, flat_values, flat_outputs, flat_next, input_values, HasCycles, Param, AreParameters, Lit, Aig, IsLit, with_pairs, RootsValue, lits_of, roots_of, AreRoots, value_of, FitsGraph, Literals, input_names, source_kinds, root_nets, MakesAll, IsGraphOf, HasTooManyNodes, source_values, literal_values, IsGraphCycle, graph_machine, HasSourceCycles, NetLitsValue, no_lit, net_lit, net_lits, Built, marks_of, regular_lits, regular_next, start_nets, source_aig, order_of, root_lits, HoldsNets, length-map, length-replicate, length-append, map-append, rules}
 use Rattle.std.proofs.lemmas.Simd.{map-map}
 use Rattle.netlist.specs.Flattened.{HasValues}
 use Rattle.netlist.specs.FlatCycle.{IsFlatCycle, flat_machine}

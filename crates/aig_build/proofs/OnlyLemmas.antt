@@ -14,8 +14,7 @@ balanced_within first (suc n) pairs (a ∷ b ∷ rest) few =
     let lits : List Lit = a ∷ b ∷ rest in
     let two : 2 ≤ length lits = omega arith in
     let front : Answer = balanced_and first pairs (front_half lits) in
-    let back : Answer = balanced_and first front.pairs (back_half lits) in
-    halves front back two (balanced_within first n pairs (front_half lits) (front_half-shorter lits n two few)) (balanced_within first n front.pairs (back_half lits) (back_half-shorter lits n two few))
+    halves front _ two (balanced_within first n pairs (front_half lits) (front_half-shorter lits n two few)) (balanced_within first n front.pairs (back_half lits) (back_half-shorter lits n two few))
     (balanced_and-halves first pairs lits two)
 
 pub balanced_is : (first : ℕ) (pairs : List Pair) (lits : List Lit) → IsBalanced first pairs lits (balanced_and first pairs lits)
@@ -24,12 +23,7 @@ balanced_is first pairs lits = balanced_within first (length lits) pairs lits (o
 pub balanced_only : (first : ℕ) {pairs : List Pair} {lits : List Lit} {made : Answer} → IsBalanced first pairs lits made → made ≡ balanced_and first pairs lits
 balanced_only first {pairs} (no_literal e m) = m ∙ ap (balanced_and first pairs) (sym e)
 balanced_only first {pairs} (one_literal lit e m) = m ∙ ap (balanced_and first pairs) (sym e)
-balanced_only first {pairs} {lits} (halves front back two f b m) =
-    let ef : front ≡ balanced_and first pairs (front_half lits) = balanced_only first f in
-    let eb : back ≡ balanced_and first front.pairs (back_half lits) = balanced_only first b in
-    m ∙ ap (λ (y : Answer). product_of first y.pairs front.lit y.lit) eb
-    ∙ ap (λ (x : Answer). product_of first (balanced_and first x.pairs (back_half lits)).pairs x.lit (balanced_and first x.pairs (back_half lits)).lit) ef
-    ∙ sym (balanced_and-halves first pairs lits two)
+balanced_only first {pairs} {lits} (halves front back two f b m) = grind (arith, first, balanced_and-halves, balanced_only first f, balanced_only first b)
 
 rows_are : (first : ℕ) (inputs : List Lit) (pairs : List Pair) (rows : List RowValue) → AreRows first inputs pairs rows (rows_made first pairs rows inputs)
 rows_are first inputs pairs [] = no_row refl refl
@@ -39,12 +33,7 @@ rows_are first inputs pairs (row ∷ rows) =
 
 rows_only : (first : ℕ) (inputs : List Lit) {pairs : List Pair} {rows : List RowValue} {made : Literals} → AreRows first inputs pairs rows made → made ≡ rows_made first pairs rows inputs
 rows_only first inputs {pairs} (no_row e m) = m ∙ ap (λ (rs : List RowValue). rows_made first pairs rs inputs) (sym e)
-rows_only first inputs {pairs} (a_row row rest this others e b r m) =
-    let one_row : this ≡ row_made first pairs row.cells inputs = balanced_only first b in
-    let others_are : others ≡ rows_made first this.pairs rest inputs = rows_only first inputs r in
-    m ∙ ap (λ (x : Literals). record { pairs = x.pairs; lits = record { 0 = complement this.lit } ∷ x.lits }) others_are
-    ∙ ap (λ (x : Answer). record { pairs = (rows_made first x.pairs rest inputs).pairs; lits = record { 0 = complement x.lit } ∷ (rows_made first x.pairs rest inputs).lits }) one_row
-    ∙ ap (λ (rs : List RowValue). rows_made first pairs rs inputs) (sym e)
+rows_only first inputs {pairs} (a_row row rest this others e b r m) = grind (arith, first, balanced_only, rows_only first inputs r)
 
 pub cover_is : (first : ℕ) (pairs : List Pair) (cover : CoverValue) (inputs : List Lit) → IsCoverMade first pairs cover inputs (cover_made first pairs cover inputs)
 cover_is first pairs cover inputs =
@@ -52,29 +41,17 @@ cover_is first pairs cover inputs =
     record { rows = rows; are_rows = rows_are first inputs pairs cover.rows; no_row = balanced_and first rows.pairs rows.lits; is_balanced = balanced_is first rows.pairs rows.lits; is = refl }
 
 pub cover_only : (first : ℕ) (pairs : List Pair) (cover : CoverValue) (inputs : List Lit) (made : Answer) → IsCoverMade first pairs cover inputs made → made ≡ cover_made first pairs cover inputs
-cover_only first pairs cover inputs made c =
-    c.is
-    ∙ ap (λ (x : Answer). record { pairs = x.pairs; lit = cond cover.value (complement x.lit) (complement (complement x.lit)) }) (balanced_only first c.is_balanced)
-    ∙ ap (λ (r : Literals). record { pairs = (balanced_and first r.pairs r.lits).pairs; lit = cond cover.value (complement (balanced_and first r.pairs r.lits).lit) (complement (complement (balanced_and first r.pairs r.lits).lit)) })
-    (rows_only first inputs c.are_rows)
+cover_only first pairs cover inputs made c = grind (arith, cond, balanced_only, first, rows_only)
 
 module _ (library : LibraryValue) (flat : FlatValue) (params : List Param) (apart : AreApart (input_names flat params)) where
   abbrev first : ℕ
   first = 1 + length (source_kinds flat params)
 
   source_only : {net : FlatNet} {a b : ℕ} → IsSourceLiteral flat params net a → IsSourceLiteral flat params net b → a ≡ b
-  source_only (an_input i p name e g h l) (an_input j q other f k m n) =
-      let nets : Input i ≡ Input j = sym e ∙ f in
-      let same : i ≡ j = cc in
-      let names : name ≡ other = same_Some name other (sym g ∙ ap (slice_get flat.inputs) same ∙ k) in
-      let places : p ≡ q = apart_once (input_names flat params) p q name apart h (m ∙ ap Some (sym names)) in
-      l ∙ ap (λ x. 2 * (1 + x)) places ∙ sym n
+  source_only (an_input i p name e g h l) (an_input j q other f k m n) = grind (arith, same_Some, apart_once)
   source_only (an_input i p name e g h l) (a_latch j f n) = let nets : Input i ≡ Latch j = sym e ∙ f in absurd (cc)
   source_only (a_latch i e l) (an_input j q other f k m n) = let nets : Latch i ≡ Input j = sym e ∙ f in absurd (cc)
-  source_only (a_latch i e l) (a_latch j f n) =
-      let nets : Latch i ≡ Latch j = sym e ∙ f in
-      let same : i ≡ j = cc in
-      l ∙ ap (λ x. 2 * (1 + (length (input_names flat params) + x))) same ∙ sym n
+  source_only (a_latch i e l) (a_latch j f n) = grind arith
 
   no_cover : {net : FlatNet} {a : ℕ} → IsSourceLiteral flat params net a → (k : ℕ) → net ≡ Cover k → ⊥
   no_cover (an_input i p name e g h l) k q = let nets : Input i ≡ Cover k = sym e ∙ q in absurd (cc)

@@ -5,7 +5,6 @@ use Rattle.tl_text.specs.Once.{AreOnce}
 use Rattle.tl_text.proofs.NameSetLemmas.{has_in, in_has}
 use Rattle.aig_build.proofs.SignalLemmas.{AreSourced}
 
--- the marks
 pub length-marked : (marks : List Bool) (ps : List Param) → length (marked marks ps) ≡ length marks
 length-marked marks [] = refl
 length-marked marks (p ∷ ps) = length-marked (slice_set marks p.input true) ps ∙ set_length marks p.input true

@@ -40,9 +40,7 @@ circuit_formed c i o = search (rules, lit<, circuit_ports, commands_formed)
 
 -- what was read has few names
 pub small_names : (text : List ℕ) (c : Circuit) (r : IsCircuitOf text c) → length text ≤ 67108864 → named_count r.header < 4294967296
-small_names text c r l =
-    let w : length r.items ≤ 0 + length (drop 1 (lines text)) = r.all.within in
-    omega (arith, length-drop 1 (lines text), lines_few text)
+small_names text c r l = omega (arith, r.all.within, length-drop 1 (lines text), lines_few text)
 
 pub said_size : (text : List ℕ) (c : Circuit) (r : IsCircuitOf text c) → length r.said.names ≡ named_count r.header
 said_size text c r = (symbols_sized r.header (item_count r.header + 2) (no_symbols r.header) r.said (drop (item_count r.header) (drop 1 (lines text))) r.said_are).names ∙ length-replicate (named_count r.header) no_name
@@ -119,7 +117,6 @@ module _ (c : Circuit) (kept : IsKept c) where
   item_clean q (Latch own next init) d l at (inr (inr i)) = absurd i
   item_clean q (Output o) d l at (inl same) =
       let w = of_output c.header q at.kind in
-      let high : q < c.header.inputs + c.header.latches + c.header.outputs = w.1 in
       cover_clean (0 + q + 2) (variable_name (mark_of (c.inputs ++ c.outputs)) (o / 2) ∷ []) (port_name c.outputs (0 + q - (c.header.inputs + c.header.latches))) (cell_of o ∷ []) d
       (one_clean (variable_name (mark_of (c.inputs ++ c.outputs)) (o / 2)) (read_clean o at.range)) (output_clean (0 + q - (c.header.inputs + c.header.latches)) (omega arith)) same
   item_clean q (Output o) d l at (inr i) = absurd i
@@ -153,8 +150,7 @@ port_short : (said : SymbolsValue) (most : ℕ) (x : List ℕ) → AreNamed most
 port_short said most x are few small (by_symbol p at) = let l : length x ≤ most = (are.good p x at).short in omega arith
 port_short said most x are few small (by_default letter k p o which low at is) =
     let l : p < length said.names = slice_get_within said.names p o at in let w : k ≤ p = low in
-    let d : length (decimal k) ≤ 10 = length-decimal-le 10 k (lit< tt) (omega arith) (omega arith) in
-    let n : length x ≡ length (letter ∷ decimal k) = ap length is in omega arith
+    let n : length x ≡ length (letter ∷ decimal k) = ap length is in omega (arith, length-decimal-le 10 k (lit< tt) (omega arith) (omega arith))
 
 pub text_kept : (text : List ℕ) (c : Circuit) → length text ≤ 67108864 → circuit_of text ≡ Ok c → IsKept c
 text_kept text c l is =

@@ -42,7 +42,6 @@ module _ (c : Circuit) where
   pub are_latches : AreLatches (library_of c) (model_of c) (latches_of c)
   are_latches = record { at = refl; order = flat [] (none no_subckts refl) (sym (own_latches (mark_of (c.inputs ++ c.outputs)) c.header c.inputs c.outputs 1 0 c.items) ∙ sym (append-nil (own_places is_latch [] 0 (model_of c).commands))) }
 
-  -- a command of it
   pub command_in : (i : ℕ) (d : Command) → slice_get (model_of c).commands i ≡ Some d → body_at (model_of c) i ≡ Some d.body
   command_in i d e = ap (λ (o : Option Command). option_map (λ (k : Command). k.body) o) e
 
@@ -186,8 +185,7 @@ no_start names name i = elim (cases_Bool (starts (mark_of names) name)) [
   | inl t ↦ (
       let e : take (length (mark_of names)) name ≡ mark_of names = (bytes_decides (take (length (mark_of names)) name) (mark_of names)).0 t in
       let u : underscores name ≡ underscores (mark_of names ++ drop (length (mark_of names)) name) = ap underscores (sym (take-append-drop (length (mark_of names)) name) ∙ ap (λ m. m ++ drop (length (mark_of names)) name) e) in
-      let l : 1 + most_underscores names ≤ underscores (replicate (1 + most_underscores names) 95 ++ drop (length (mark_of names)) name) = many_underscores (1 + most_underscores names) (drop (length (mark_of names)) name) in
-      let m : underscores name ≤ most_underscores names = few_underscores names name i in absurd (omega arith))
+      let m : underscores name ≤ most_underscores names = few_underscores names name i in absurd (omega (arith, many_underscores (1 + most_underscores names) (drop (length (mark_of names)) name))))
   | inr f ↦ f
 ]
 
@@ -288,7 +286,6 @@ module _ (c : Circuit) (kept : IsKept c) (once : AreOnce (c.inputs ++ c.outputs)
   cover_built path d cover (output_is q l at is) e =
       let k = kept.items q (Output l) at in
       let w = of_output c.header q k.kind in
-      let high : q < c.header.inputs + c.header.latches + c.header.outputs = w.1 in
       let picked = picked_at c.header output_literal (c.header.inputs + c.header.latches) (c.header.inputs + c.header.latches + c.header.outputs) (outputs_picked c.header) 0 c.items (circuit_kinds c kept) q (Output l) l at refl in
       literal_built path (0 + q + 2) l (port_name c.outputs (0 + q - (c.header.inputs + c.header.latches))) d cover (read_small l k.range)
       (output_built c x f path (0 + q - (c.header.inputs + c.header.latches)) l (port_name c.outputs (0 + q - (c.header.inputs + c.header.latches))) once

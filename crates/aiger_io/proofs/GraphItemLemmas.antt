@@ -64,9 +64,7 @@ module _ (inputs : ℕ) (latches : List FlatLatch) (g : Aig) (roots : RootsValue
   input_is : (p : ℕ) (item : Item) → slice_get input_part p ≡ Some item → IsGraphItem inputs latches g roots p item
   input_is p item e =
       let r = mapped_at input_item (range_with_len 1 inputs) p item e in
-      let l : p < length (range_with_len 1 inputs) = slice_get_within (range_with_len 1 inputs) p r.0 r.1 in
-      let n : length (range_with_len 1 inputs) ≡ inputs = length-range_with_len 1 inputs in
-      let low : p < inputs = omega arith in
+      let low : p < inputs = omega (arith, length-range_with_len 1 inputs, slice_get_within (range_with_len 1 inputs) p r.0 r.1) in
       an_input low (r.2 ∙ ap input_item (sym (get_or_from_slice_get (range_with_len 1 inputs) p r.0 0 r.1) ∙ get_or-range_with_len 1 inputs p 0 low))
 
   latch_is : (p k : ℕ) (item : Item) → p ≡ inputs + k → slice_get latch_part k ≡ Some item → IsGraphItem inputs latches g roots p item
@@ -194,16 +192,11 @@ module _ (flat : FlatValue) (params : List Param) (regular : List ℕ) (g : Aig)
   placed p item (a_gate k pair at there is) =
       let low : k < length g.pairs = slice_get_within g.pairs k pair there in
       let kept = normal.each k pair there in
-      let below : pair.y.0 / 2 < first_and g + k = kept.below in
-      let own : is_variable written.header.variables (2 * (first_and g + k)) ≡ true = variable_in written.header.variables (first_and g + k) (omega arith) (omega arith) in
-      let higher : is_literal written.header.variables pair.y.0 ≡ true = literal_in written.header.variables pair.y.0 (omega arith) in
-      let lower : is_literal written.header.variables pair.x.0 ≡ true = literal_in written.header.variables pair.x.0 (omega arith) in
       grind (arith, gate_here, and_from)
 
   -- all of it
   pub written_formed : node_count g ≤ 2 ^ 30 → IsFormed written
   written_formed small =
-      let m : node_count g ≤ 1073741824 = small in
       let o : length roots.outputs ≡ length flat.outputs = from.outputs in
       record {
         header = grind (arith, and_from, leb, le-leb);

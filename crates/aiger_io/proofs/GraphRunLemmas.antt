@@ -36,7 +36,6 @@ weigh_both : (xs ys : List Item) → weigh (xs ++ ys) ≡ weigh xs + weigh ys
 weigh_both [] ys = omega arith
 weigh_both (x ∷ xs) ys = let b = weigh_both xs ys in omega (arith, b)
 
--- a section
 section_weighs : (k : LineKind) (items : List Item) → ((item : Item) → In items item → kind_of_item item ≡ k) → weigh items ≡ kind_weight k * length items
 section_weighs k [] each = grind arith
 section_weighs k (x ∷ xs) each = let a : kind_weight (kind_of_item x) ≡ kind_weight k = ap kind_weight (each x (inl refl)) in let b : weigh xs ≡ kind_weight k * length xs = section_weighs k xs (λ y i. each y (inr i)) in grind arith
@@ -77,7 +76,6 @@ module _ (flat : FlatValue) (params : List Param) (regular : List ℕ) (g : Aig)
   abbrev written : Circuit
   written = graph_circuit flat params regular g roots
 
-  -- its inputs
   inputs_named : written.inputs ≡ input_names flat params
   inputs_named = ap (λ names. names ++ param_names params) (names_at flat.inputs regular (regular_names flat params) from.names)
 

@@ -20,8 +20,7 @@ by_name names bits name = get_or bits (place_among names name) false
 by_name_at : (names : List (List ℕ)) (bits : List Bool) (k : ℕ) (b : Bool) → AreOnce names → k < length names → slice_get bits k ≡ Some b → slice_get (map (by_name names bits) names) k ≡ Some b
 by_name_at names bits k b once l e =
     let n = at_within names k l in
-    slice_get-map (by_name names bits) names k ∙ ap (option_map (by_name names bits)) n.1
-    ∙ ap (λ i. Some (get_or bits i false)) (place_once names k n.0 once n.1) ∙ sym (slice_get-get_or bits k false (slice_get_within bits k b e)) ∙ e
+    grind (arith, slice_get-map, by_name, place_once, slice_get-get_or, slice_get_within)
 
 by_name_all : (names : List (List ℕ)) (bits : List Bool) → AreOnce names → length bits ≡ length names → map (by_name names bits) names ≡ bits
 by_name_all names bits once l = same_list (map (by_name names bits) names) bits (length-map names (by_name names bits) ∙ sym l)
@@ -41,8 +40,7 @@ module _ (c : Circuit) (kept : IsKept c) (once : AreOnce (c.inputs ++ c.outputs)
   given_by x s f fits = record {
     zero_is = fits.zero_is;
     inputs = λ k own e.
-        let low : k < c.header.inputs = of_input c.header k (kept.items k (Input own) e).kind in
-        by_name_at c.inputs x k (f (own / 2)) (left_apart c.inputs c.outputs once) (omega arith) (fits.inputs k own e);
+        by_name_at c.inputs x k (f (own / 2)) (left_apart c.inputs c.outputs once) (omega (arith, of_input c.header k (kept.items k (Input own) e).kind)) (fits.inputs k own e);
     latches = fits.latches;
     ands = fits.ands;
   }
@@ -128,8 +126,7 @@ module _ (c : Circuit) where
   nexts_same value f j p (Latch own next init ∷ items) there gives =
       let first : next_state (value []) (latch_at (library_of c) (top_place (suc j))) ≡ literal_value f next =
       ap (next_state (value [])) (first_there j p own next init items there) ∙ subst (λ m. value [] (next_name (mark_of (c.inputs ++ c.outputs)) m) ≡ literal_value f next) (omega arith) (gives zero own next init refl) in
-      ap (λ b. b ∷ map (λ (pl : Place). next_state (value pl.path) (latch_at (library_of c) pl)) (map top_place (latch_indices (suc (suc j)) items))) first
-      ∙ ap (λ bs. literal_value f next ∷ bs) (nexts_same value f (suc (suc j)) (p + 1) items (two_there j p own next init items there) (later_gives value f p (Latch own next init) items gives))
+      grind (arith, top_place, latch_indices, two_there, later_gives, nexts_same value f (suc (suc j)) (p + 1) items (two_there j p own next init items there) (later_gives value f p (Latch own next init) items gives))
   nexts_same value f j p (item ∷ items) there gives = nexts_same value f (suc j) (p + 1) items (one_there j p items _ _ there) (later_gives value f p item items gives)
 
   inits_same : (j p : ℕ) (items : List Item) → AreThere j p items → map (λ (pl : Place). init_state (latch_at (library_of c) pl)) (map top_place (latch_indices j items)) ≡ init_bits items
@@ -152,11 +149,8 @@ indices_length j (item ∷ items) = indices_length (suc j) items
 
 latches_length : (c : Circuit) → IsKept c → length (latches_of c) ≡ c.header.latches
 latches_length c kept =
-    let a : length (latches_of c) ≡ length (latch_indices 1 c.items) = length-map (latch_indices 1 c.items) top_place in
-    let b : length (latch_indices 1 c.items) ≡ length (next_literals c.items) = indices_length 1 c.items in
-    let d : length (next_literals c.items) ≡ min (0 + length c.items) (c.header.inputs + c.header.latches) - max 0 c.header.inputs =
-    picked_length c.header next_literal c.header.inputs (c.header.inputs + c.header.latches) (nexts_picked c.header) 0 c.items (circuit_kinds c kept) in
-    let n : length c.items ≡ c.header.inputs + c.header.latches + c.header.outputs + c.header.ands = kept.all in omega arith
+    let d = picked_length c.header next_literal c.header.inputs (c.header.inputs + c.header.latches) (nexts_picked c.header) 0 c.items (circuit_kinds c kept) in
+    let n : length c.items ≡ c.header.inputs + c.header.latches + c.header.outputs + c.header.ands = kept.all in omega (arith, indices_length 1 c.items, length-map (latch_indices 1 c.items) top_place)
 
 outputs_length : (c : Circuit) → IsKept c → length (output_literals c.items) ≡ length c.outputs
 outputs_length c kept =

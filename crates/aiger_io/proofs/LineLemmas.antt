@@ -278,7 +278,6 @@ under_cases : (h : Header) (rows : List (List ℕ)) (r : Result (List Item) AagE
 under_cases h rows (Err e) is l = refl
 under_cases h rows (Ok items) is l =
     let a = items_all h [] items rows (omega arith) is in
-    let w : length items ≤ length {A = Item} [] + length rows = a.within in
     let same : capped_header h ≡ h = ap (λ (o : ℕ). record { variables = h.variables; inputs = h.inputs; latches = h.latches; outputs = o; ands = h.ands }) (omega arith) in
     ap (λ (k : Header). circuit_behind k rows items) same
 

@@ -134,7 +134,6 @@ module _ {A : Type 0} (h : Header) (pick : Item → List A) (a b : ℕ) (picks :
   first_or_later p first items kinds low high z is zero y e later = let same : z ≡ y = cc in record { place = zero; item = first; at = refl; is = subst (λ x. pick first ≡ x ∷ []) same is; ordinal = omega arith; low = omega arith; high = omega arith }
   first_or_later p first items kinds low high z is (suc n) y e later =
       let f = later n e in
-      let h2 : p + 1 + f.place < b = f.high in
       record { place = suc f.place; item = f.item; at = f.at; is = f.is; ordinal = omega arith; low = omega arith; high = omega arith }
 
   pub picked_from : (p : ℕ) (items : List Item) → AreKinds h p items → (n : ℕ) (y : A) → slice_get (flat_map pick items) n ≡ Some y → IsPickedFrom p items n y
@@ -143,7 +142,6 @@ module _ {A : Type 0} (h : Header) (pick : Item → List A) (a b : ℕ) (picks :
     | inl r ↦ (let o = r.2 in first_or_later p first items kinds r.0 r.1 o.0 o.1 n y (subst (λ l. slice_get (l ++ flat_map pick items) n ≡ Some y) o.1 e) (λ m d. picked_from (p + 1) items kinds.1 m y d))
     | inr r ↦ (
         let f = picked_from (p + 1) items kinds.1 n y (subst (λ l. slice_get (l ++ flat_map pick items) n ≡ Some y) r.1 e) in
-        let high : p + 1 + f.place < b = f.high in
         elim r.0 [
           | inl l ↦ (let under : p < a = l in record { place = suc f.place; item = f.item; at = f.at; is = f.is; ordinal = omega arith; low = omega arith; high = omega arith })
           | inr l ↦ (let over : b ≤ p = l in absurd (omega arith))
@@ -211,8 +209,7 @@ module _ (mark : List ℕ) (h : Header) (inputs outputs : List (List ℕ)) where
       record {
         line = p + 2;
         item = ap (λ (i : Item). Some i) same;
-        at = ap (λ (k : ℕ). Some (latch_command (p + 2) (next_name mark k) (variable_name mark (x / 2)) z)) a ∙ ap (λ (k : ℕ). Some (latch_command (p + 2) (next_name mark (p + zero - h.inputs)) (variable_name mark (k / 2)) z)) sx
-            ∙ ap (λ (i : Bool). Some (latch_command (p + 2) (next_name mark (p + zero - h.inputs)) (variable_name mark (own / 2)) i)) sz;
+        at = grind (arith);
         index = subst (λ m. slice_get (suc j ∷ latch_indices (suc (suc j)) items) m ≡ Some (j + 1)) b (ap (λ m. Some m) (omega arith));
       }
 

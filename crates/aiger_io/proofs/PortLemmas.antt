@@ -56,9 +56,7 @@ module _ (most : ℕ) (h : Header) (said : SymbolsValue) (are : AreNamed most sa
           let same : s.name ≡ name = cc in
           (subst (IsGoodName most) same good, subst (λ i. In (said.places ++ place_of h s ∷ []) i) (sym q) (In-pushed said.places (place_of h s))))
       | inr l ↦ absurd (
-          let t : p < length (slice_set said.names (place_of h s) (Some s.name)) = slice_get_within (slice_set said.names (place_of h s) (Some s.name)) p (Some name) e in
-          let n : length (slice_set said.names (place_of h s) (Some s.name)) ≡ length said.names = set_length said.names (place_of h s) (Some s.name) in
-          let z : p ≡ place_of h s = q in omega arith)
+          let z : p ≡ place_of h s = q in omega (arith, set_length said.names (place_of h s) (Some s.name), slice_get_within (slice_set said.names (place_of h s) (Some s.name)) p (Some name) e))
     ]
     | inr d ↦ (
         let old : slice_get said.names p ≡ Some (Some name) = sym (set_other said.names (place_of h s) p (Some s.name) d) ∙ e in

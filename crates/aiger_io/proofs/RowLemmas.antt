@@ -62,9 +62,8 @@ pub lines_short : (text row : List ℕ) → In (lines text) row → length row �
 lines_short text row i = line_short (length text) (slice_split (λ b. eqb b 10) text) row (λ q j. parts_short (λ b. eqb b 10) text q j) i
 
 pub In-drop : {A : Type 0} (n : ℕ) (xs : List A) (x : A) → In (drop n xs) x → In xs x
-In-drop zero xs x i = i
-In-drop (suc n) [] x i = i
 In-drop (suc n) (y ∷ ys) x i = inr (In-drop n ys x i)
+In-drop o xs x i = i
 
 -- lines as they lie in the text
 pub row_at : (xs : List (Bor (List ℕ))) (i : ℕ) (d : Bor (List ℕ)) → i < length xs → slice_get (map (λ (r : Bor (List ℕ)). r.now) xs) i ≡ Some (get_or xs i d).now
@@ -138,7 +137,6 @@ not_stripped (b ∷ bs) h = cond-false (eqb (get_or (b ∷ bs) (length (b ∷ bs
 
 pub line_back : (w : List ℕ) (ws : List (List ℕ)) (rest : List ℕ) → AllClean (w ∷ ws) → lines (line_text (w ∷ ws) ++ rest) ≡ (w ++ words_text ws) ∷ lines rest
 line_back w ws rest clean =
-    let row : List ℕ = w ++ words_text ws in
     ap lines (ap (λ t. t ++ rest) (sym (append_assoc w (words_text ws) (10 ∷ []))) ∙ append_assoc (w ++ words_text ws) (10 ∷ []) rest)
     ∙ ap lines_of_parts (slice_split_at (λ b. eqb b 10) (w ++ words_text ws) 10 rest (λ k d l. (words_byte (w ∷ ws) (get_or (w ++ words_text ws) k d) clean (inr (In-get_or (w ++ words_text ws) k d l))).no_feed) refl)
     ∙ one_more (w ++ words_text ws) (slice_split (λ b. eqb b 10) rest) (omega (arith, length-slice_split (λ b. eqb b 10) rest))
@@ -194,7 +192,6 @@ module _ (h : Header) (most : h.variables ≤ 1073741824) where
   item_lines [] rest t = refl
   item_lines (item ∷ items) rest t = grind (arith, append_assoc, item_line, item_row, item_lines items rest (λ i j. t i (inr j)))
 
-  -- the header
   pub header_clean : is_header h ≡ true → h.outputs < 2 ^ 64 → AllClean (header_words h)
   header_clean whole few =
       let s : h.inputs + h.latches + h.ands ≤ h.variables = (header_small h whole).sum in

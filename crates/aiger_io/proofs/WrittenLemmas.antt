@@ -31,7 +31,6 @@ numbered_named : {X : Type 0} (f : ℕ → List ℕ → List ℕ) (name : X → 
 numbered_named f name n [] = refl
 numbered_named f name n (x ∷ xs) = ap (λ t. f n (name x) ++ t) (numbered_named f name (suc n) xs)
 
--- lines
 pub header_line : (v i l o a : List ℕ) → codes "aag" ++ ((32 ∷ v) ++ ((32 ∷ i) ++ ((32 ∷ l) ++ ((32 ∷ o) ++ ((32 ∷ a) ++ 10 ∷ []))))) ≡ line_text (codes "aag" ∷ v ∷ i ∷ l ∷ o ∷ a ∷ [])
 header_line v i l o a = simp append_assoc
 
@@ -94,15 +93,7 @@ among k n (suc i) (y ∷ ys) x e = let z : suc n + i ≡ n + suc i = omega arith
 -- each may stand behind those before it
 stand_by : (h : Header) (k : LineKind) (earlier : List Symbol) (n : ℕ) (names : List (List ℕ)) → ((t : Symbol) → In earlier t → t.kind ≡ k → t.ordinal < n) → n + length names ≤ count_of h k → AllClean names → AllStand h earlier (symbols_from k n names)
 stand_by h k earlier n [] before few clean = tt
-stand_by h k earlier n (x ∷ xs) before few clean =
-    grind (
-      arith,
-      good_name,
-      stand_by h k (earlier ++ symbol_by k n x ∷ []) (suc n) xs (λ t i same. elim (In-push earlier (symbol_by k n x) t i) [
-        | inl j ↦ (let l : t.ordinal < n = before t j same in omega arith)
-        | inr e ↦ (let l : t.ordinal ≡ n = ap (λ (s : Symbol). s.ordinal) e in omega arith)
-      ]) (omega arith) (λ y i. clean y (inr i)),
-    )
+stand_by h k earlier n (x ∷ xs) before few clean = grind (arith, good_name, stand_by h k (earlier ++ symbol_by k n x ∷ []) (suc n) xs (λ t i same. elim (In-push earlier (symbol_by k n x) t i) [ inl j ↦ (let l : t.ordinal < n = before t j same in omega arith) | inr e ↦ (let l : t.ordinal ≡ n = ap (λ (s : Symbol). s.ordinal) e in omega arith) ]) (omega arith) (λ y i. clean y (inr i)))
 
 stand_both : (h : Header) (earlier xs ys : List Symbol) → AllStand h earlier xs → AllStand h (earlier ++ xs) ys → AllStand h earlier (xs ++ ys)
 stand_both h earlier [] ys a b = subst (λ e. AllStand h e ys) (append-nil earlier) b

@@ -1,5 +1,5 @@
 -- The bit of a node that the leaves block: there is one, and no other; where each leaf's digit is its value, it is the node's value in the graph.
-use Rattle.bit_fun.proofs.Common.{◌≡◌, ℕ, zero, suc, ◌-◌, ◌/◌, ◌<◌, ◌≤◌, Bool, false, ◌&&◌, List, [], ◌∷◌, length, take, get_or, Some, refl, sym, ap, ◌∙◌, subst, inl, inr, arith, slice_get, none-some, same_Some, slice_get_within, slice_get-get_or, get_or_from_slice_get, In, digit, IsAscending, In-get, place_in, in_or, Parameter, Pair, Aig, first_and, IsSource, IsNode, in_phase, node_value, FitsGraph, Blocks, member, blocks_constant, blocks_parameter, fan_ins, CanBeLeaf, param_count, IsParam, ◌+◌, true, leb, ltb, ◌++◌, cases_lt, le-leb, lt-ltb, and_from, or_right, or_left, get_or-append-add, get_or-append, Kind, Regular, at_within, Shape, is_regular, last_source, IsInputOrLatch, input, latch, either_side}
+use Rattle.bit_fun.proofs.Common.{◌≡◌, ℕ, zero, suc, ◌-◌, ◌/◌, ◌<◌, ◌≤◌, Bool, false, ◌&&◌, List, [], ◌∷◌, length, take, get_or, Some, refl, sym, ap, ◌∙◌, subst, inl, inr, arith, slice_get, none-some, same_Some, slice_get_within, slice_get-get_or, get_or_from_slice_get, In, digit, IsAscending, In-get, place_in, in_or, Parameter, Pair, Aig, first_and, IsSource, IsNode, in_phase, node_value, FitsGraph, Blocks, member, blocks_constant, blocks_parameter, fan_ins, CanBeLeaf, param_count, IsParam, ◌+◌, true, leb, ltb, ◌++◌, cases_lt, le-leb, lt-ltb, and_from, or_right, or_left, get_or-append-add, get_or-append, Kind, Regular, at_within, Shape, is_regular, last_source, IsInputOrLatch, input, latch, either_side, rules}
 use Rattle.bit_fun.specs.BitFunction.{NodeBit, leaf, constant, parameter, node}
 use Rattle.lut_sim.specs.GraphShape.{HasShape, AreSourceValues}
 
@@ -30,19 +30,12 @@ param_below g j n is = subst (λ k. k < param_count g.kinds) is.place (place_bel
 count_to : (kinds : List Kind) (r p i : ℕ) → ((k : ℕ) → k < r → k < length kinds → slice_get kinds k ≡ Some Regular)
     → ((k : ℕ) → r ≤ k → k < r + p → k < length kinds → slice_get kinds k ≡ Some Parameter) → r ≤ i → i ≤ r + p → i ≤ length kinds → param_count (take i kinds) ≡ i - r
 count_to [] r p zero first middle low high l = omega arith
-count_to [] r p (suc i) first middle low high l = absurd (omega arith)
 count_to (k ∷ kinds) zero p zero first middle low high l = refl
-count_to (k ∷ kinds) (suc r) p zero first middle low high l = absurd (omega arith)
 count_to (Regular ∷ kinds) zero p (suc i) first middle low high l = regular_no_parameter (middle 0 (omega arith) (omega arith) (omega arith))
-count_to (Parameter ∷ kinds) zero p (suc i) first middle low high l =
-    let e : param_count (take i kinds) ≡ i - 0 =
-    count_to kinds 0 (p - 1) i (λ m a b. absurd (omega arith)) (λ m a b c. middle (suc m) (omega arith) (omega arith) (omega arith)) (omega arith) (omega arith) (omega arith) in
-    omega arith
-count_to (Regular ∷ kinds) (suc r) p (suc i) first middle low high l =
-    let e : param_count (take i kinds) ≡ i - r =
-    count_to kinds r p i (λ m a b. first (suc m) (omega arith) (omega arith)) (λ m a b c. middle (suc m) (omega arith) (omega arith) (omega arith)) (omega arith) (omega arith) (omega arith) in
-    omega arith
+count_to (Parameter ∷ kinds) zero p (suc i) first middle low high l = grind (arith, count_to kinds 0 (p - 1) i (λ m a b. absurd (omega arith)) (λ m a b c. middle (suc m) (omega arith) (omega arith) (omega arith)) (omega arith) (omega arith) (omega arith))
+count_to (Regular ∷ kinds) (suc r) p (suc i) first middle low high l = grind (arith, count_to kinds r p i (λ m a b. first (suc m) (omega arith) (omega arith)) (λ m a b c. middle (suc m) (omega arith) (omega arith) (omega arith)) (omega arith) (omega arith) (omega arith))
 count_to (Parameter ∷ kinds) (suc r) p (suc i) first middle low high l = regular_no_parameter (sym (first 0 (omega arith) (omega arith)))
+count_to kinds r p i first middle low high l = absurd (omega arith)
 
 -- a source that isn't regular is a parameter
 other_kind : (kinds : List Kind) (i : ℕ) → i < length kinds → (slice_get kinds i ≡ Some Regular → ⊥) → slice_get kinds i ≡ Some Parameter
@@ -74,7 +67,6 @@ param_place g shape j n has is =
     let regular : is_regular shape (k + 1) ≡ true = has.from_regular (k + 1) (record { above = omega arith; is = (let e : k + 1 - 1 ≡ k = omega arith in subst (λ m. slice_get g.kinds m ≡ Some Regular) (sym e) r) }) in
     between k a b (either_side shape (k + 1) regular)))
     (omega arith) (omega arith) (omega arith) in
-    let p : param_count (take (n - 1) g.kinds) ≡ j = is.place in
     record { above = low; place = omega arith; below = omega arith }
   where
     input_is : (s : Shape) (m : ℕ) → 1 ≤ m → m ≤ s.regular → is_regular s m ≡ true
@@ -113,17 +105,11 @@ pub record AreLeaves (g : Aig) (leaves : List ℕ) : Type 0 where
 
 -- so neither the constant
 pub leaf_not_constant : (g : Aig) (leaves : List ℕ) (n : ℕ) → AreLeaves g leaves → n ≡ 0 → In leaves n → ⊥
-leaf_not_constant g leaves n are z i = elim (are.kinds n i) [
-  | inl r ↦ (let a : 1 ≤ n = r.above in omega arith)
-  | inr a ↦ (let l : first_and g ≤ n = a.0 in omega arith)
-]
+leaf_not_constant g leaves n are z i = search rules
 
 -- nor a parameter is a leaf
 pub leaf_not_parameter : (g : Aig) (leaves : List ℕ) (n : ℕ) → AreLeaves g leaves → IsSource g Parameter n → In leaves n → ⊥
-leaf_not_parameter g leaves n are p i = elim (are.kinds n i) [
-  | inl r ↦ one_kind g n r p
-  | inr a ↦ (let l : first_and g ≤ n = a.0 in let w : n - 1 < length g.kinds = slice_get_within g.kinds (n - 1) Parameter p.is in let b : 1 ≤ n = p.above in omega arith)
-]
+leaf_not_parameter g leaves n are p i = search (rules, one_kind, slice_get_within)
 
 -- a leaf has one place
 pub one_place : (leaves : List ℕ) (n i j : ℕ) → IsAscending leaves → slice_get leaves i ≡ Some n → slice_get leaves j ≡ Some n → i ≡ j
@@ -182,9 +168,8 @@ pub has_bit : (g : Aig) (params : List Bool) (leaves : List ℕ) (v n : ℕ) →
 has_bit g params leaves v n len (member i) = leaf_bit g params leaves v n i
 has_bit g params leaves v n len (blocks_constant z) = record { bit = false; is = constant z refl }
 has_bit g params leaves v n len (blocks_parameter s) =
-    let j : ℕ = param_count (take (n - 1) g.kinds) in
-    let is : IsParam g j n = record { source = s; place = refl } in
-    record { bit = get_or params j false; is = parameter j is (slice_get-get_or params j false (omega (arith, param_below g j n is))) }
+    let is : IsParam g _ n = record { source = s; place = refl } in
+    record { bit = get_or params _ false; is = parameter _ is (slice_get-get_or params _ false (omega (arith, param_below g _ n is))) }
 has_bit g params leaves v n len (fan_ins p is bx by) = elim (in_or leaves n) [
   | inl i ↦ leaf_bit g params leaves v n i
   | inr out ↦
@@ -198,9 +183,7 @@ pub record AreDigits (values : List Bool) (leaves : List ℕ) (v : ℕ) : Type 0
   pub each : (j : ℕ) → j < length leaves → digit v j ≡ node_value values (get_or leaves j 0)
 
 digit_of : (values : List Bool) (leaves : List ℕ) (v n j : ℕ) → AreDigits values leaves v → slice_get leaves j ≡ Some n → node_value values n ≡ digit v j
-digit_of values leaves v n j digits at =
-    let within : j < length leaves = slice_get_within leaves j n at in
-    sym (digits.each j within ∙ ap (node_value values) (get_or_from_slice_get leaves j n 0 at))
+digit_of values leaves v n j digits at = grind (arith, slice_get_within, get_or_from_slice_get)
 
 leaf_value : (g : Aig) (params : List Bool) (leaves : List ℕ) (v : ℕ) (values : List Bool) (n : ℕ) → AreDigits values leaves v → In leaves n → NodeBit g params leaves v n (node_value values n)
 leaf_value g params leaves v values n digits i = let p = place_in leaves n i in leaf p.0 p.1 (digit_of values leaves v n p.0 digits p.1)
@@ -211,12 +194,10 @@ pub fits_bit : (g : Aig) (params : List Bool) (leaves : List ℕ) (v : ℕ) (sou
 fits_bit g params leaves v sources values n fits have len digits (member i) = leaf_value g params leaves v values n digits i
 fits_bit g params leaves v sources values n fits have len digits (blocks_constant z) = constant z (ap (node_value values) z ∙ fits.constant)
 fits_bit g params leaves v sources values n fits have len digits (blocks_parameter s) =
-    let j : ℕ = param_count (take (n - 1) g.kinds) in
-    let is : IsParam g j n = record { source = s; place = refl } in
-    let l : j < param_count g.kinds = param_below g j n is in
+    let is : IsParam g _ n = record { source = s; place = refl } in
+    let l : _ < param_count g.kinds = param_below g _ n is in
     let within : n - 1 < length g.kinds = slice_get_within g.kinds (n - 1) Parameter s.is in
-    let same : node_value values n ≡ get_or params j false = fits.source n s.above (omega arith) ∙ have.each j n is in
-    parameter j is (slice_get-get_or params j false (omega arith) ∙ ap (λ b. Some b) (sym same))
+    parameter _ is (slice_get-get_or params _ false (omega arith) ∙ ap (λ b. Some b) (sym (fits.source n s.above (omega arith) ∙ have.each _ n is)))
 fits_bit g params leaves v sources values n fits have len digits (fan_ins p is bx by) = elim (in_or leaves n) [
   | inl i ↦ leaf_value g params leaves v values n digits i
   | inr out ↦

@@ -1,5 +1,5 @@
 -- What the proofs of this crate cite of other crates, and its own definitions, passed on from one place.
-pub use Rattle.std.proofs.Common.{Bool, List, None, Option, Some, [], ap, append-nil, append_assoc, arith, cond, drop, eqb, false, get_or, get_or-set_other, get_or-set_same, inl, inr, leb, length, length-append, ltb, map, max, min, not, refl, replicate, reverse, slice_set, subst, suc, sym, take, true, zero, ℕ, ◌%◌, ◌&&◌, ◌*◌, ◌++◌, ◌+◌, ◌-◌, ◌/◌, ◌<◌, ◌^◌, ◌∙◌, ◌∷◌, ◌≡◌, ◌≤◌, ◌⊎◌, ◌||◌}
+pub use Rattle.std.proofs.Common.{Bool, List, None, Option, Some, [], ap, append-nil, append_assoc, arith, cond, drop, eqb, false, get_or, get_or-set_other, get_or-set_same, inl, inr, leb, length, length-append, ltb, map, max, min, not, refl, replicate, reverse, slice_set, subst, suc, sym, take, true, zero, ℕ, ◌%◌, ◌&&◌, ◌*◌, ◌++◌, ◌+◌, ◌-◌, ◌/◌, ◌<◌, ◌^◌, ◌∙◌, ◌∷◌, ◌≡◌, ◌≤◌, ◌⊎◌, ◌||◌, rules}
 pub use Rattle.std.proofs.Math.ListN.{get_or-append, length-set}
 pub use Rattle.std.proofs.Math.Nat.{add-mul, mul-add, mul-le-mul_left, mul-one, one-mul}
 pub use Rattle.std.proofs.lemmas.Bool.{and_from, cases_lt, cond-false, cond-true, le-leb, le-ltb, leb-false, leb-true, lt-ltb, or_left, or_right, true≢false}

@@ -129,7 +129,6 @@ count_few g i count lits have = omega (arith, have.counted, count_within g.kinds
 below_or : (n k : ℕ) → n ≤ k + 1 → (n ≡ k + 1 → ⊥) → n ≤ k
 below_or n k l off = elim (cases_lt k n) [ inl a ↦ absurd (off (omega arith)) | inr a ↦ a ]
 
--- a regular source
 pub regular_source : (g : Aig) (i count : ℕ) (lits : List Lit) → slice_get g.kinds (i + 1 - 1) ≡ Some Regular → HaveSourceLitsTo g i count lits → HaveSourceLitsTo g (i + 1) count lits
 regular_source g i count lits at have =
     let place : i + 1 - 1 ≡ i = omega arith in
@@ -146,7 +145,6 @@ regular_source g i count lits at have =
       below = have.below;
     }
 
--- a parameter
 pub parameter_source : (g : Aig) (i count : ℕ) (lits : List Lit) → slice_get g.kinds (i + 1 - 1) ≡ Some Parameter → HaveSourceLitsTo g i count lits
     → HaveSourceLitsTo g (i + 1) (count + 1) (slice_set lits (i + 1) (record { 0 = 2 * (count + 1) }))
 parameter_source g i count lits at have =

@@ -1,5 +1,5 @@
 -- A walk over the cone of a LUT: its edges fall, its postorder visits the lower fan-in first, what it reaches is the cone, and the order that it leaves.
-use Rattle.bit_fun.proofs.Common.{◌≡◌, ℕ, ◌-◌, ◌/◌, ◌<◌, ◌≤◌, Bool, true, false, cond, ltb, List, [], ◌∷◌, reverse, Option, Some, refl, sym, ap, ◌∙◌, subst, inl, inr, arith, cases_lt, cond-true, cond-false, le-ltb, lt-ltb, slice_get_past, In, Pair, Aig, first_and, node_count, pair_of, IsNode, IsNormal, AreNormal, node_normal, node_at, IsInner, ends_at, mark_of, Path, path_here, path_left, path_right, stop_inner, true≢false, Way, leads, stops, nodes_of, Posts, PostsAll, none, more, ways_of, ways_from, successors, AreNodes, Reaches, here, through, LeadsBelow, fan_in_edges, cone_edges, cone_next, Visits, passed, walked, None, ◌⊎◌, none-some, ◌||◌, is_stop, IsReached, WalkValue, Visited, falls_through, IsConeOrder}
+use Rattle.bit_fun.proofs.Common.{◌≡◌, ℕ, ◌-◌, ◌/◌, ◌<◌, ◌≤◌, Bool, true, false, cond, ltb, List, [], ◌∷◌, reverse, Option, Some, refl, sym, ap, ◌∙◌, subst, inl, inr, arith, cases_lt, cond-true, cond-false, le-ltb, lt-ltb, slice_get_past, In, Pair, Aig, first_and, node_count, pair_of, IsNode, IsNormal, AreNormal, node_normal, node_at, IsInner, ends_at, mark_of, Path, path_here, path_left, path_right, stop_inner, true≢false, Way, leads, stops, nodes_of, Posts, PostsAll, none, more, ways_of, ways_from, successors, AreNodes, Reaches, here, through, LeadsBelow, fan_in_edges, cone_edges, cone_next, Visits, passed, walked, None, ◌⊎◌, none-some, ◌||◌, is_stop, IsReached, WalkValue, Visited, falls_through, IsConeOrder, rules}
 use Rattle.depth_first.specs.declared.edge.Edge.{Edge}
 use Rattle.depth_first.specs.declared.edge.Edge.TheVariants.{Node, Pass}
 use Rattle.depth_first.specs.Order.{IsAfter}
@@ -21,9 +21,7 @@ ends_inner g leaves kept n l s = stop_inner g leaves n l (or_fails_left (is_stop
 
 -- the edges of an AND node
 edges_of_node : (S : Type 0) (g : Aig) (leaves : List ℕ) (kept : List Bool) (n : ℕ) (p : Pair) → IsNode g p n → cone_edges {S = S} g leaves kept n ≡ fan_in_edges {S = S} g leaves kept (Some p)
-edges_of_node S g leaves kept n p is =
-    let above : first_and g ≤ n = is.above in
-    cond-false (ltb n (first_and g)) [] (fan_in_edges {S = S} g leaves kept (pair_of g n)) (le-ltb n (first_and g) above) ∙ ap (λ (o : Option Pair). fan_in_edges {S = S} g leaves kept o) is.is
+edges_of_node S g leaves kept n p is = grind arith
 
 -- an edge that is taken
 edge_taken : (S : Type 0) (ends : Bool) (n : ℕ) (es : List (Edge S)) (k : ℕ) → In (nodes_of (ways_of (cond ends Pass (Node n) ∷ es))) k → ((ends ≡ false) × (k ≡ n)) ⊎ In (nodes_of (ways_of es)) k
@@ -57,10 +55,7 @@ record OnePosts (next : ℕ → List ℕ) (before : List ℕ) (n : ℕ) (ns afte
 
 one_posts : (next : ℕ → List ℕ) (before : List ℕ) (n : ℕ) (ns after : List ℕ) → PostsAll next before (n ∷ ns) after → OnePosts next before n ns after
 one_posts next before n ns after (none e q) = absurd cc
-one_posts next before n ns after (more m rest below e p ps) =
-    let same : m ≡ n = cc in
-    let tail : rest ≡ ns = cc in
-    record { mid = below; one = subst (λ x. Posts next before x below) same p; others = subst (λ xs. PostsAll next below xs after) tail ps }
+one_posts next before n ns after (more m rest below e p ps) = grind arith
 
 -- what a node's edges lead to, by what its fan-ins are
 both_of : (S : Type 0) (next : ℕ → List ℕ) (g : Aig) (leaves : List ℕ) (kept : List Bool) (before : List ℕ) (p : Pair) (after : List ℕ) (a b : Bool) → ends_at g leaves kept (p.x.0 / 2) ≡ a → ends_at g leaves kept (p.y.0 / 2) ≡ b
@@ -68,16 +63,14 @@ both_of : (S : Type 0) (next : ℕ → List ℕ) (g : Aig) (leaves : List ℕ) (
 both_of S next g leaves kept before p after true true ea eb all = record { mid = before; lower = passed ea refl; upper = passed eb (no_posts next before after all) }
 both_of S next g leaves kept before p after true false ea eb all =
     let o : OnePosts next before (p.y.0 / 2) [] after = one_posts next before (p.y.0 / 2) [] after all in
-    let e : after ≡ o.mid = no_posts next o.mid after o.others in
-    record { mid = before; lower = passed ea refl; upper = walked eb (subst (λ xs. Posts next before (p.y.0 / 2) xs) (sym e) o.one) }
+    record { mid = before; lower = passed ea refl; upper = walked eb (subst (λ xs. Posts next before (p.y.0 / 2) xs) (sym (no_posts next o.mid after o.others)) o.one) }
 both_of S next g leaves kept before p after false true ea eb all =
     let o : OnePosts next before (p.x.0 / 2) [] after = one_posts next before (p.x.0 / 2) [] after all in
     record { mid = o.mid; lower = walked ea o.one; upper = passed eb (no_posts next o.mid after o.others) }
 both_of S next g leaves kept before p after false false ea eb all =
     let o : OnePosts next before (p.x.0 / 2) ((p.y.0 / 2) ∷ []) after = one_posts next before (p.x.0 / 2) ((p.y.0 / 2) ∷ []) after all in
     let u : OnePosts next o.mid (p.y.0 / 2) [] after = one_posts next o.mid (p.y.0 / 2) [] after o.others in
-    let e : after ≡ u.mid = no_posts next u.mid after u.others in
-    record { mid = o.mid; lower = walked ea o.one; upper = walked eb (subst (λ xs. Posts next o.mid (p.y.0 / 2) xs) (sym e) u.one) }
+    record { mid = o.mid; lower = walked ea o.one; upper = walked eb (subst (λ xs. Posts next o.mid (p.y.0 / 2) xs) (sym (no_posts next u.mid after u.others)) u.one) }
 
 pub visits_both : (S : Type 0) (next : ℕ → List ℕ) (g : Aig) (leaves : List ℕ) (kept : List Bool) (before : List ℕ) (n : ℕ) (p : Pair) (after : List ℕ) → IsNode g p n → PostsAll next before (cone_next S g leaves kept n) after → VisitsBoth next g leaves kept before p after
 visits_both S next g leaves kept before n p after is all =
@@ -97,16 +90,14 @@ way_of : (S : Type 0) (g : Aig) (leaves : List ℕ) (kept : List Bool) (p : Pair
     → In (ways_of {S = S} (cond a Pass (Node (p.x.0 / 2)) ∷ cond b Pass (Node (p.y.0 / 2)) ∷ [])) w → LeadsTo S g leaves kept p w
 way_of S g leaves kept p w true true ea eb i = absurd i
 way_of S g leaves kept p w true false ea eb (inl e) = subst (LeadsTo S g leaves kept p) (sym e) (upper refl eb)
-way_of S g leaves kept p w true false ea eb (inr i) = absurd i
 way_of S g leaves kept p w false true ea eb (inl e) = subst (LeadsTo S g leaves kept p) (sym e) (lower refl ea)
-way_of S g leaves kept p w false true ea eb (inr i) = absurd i
 way_of S g leaves kept p w false false ea eb (inl e) = subst (LeadsTo S g leaves kept p) (sym e) (lower refl ea)
 way_of S g leaves kept p w false false ea eb (inr (inl e)) = subst (LeadsTo S g leaves kept p) (sym e) (upper refl eb)
 way_of S g leaves kept p w false false ea eb (inr (inr i)) = absurd i
+way_of S g leaves kept p w a b ea eb (inr i) = absurd i
 
 pub way_to : (S : Type 0) (g : Aig) (leaves : List ℕ) (kept : List Bool) (n : ℕ) (p : Pair) (w : Way ℕ S) → IsNode g p n → In (ways_from {S = S} (cone_edges g leaves kept) n) w → LeadsTo S g leaves kept p w
-way_to S g leaves kept n p w is i =
-    way_of S g leaves kept p w (ends_at g leaves kept (p.x.0 / 2)) (ends_at g leaves kept (p.y.0 / 2)) refl refl (subst (λ (es : List (Edge S)). In (ways_of es) w) (edges_of_node S g leaves kept n p is) i)
+way_to S g leaves kept n p w is i = grind arith
 
 -- a fan-in is below its node
 fan_in_below : (g : Aig) (leaves : List ℕ) (kept : List Bool) (n : ℕ) (p : Pair) (m : ℕ) → IsNormal n p → IsFanIn g leaves kept p m → m < n
@@ -115,37 +106,22 @@ fan_in_below g leaves kept n p m normal (upper e s) = let b : p.y.0 / 2 < n = no
 
 leads_below : (S : Type 0) (g : Aig) (leaves : List ℕ) (kept : List Bool) (n : ℕ) (p : Pair) → IsNormal n p → (w : Way ℕ S) → LeadsTo S g leaves kept p w → LeadsBelow (ways_from {S = S} (cone_edges g leaves kept)) (n ∷ []) w
 leads_below S g leaves kept n p normal (stops s) l = l
-leads_below S g leaves kept n p normal (leads m) l = λ k i.
-    elim i [ inl q ↦ omega (arith, fan_in_below g leaves kept n p m normal l) | inr o ↦ absurd o ]
+leads_below S g leaves kept n p normal (leads m) l = grind arith
 
 -- a number past the AND nodes, or below them, has no edges
 no_edges_below : (S : Type 0) (g : Aig) (leaves : List ℕ) (kept : List Bool) (n : ℕ) → n < first_and g → cone_edges {S = S} g leaves kept n ≡ []
 no_edges_below S g leaves kept n l = cond-true (ltb n (first_and g)) [] (fan_in_edges {S = S} g leaves kept (pair_of g n)) (lt-ltb n (first_and g) l)
 
 no_edges_past : (S : Type 0) (g : Aig) (leaves : List ℕ) (kept : List Bool) (n : ℕ) → node_count g ≤ n → cone_edges {S = S} g leaves kept n ≡ []
-no_edges_past S g leaves kept n l =
-    cond-false (ltb n (first_and g)) [] (fan_in_edges {S = S} g leaves kept (pair_of g n)) (le-ltb n (first_and g) (omega arith))
-    ∙ ap (λ (o : Option Pair). fan_in_edges {S = S} g leaves kept o) (slice_get_past g.pairs (n - first_and g) (omega arith))
+no_edges_past S g leaves kept n l = grind (arith, cond-false, ltb, le-ltb, slice_get_past)
 
 -- so the edges of a cone fall
 pub cone_falls : (S : Type 0) (g : Aig) (leaves : List ℕ) (kept : List Bool) → AreNormal (first_and g) g.pairs → (n : ℕ) (w : Way ℕ S) → In (ways_from (cone_edges g leaves kept) n) w → LeadsBelow (ways_from {S = S} (cone_edges g leaves kept)) (n ∷ []) w
-cone_falls S g leaves kept normal n w i = elim (cases_lt n (first_and g)) [
-  | inl l ↦ absurd (subst (λ (es : List (Edge S)). In (ways_of es) w) (no_edges_below S g leaves kept n l) i)
-  | inr a ↦ elim (cases_lt n (node_count g)) [
-    | inl b ↦ (let p = node_at g n a b in leads_below S g leaves kept n p.0 (node_normal g n p.0 normal p.1) w (way_to S g leaves kept n p.0 w p.1 i))
-    | inr b ↦ absurd (subst (λ (es : List (Edge S)). In (ways_of es) w) (no_edges_past S g leaves kept n b) i)
-  ]
-]
+cone_falls S g leaves kept normal n w i = search (rules, cases_lt, no_edges_below, node_at, leads_below, node_normal, way_to, no_edges_past)
 
 -- a successor of a node of the cone is a fan-in of it
 pub next_fan_in : (S : Type 0) (g : Aig) (leaves : List ℕ) (kept : List Bool) (n : ℕ) (p : Pair) (m : ℕ) → IsNode g p n → In (cone_next S g leaves kept n) m → IsFanIn g leaves kept p m
-next_fan_in S g leaves kept n p m is i = way_to S g leaves kept n p (leads m) is (nodes_ways (ways_from {S = S} (cone_edges g leaves kept) n) m i)
-  where
-    nodes_ways : (ws : List (Way ℕ S)) (k : ℕ) → In (nodes_of ws) k → In ws (leads k)
-    nodes_ways [] k j = absurd j
-    nodes_ways (leads a ∷ ws) k (inl e) = inl (ap (λ x. leads x) e)
-    nodes_ways (leads a ∷ ws) k (inr j) = inr (nodes_ways ws k j)
-    nodes_ways (stops s ∷ ws) k j = inr (nodes_ways ws k j)
+next_fan_in S g leaves kept n p m is i = grind arith
 
 fan_in_inner : (g : Aig) (leaves : List ℕ) (kept : List Bool) (p : Pair) (m : ℕ) → m < node_count g → IsFanIn g leaves kept p m → IsInner g leaves m
 fan_in_inner g leaves kept p m l (lower e s) = ends_inner g leaves kept m l s
@@ -153,10 +129,7 @@ fan_in_inner g leaves kept p m l (upper e s) = ends_inner g leaves kept m l s
 
 -- and is a node of the cone
 pub next_inner : (S : Type 0) (g : Aig) (leaves : List ℕ) (kept : List Bool) (n m : ℕ) → AreNormal (first_and g) g.pairs → IsInner g leaves n → In (cone_next S g leaves kept n) m → IsInner g leaves m
-next_inner S g leaves kept n m normal inner i =
-    let p = node_at g n inner.and.0 inner.and.1 in
-    let f : IsFanIn g leaves kept p.0 m = next_fan_in S g leaves kept n p.0 m p.1 i in
-    fan_in_inner g leaves kept p.0 m (omega (arith, inner.and.1, fan_in_below g leaves kept n p.0 m (node_normal g n p.0 normal p.1) f)) f
+next_inner S g leaves kept n m normal inner i = grind (arith, node_at, next_fan_in, fan_in_inner, fan_in_below, node_normal)
 
 -- the AND nodes that are no leaves are the nodes of the walk
 pub cone_nodes : (S : Type 0) (g : Aig) (leaves : List ℕ) (kept : List Bool) → AreNormal (first_and g) g.pairs → AreNodes (IsInner g leaves) (successors {S = S} (cone_edges g leaves kept)) (node_count g)
@@ -200,23 +173,11 @@ or_fails false b e f = f
 
 module _ (g : Aig) (leaves : List ℕ) (less more : List Bool) (grows : (m : ℕ) → mark_of less m ≡ true → mark_of more m ≡ true) where
   ends_less : (n : ℕ) → ends_at g leaves more n ≡ false → ends_at g leaves less n ≡ false
-  ends_less n e =
-      or_fails (is_stop g leaves n) (mark_of less n) (or_fails_left (is_stop g leaves n) (mark_of more n) e) (less_false (mark_of less n) (mark_of more n) (grows n) (or_fails_right (is_stop g leaves n) (mark_of more n) e))
+  ends_less n e = grind arith
 
   -- so it takes no other edges
   next_less : (S : Type 0) (n k : ℕ) → In (cone_next S g leaves more n) k → In (cone_next S g leaves less n) k
-  next_less S n k i0 = by (ltb n (first_and g)) (pair_of g n) i0
-    where
-      by : (b : Bool) (o : Option Pair) → In (nodes_of (ways_of (cond b [] (fan_in_edges {S = S} g leaves more o)))) k → In (nodes_of (ways_of (cond b [] (fan_in_edges {S = S} g leaves less o)))) k
-      by true o i = i
-      by false None i = i
-      by false (Some p) i = elim (edge_taken S (ends_at g leaves more (p.x.0 / 2)) (p.x.0 / 2) _ k i) [
-        | inl h ↦ edge_here S (ends_at g leaves less (p.x.0 / 2)) (p.x.0 / 2) _ k (ends_less (p.x.0 / 2) h.0) h.1
-        | inr j ↦ elim (edge_taken S (ends_at g leaves more (p.y.0 / 2)) (p.y.0 / 2) [] k j) [
-          | inl h ↦ edge_later S (ends_at g leaves less (p.x.0 / 2)) (p.x.0 / 2) _ k (edge_here S (ends_at g leaves less (p.y.0 / 2)) (p.y.0 / 2) [] k (ends_less (p.y.0 / 2) h.0) h.1)
-          | inr o ↦ absurd o
-        ]
-      ]
+  next_less S n k i0 = grind (arith, ltb, cond, edge_taken, edge_here, ends_less, edge_later)
 
   -- and reaches no other nodes
   reaches_less : (S : Type 0) (n m : ℕ) → Reaches (cone_next S g leaves more) n m → Reaches (cone_next S g leaves less) n m
@@ -224,11 +185,7 @@ module _ (g : Aig) (leaves : List ℕ) (less more : List Bool) (grows : (m : ℕ
   reaches_less S n m (through k i r) = through k (next_less S n k i) (reaches_less S k m r)
 
   pub order_within : (top : ℕ) (first rest : List ℕ) → IsConeOrder g leaves less top first → IsConeOrder g leaves more top rest → (m : ℕ) → In rest m → In first m
-  order_within top first rest a b m i = by b.visit
-    where
-      by : Visits (cone_next (Unit {0}) g leaves more) g leaves more [] top rest → In first m
-      by (passed stop e) = absurd (subst (λ xs. In xs m) e i)
-      by (walked on p) = a.all m (ends_less top on) (reaches_less (Unit {0}) top m (b.reached m i))
+  order_within top first rest a b m i = grind (arith, ends_less, reaches_less)
 
 -- in an order nothing stands twice
 after_apart : (next : ℕ → List ℕ) (order : List ℕ) → IsAfter next order → AreApart order
@@ -245,15 +202,7 @@ reached_in next top m before e (inr r) = from_one next top m r
 
 -- the order of a node at which the walk ends at once
 pub no_order : (g : Aig) (leaves : List ℕ) (kept : List Bool) (top : ℕ) (order : List ℕ) → ends_at g leaves kept top ≡ true → order ≡ [] → IsConeOrder g leaves kept top order
-no_order g leaves kept top order ends e = subst (IsConeOrder g leaves kept top) (sym e) (record {
-  visit = passed ends refl;
-  inner = λ m i. absurd i;
-  apart = tt;
-  reached = λ m i. absurd i;
-  all = λ m on r. absurd (true≢false (sym ends ∙ on));
-  paths = λ m i. absurd i;
-  fresh = λ m i. absurd i;
-})
+no_order g leaves kept top order ends e = grind (arith, true≢false)
 
 -- the order that a walk over a table's leaves left
 pub walked_order : (g : Aig) (leaves given : List ℕ) (kept : List Bool) (top : ℕ) (left order : List ℕ) → given ≡ leaves → reverse order ≡ left → IsConeOrder g given kept top left → IsConeOrder g leaves kept top (reverse order)
@@ -273,5 +222,4 @@ cone_order g leaves kept top w v None normal inner on e did =
       paths = λ m i. reach_path (Unit {0}) g leaves kept top m normal inner (reached m i);
       fresh = λ m i. or_fails_right (is_stop g leaves m) (mark_of kept m) (reach_on (Unit {0}) g leaves kept top m normal inner on (reached m i));
     }
-cone_order g leaves kept top w v (Some end) normal inner on e did =
-    absurd (none-some _ (sym (falls_through (ways_from {S = Unit {0}} (cone_edges g leaves kept)) (cone_falls (Unit {0}) g leaves kept normal) did.meets (λ k i. absurd i))))
+cone_order g leaves kept top w v (Some end) normal inner on e did = grind (arith, none-some, falls_through, cone_falls)

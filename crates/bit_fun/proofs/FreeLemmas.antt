@@ -1,5 +1,5 @@
 -- The free nodes: the function of one is the same for all tables and digits, so its literal stands once it is made.
-use Rattle.bit_fun.proofs.Common.{refl, sym, ◌≡◌, ℕ, ◌/◌, none-some, In-get, Bool, List, [], ◌++◌, subst, inl, inr, In, Lit, Pair, Aig, first_and, Answer, Lut, lit_of, IsFree, free_constant, free_parameter, free_product, AreFree, Stands, AreKept, AreMarked, IsBetween}
+use Rattle.bit_fun.proofs.Common.{refl, sym, ◌≡◌, ℕ, ◌/◌, none-some, In-get, Bool, List, [], ◌++◌, subst, inl, inr, In, Lit, Pair, Aig, first_and, Answer, Lut, lit_of, IsFree, free_constant, free_parameter, free_product, AreFree, Stands, AreKept, AreMarked, IsBetween, rules}
 use Rattle.cover_pick.proofs.FreeLemmas.{free_apart}
 use Rattle.bit_fun.specs.PackOf.{MakesNode, leaf, constant, parameter, node}
 use Rattle.bit_fun.proofs.BitLemmas.{AreLeaves, node_not_constant, node_not_parameter, one_pair}
@@ -43,31 +43,14 @@ known_stands g luts t first v pack lits m among are at free known = record {
 -- and one that stands is known for each table, as long as its literal stays
 pub stands_known : (g : Aig) (luts : List Lut) (t : Lut) (v : ℕ) (pack : Aig) (before lits : List Lit) (m : ℕ) → In luts t → AreLeaves g t.leaves → IsFree g luts m → lit_of lits m ≡ lit_of before m → Stands g pack before m
     → IsKnown g (first_and pack) t.leaves v (record { pairs = pack.pairs; lits = lits }) m
-stands_known g luts t v pack before lits m among are free same stands = record {
-  again = λ qs e.
-      subst (λ l. MakesNode g (first_and pack) t.leaves v qs m (record { pairs = qs; lit = l })) (sym same)
-      (free_makes g luts t (first_and pack) v qs m _ among are free
-      (subst (λ (rs : List Pair). MakesNode g (first_and pack) [] 0 rs m (record { pairs = rs; lit = lit_of before m })) (sym e.is) (stands.again e.more)));
-}
+stands_known g luts t v pack before lits m among are free same stands = search (rules, free_makes)
 
 -- the nodes of an order that stand are kept
 pub kept_marked : (g : Aig) (luts : List Lut) (pack : Aig) (lits : List Lit) (free old new : List Bool) (order : List ℕ) → AreFree g luts free → AreMarked free old new order → ((m : ℕ) → In order m → IsFree g luts m → Stands g pack lits m)
     → AreKept g luts pack old lits → AreKept g luts pack new lits
-kept_marked g luts pack lits free old new order are marked stand have = record {
-  free = record {
-    each = λ n e. elim (marked.only n e) [
-      | inl h ↦ (have.free).each n h
-      | inr h ↦ are.each n h.1
-    ];
-  };
-  stand = λ n e. elim (marked.only n e) [
-    | inl h ↦ have.stand n h
-    | inr h ↦ stand n h.0 (are.each n h.1)
-  ];
-}
+kept_marked g luts pack lits free old new order are marked stand have = search rules
 
 -- so the state between two bits stays one
 pub between_marked : (g : Aig) (luts : List Lut) (pack : Aig) (lits : List Lit) (free old new : List Bool) (order : List ℕ) → AreFree g luts free → AreMarked free old new order → ((m : ℕ) → In order m → IsFree g luts m → Stands g pack lits m)
     → IsBetween g luts pack old lits → IsBetween g luts pack new lits
-between_marked g luts pack lits free old new order are marked stand have =
-    record { literals = have.literals; sources = have.sources; keeps = kept_marked g luts pack lits free old new order are marked stand have.keeps }
+between_marked g luts pack lits free old new order are marked stand have = search (rules, kept_marked)

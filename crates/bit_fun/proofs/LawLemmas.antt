@@ -1,9 +1,9 @@
 -- The values of a graph's literals fit the LUTs of a mapping under the configuration, and a mapping can be played.
-use Rattle.bit_fun.proofs.Common.{◌≡◌, ℕ, ◌+◌, ◌-◌, ◌*◌, ◌/◌, ◌%◌, ◌^◌, ◌<◌, ◌≤◌, Bool, true, false, eqb, leb, List, ◌++◌, length, get_or, refl, ap, ◌∙◌, subst, arith, get_or-append, length-map, get_or-map, get_or-append-add, leb-true, leb-false, In, number, choose, Aig, xor, node_value, value_of, FitsGraph, Lut, IsTableOf, bits_of, Shape, last_source, source_value, IsInputOrLatch, input, latch, either_side, base_within, param_count, NodeBit, IsBit, IsMapped, IsConfiguration, zero, suc, [], ◌∷◌, sym, inl, inr, ext_get_or, Regular, IsSource, in_phase, Blocks, member, constant, parameter, IsMapping, source, free, node, HasOneBit, HasOneConfiguration, cases_lt, sum_by-cons, HaveBases}
+use Rattle.bit_fun.proofs.Common.{◌≡◌, ℕ, ◌+◌, ◌-◌, ◌*◌, ◌/◌, ◌%◌, ◌^◌, ◌<◌, ◌≤◌, Bool, true, false, eqb, leb, List, ◌++◌, length, get_or, refl, ap, ◌∙◌, subst, arith, get_or-append, length-map, get_or-map, get_or-append-add, leb-true, leb-false, In, number, choose, Aig, xor, node_value, value_of, FitsGraph, Lut, IsTableOf, bits_of, Shape, last_source, source_value, IsInputOrLatch, input, latch, either_side, base_within, param_count, NodeBit, IsBit, IsMapped, IsConfiguration, zero, suc, [], ◌∷◌, sym, inl, inr, ext_get_or, Regular, IsSource, in_phase, Blocks, member, constant, parameter, IsMapping, source, free, node, HasOneBit, HasOneConfiguration, cases_lt, sum_by-cons, HaveBases, rules}
 use Rattle.list_laws.proofs.Digits.{number-small, digit-number}
 use Rattle.lut_sim.specs.Cycle.{leaf_values, address}
 use Rattle.lut_sim.proofs.RoomLemmas.{regular_within}
-use Rattle.bit_fun.specs.Lawful.{IsLawful}
+use Rattle.bit_fun.specs.Configuration.{IsLawful}
 use Rattle.bit_fun.proofs.BitLemmas.{AreDigits, fits_bit, AreLeaves, one_bit, HasBit, has_bit, HaveParams, HaveParams-shape}
 
 -- The addresses of the LUTs stand apart, and are all. Where LUTs map a graph, each address has one bit, and there is one configuration.
@@ -24,7 +24,6 @@ pub table_at : (off : ℕ) (ts : List Lut) (b : ℕ) → HaveBases off ts → of
 table_at off [] b h low high = absurd (omega arith)
 table_at off (u ∷ ts) b h low high =
     let s : bits_of (u ∷ ts) ≡ 2 ^ length u.leaves + bits_of ts = sum_by-cons (λ (x : Lut). 2 ^ length x.leaves) u ts in
-    let e : u.base ≡ off = h.0 in
     elim (cases_lt b (off + 2 ^ length u.leaves)) [
       | inl here ↦ record { table = u; in' = inl refl; from = omega arith; before = omega arith }
       | inr past ↦
@@ -37,11 +36,9 @@ pub one_table : (off : ℕ) (ts : List Lut) (t u : Lut) (b : ℕ) → HaveBases 
 one_table off [] t u b h i j tl th ul uh = elim i [ ]
 one_table off (x ∷ ts) t u b h (inl e) (inl f) tl th ul uh = e ∙ sym f
 one_table off (x ∷ ts) t u b h (inl e) (inr j) tl th ul uh =
-    let w : b < x.base + 2 ^ length x.leaves = subst (λ (y : Lut). b < y.base + 2 ^ length y.leaves) e th in
-    absurd (omega (arith, base_from (off + 2 ^ length x.leaves) ts u h.1 j, h.0))
+    absurd (omega (arith, subst (λ (y : Lut). b < y.base + 2 ^ length y.leaves) e th, base_from (off + 2 ^ length x.leaves) ts u h.1 j, h.0))
 one_table off (x ∷ ts) t u b h (inr i) (inl f) tl th ul uh =
-    let w : b < x.base + 2 ^ length x.leaves = subst (λ (y : Lut). b < y.base + 2 ^ length y.leaves) f uh in
-    absurd (omega (arith, base_from (off + 2 ^ length x.leaves) ts t h.1 i, h.0))
+    absurd (omega (arith, subst (λ (y : Lut). b < y.base + 2 ^ length y.leaves) f uh, base_from (off + 2 ^ length x.leaves) ts t h.1 i, h.0))
 one_table off (x ∷ ts) t u b h (inr i) (inr j) tl th ul uh = one_table (off + 2 ^ length x.leaves) ts t u b h.1 i j tl th ul uh
 
 -- the leaves of a table block its node
@@ -66,11 +63,7 @@ bit_at g k luts params b a is len =
 
 -- two bits at an address are one
 pub bits_agree : (g : Aig) (k : ℕ) (roots : List ℕ) (bits : ℕ) (luts : List Lut) (params : List Bool) (b : ℕ) (x y : Bool) → IsMapping g k roots luts bits → IsBit g luts params b x → IsBit g luts params b y → x ≡ y
-bits_agree g k roots bits luts params b x y mapping p q =
-    let same : p.table ≡ q.table = one_table 0 luts p.table q.table b mapping.bases p.in' q.in' p.from p.before q.from q.before in
-    let go : NodeBit g params q.table.leaves (b - q.table.base) (q.table.lit.0 / 2) p.value → in_phase q.table.lit.0 p.value ≡ in_phase q.table.lit.0 q.value =
-    λ by. ap (in_phase q.table.lit.0) (one_bit g params q.table.leaves (b - q.table.base) (q.table.lit.0 / 2) p.value q.value (table_leaves g k q.table (mapping.table q.table q.in')) by q.by) in
-    p.is ∙ subst (λ (t : Lut). NodeBit g params t.leaves (b - t.base) (t.lit.0 / 2) p.value → in_phase t.lit.0 p.value ≡ in_phase q.table.lit.0 q.value) (sym same) go p.by ∙ sym q.is
+bits_agree g k roots bits luts params b x y mapping p q = grind (arith, one_table, one_bit, table_leaves)
 
 -- each address has one bit
 pub has_one_bit : (g : Aig) (luts : List Lut) (params : List Bool) (b : ℕ) → IsMapped g luts → length params ≡ param_count g.kinds → b < bits_of luts → HasOneBit g luts params b
@@ -94,13 +87,11 @@ each_bit P (suc count) one =
 -- the configuration has the bit of each address, and there is no other
 pub has_one_configuration : (g : Aig) (luts : List Lut) (params : List Bool) → IsMapped g luts → length params ≡ param_count g.kinds → HasOneConfiguration g luts params
 has_one_configuration g luts params m len =
-    let all : (bits : List Bool) × (length bits ≡ bits_of luts) × ((b : ℕ) → b < bits_of luts → IsBit g luts params b (get_or bits b false)) =
-    each_bit (IsBit g luts params) (bits_of luts) (λ b within. let h : HasOneBit g luts params b = has_one_bit g luts params b m len within in (h.bit, h.is)) in
+    let all = each_bit (IsBit g luts params) (bits_of luts) (λ b within. let h : HasOneBit g luts params b = has_one_bit g luts params b m len within in (h.bit, h.is)) in
     record {
       bits = all.0;
       is = record { count = all.1; each = all.2 };
       only = λ others o.
-          let n : length others ≡ bits_of luts = o.count in
           ext_get_or false others all.0 (o.count ∙ sym all.1) (λ b l. bits_agree g m.k m.roots m.bits luts params b _ _ m.mapping (o.each b (omega arith)) (all.2 b (omega arith)));
     }
 
@@ -111,70 +102,40 @@ xor-false false = refl
 
 -- a positive literal has its node's value
 pub positive_value : (values : List Bool) (m : ℕ) → value_of values (2 * m) ≡ node_value values m
-positive_value values m =
-    let e : (2 * m) % 2 ≡ 0 = omega arith in
-    let h : (2 * m) / 2 ≡ m = omega arith in
-    ap (λ p. xor (node_value values ((2 * m) / 2)) (eqb p 1)) e ∙ xor-false (node_value values ((2 * m) / 2)) ∙ ap (node_value values) h
+positive_value values m = grind arith
 
 -- the value of a regular source among those of all sources
 regular_value : (shape : Shape) (inputs params states : List Bool) (n : ℕ) → length inputs ≡ shape.regular → length params ≡ shape.params → IsInputOrLatch shape n
     → get_or (inputs ++ (params ++ states)) (n - 1) false ≡ source_value shape inputs states n
-regular_value shape inputs params states n li lp (input low high) =
-    get_or-append inputs (params ++ states) false (n - 1) (omega arith)
-    ∙ choose (λ b. get_or inputs (n - 1) false ≡ b) (leb n shape.regular) (get_or inputs (n - 1) false) (get_or states (n - 1 - (shape.regular + shape.params)) false) (λ _. refl)
-    (λ past. absurd (let c : shape.regular < n = leb-false n shape.regular past in omega arith))
-regular_value shape inputs params states n li lp (latch low high) =
-    let i : ℕ = n - 1 - (shape.regular + shape.params) in
-    let e : n - 1 ≡ length inputs + (length params + i) = omega arith in
-    ap (λ m. get_or (inputs ++ (params ++ states)) m false) e
-    ∙ get_or-append-add inputs (params ++ states) (length params + i) false
-    ∙ get_or-append-add params states i false
-    ∙ choose (λ b. get_or states i false ≡ b) (leb n shape.regular) (get_or inputs (n - 1) false) (get_or states i false)
-    (λ here. absurd (let c : n ≤ shape.regular = leb-true n shape.regular here in omega arith)) (λ _. refl)
+regular_value shape inputs params states n li lp (input low high) = grind (arith, get_or-append, leb, leb-false)
+regular_value shape inputs params states n li lp (latch low high) = grind (arith, get_or-append-add, leb, leb-true)
 
 -- the values of a table's leaves are those of their nodes
 leaf_digits : (values : List Bool) (leaves : List ℕ) → AreDigits values leaves (number (leaf_values (value_of values) leaves))
-leaf_digits values leaves = record {
-  each = λ j h.
-      digit-number (leaf_values (value_of values) leaves) j (rw (length-map leaves (λ m. value_of values (2 * m))) h)
-      ∙ get_or-map (λ m. value_of values (2 * m)) leaves j 0 false h
-      ∙ positive_value values (get_or leaves j 0);
-}
+leaf_digits values leaves = search (rules, digit-number, length-map, get_or-map, positive_value)
 
 -- the bit at the address of the leaves' values is the table's literal's value
 table_value : (g : Aig) (k : ℕ) (luts : List Lut) (params sources values : List Bool) (t : Lut) → FitsGraph g sources values → HaveParams g params sources → length params ≡ param_count g.kinds → In luts t → IsTableOf g k t
     → IsBit g luts params (address (value_of values) t) (value_of values t.lit.0)
 table_value g k luts params sources values t fits have len i is =
     let v : ℕ = number (leaf_values (value_of values) t.leaves) in
-    let small : v < 2 ^ length (leaf_values (value_of values) t.leaves) = number-small (leaf_values (value_of values) t.leaves) in
-    let below : v < 2 ^ length t.leaves = subst (λ n. v < 2 ^ n) (length-map t.leaves (λ m. value_of values (2 * m))) small in
-    let e : v ≡ t.base + v - t.base = omega arith in
+    let below : v < 2 ^ length t.leaves = subst (λ n. v < 2 ^ n) (length-map t.leaves (λ m. value_of values (2 * m))) (number-small (leaf_values (value_of values) t.leaves)) in
     record {
       table = t;
       in' = i;
       from = omega arith;
       before = omega arith;
       value = node_value values (t.lit.0 / 2);
-      by = subst (λ m. NodeBit g params t.leaves m (t.lit.0 / 2) (node_value values (t.lit.0 / 2))) e
+      by = subst (λ m. NodeBit g params t.leaves m (t.lit.0 / 2) (node_value values (t.lit.0 / 2))) (omega arith)
           (fits_bit g params t.leaves v sources values (t.lit.0 / 2) fits have len (leaf_digits values t.leaves) (table_blocks g k t is));
       is = refl;
     }
 
--- the law
 pub configuration_lawful : (g : Aig) (luts : List Lut) (params config : List Bool) → IsMapped g luts → length params ≡ param_count g.kinds → IsConfiguration g luts params config → IsLawful g luts params config
 configuration_lawful g luts params config m len is shape inputs states sources values has all fits = record {
-  source = λ n r.
-      let side : IsInputOrLatch shape n = either_side shape n r in
-      let above : 1 ≤ n = (has.to_regular n r).above in
-      let within : n ≤ last_source shape = regular_within shape n r in
-      let count : length g.kinds ≡ last_source shape = has.count in
-      positive_value values n
-      ∙ fits.source n above (omega arith)
-      ∙ ap (λ xs. get_or xs (n - 1) false) all.all
-      ∙ regular_value shape inputs params states n all.inputs_len all.params_len side;
+  source = λ n r. grind (arith, either_side, regular_within, positive_value, regular_value);
   table = λ t i plain.
-      let at : IsBit g luts params (address (value_of values) t) (value_of values t.lit.0) =
-      table_value g m.k luts params sources values t fits (HaveParams-shape g shape inputs params states sources has all) len i ((m.mapping).table t i) in
+      let at = table_value g m.k luts params sources values t fits (HaveParams-shape g shape inputs params states sources has all) len i ((m.mapping).table t i) in
       let before : address (value_of values) t < t.base + 2 ^ length t.leaves = address_before (value_of values) t in
       let room : t.base + 2 ^ length t.leaves ≤ 0 + bits_of luts = base_within 0 luts t (m.mapping).bases i in
       bits_agree g m.k m.roots m.bits luts params (address (value_of values) t) _ _ m.mapping at (is.each (address (value_of values) t) (omega arith));

@@ -1,5 +1,5 @@
 -- Under the parameters' values the literals that are made for a node and for the bits of LUTs have the values of these bits.
-use Rattle.bit_fun.proofs.Common.{◌≡◌, ℕ, ◌+◌, ◌-◌, ◌*◌, ◌/◌, ◌%◌, ◌<◌, ◌≤◌, Bool, true, false, ◌&&◌, cond, eqb, List, ◌∷◌, length, get_or, refl, sym, ap, ◌∙◌, subst, arith, length-append, slice_get-get_or, bit_value, digit, Pair, Aig, AreNormal, Answer, complement, xor, in_phase, value_of, behind_constant, Extends, Extends-refl, Extends-trans, length-Extends, AreBase, AreBase-sources, Makes, Makes-and, complement-below, value_of-complement, value_of-more, param_count, zero, suc, ◌^◌, ◌++◌, inl, inr, get_or-append, cases_lt, get_or-append-add, sum_by-cons, In, In-append, Lit, Lut, HaveBases, bits_of, min, max, In-get, product_of, and_again, and_grows}
+use Rattle.bit_fun.proofs.Common.{◌≡◌, ℕ, ◌+◌, ◌-◌, ◌*◌, ◌/◌, ◌%◌, ◌<◌, ◌≤◌, Bool, true, false, ◌&&◌, cond, eqb, List, ◌∷◌, length, get_or, refl, sym, ap, ◌∙◌, subst, arith, length-append, slice_get-get_or, bit_value, digit, Pair, Aig, AreNormal, Answer, complement, xor, in_phase, value_of, behind_constant, Extends, Extends-refl, Extends-trans, length-Extends, AreBase, AreBase-sources, Makes, Makes-and, complement-below, value_of-complement, value_of-more, param_count, zero, suc, ◌^◌, ◌++◌, inl, inr, get_or-append, cases_lt, get_or-append-add, sum_by-cons, In, In-append, Lit, Lut, HaveBases, bits_of, min, max, In-get, product_of, and_again, and_grows, rules}
 use Rattle.aig_core.proofs.ValueLemmas.{values_from, values_old}
 use Rattle.bit_fun.specs.BitFunction.{NodeBit, leaf as leaf_bit, constant as constant_bit, parameter as parameter_bit, node as node_bit}
 use Rattle.bit_fun.specs.PackOf.{phase_literal, MakesNode, leaf, constant, parameter, node, BitsMade, MakesTable, done, more, MakesTables, none, tables}
@@ -30,11 +30,9 @@ makes_once g first leaves v pairs n a b are (node p x y out at mx my e) (constan
 makes_once g first leaves v pairs n a b are (node p x y out at mx my e) (parameter j is f) = absurd (node_not_parameter g j n p is at)
 makes_once g first leaves v pairs n a b are (node p x y out at mx my e) (node q u w off to mu mw f) =
     let same : q ≡ p = one_pair g n p q at to in
-    let mu' : MakesNode g first leaves v pairs (p.x.0 / 2) u = subst (λ (r : Pair). MakesNode g first leaves v pairs (r.x.0 / 2) u) same mu in
-    let ex : x ≡ u = makes_once g first leaves v pairs (p.x.0 / 2) x u are mx mu' in
+    let ex : x ≡ u = makes_once g first leaves v pairs (p.x.0 / 2) x u are mx (subst (λ (r : Pair). MakesNode g first leaves v pairs (r.x.0 / 2) u) same mu) in
     let mw' : MakesNode g first leaves v x.pairs (q.y.0 / 2) w = subst (λ (s : Answer). MakesNode g first leaves v s.pairs (q.y.0 / 2) w) (sym ex) mw in
-    let mw'' : MakesNode g first leaves v x.pairs (p.y.0 / 2) w = subst (λ (r : Pair). MakesNode g first leaves v x.pairs (r.y.0 / 2) w) same mw' in
-    let ey : y ≡ w = makes_once g first leaves v x.pairs (p.y.0 / 2) y w are my mw'' in
+    let ey : y ≡ w = makes_once g first leaves v x.pairs (p.y.0 / 2) y w are my (subst (λ (r : Pair). MakesNode g first leaves v x.pairs (r.y.0 / 2) w) same mw') in
     e ∙ ap (λ (s : Answer). node_product first p s y) ex ∙ ap (λ (s : Answer). node_product first p u s) ey ∙ ap (λ (r : Pair). node_product first r u w) (sym same) ∙ sym f
 
 -- making a node adds to the nodes that stand
@@ -43,11 +41,10 @@ node_grows g first leaves v pairs n made (leaf j at e) = subst (λ (a : Answer).
 node_grows g first leaves v pairs n made (constant z e) = subst (λ (a : Answer). Extends pairs a.pairs) (sym e) (Extends-refl pairs)
 node_grows g first leaves v pairs n made (parameter j is e) = subst (λ (a : Answer). Extends pairs a.pairs) (sym e) (Extends-refl pairs)
 node_grows g first leaves v pairs n made (node p x y out is mx my e) =
-    let a : ℕ = phase_literal p.x.0 x.lit in
     let b : ℕ = phase_literal p.y.0 y.lit in
     subst (λ (s : Answer). Extends pairs s.pairs) (sym e)
     (Extends-trans pairs x.pairs _ (node_grows g first leaves v pairs (p.x.0 / 2) x mx)
-    (Extends-trans x.pairs y.pairs _ (node_grows g first leaves v x.pairs (p.y.0 / 2) y my) (and_grows first y.pairs (min a b) (max a b))))
+    (Extends-trans x.pairs y.pairs _ (node_grows g first leaves v x.pairs (p.y.0 / 2) y my) (and_grows first y.pairs (min _ b) (max _ b))))
 
 -- making it again, over nodes that extend those that it left, adds nothing and gives the same literal
 pub node_again : (g : Aig) (first : ℕ) (leaves : List ℕ) (v : ℕ) (pairs : List Pair) (n : ℕ) (made : Answer) → MakesNode g first leaves v pairs n made
@@ -56,14 +53,13 @@ node_again g first leaves v pairs n made (leaf j at e) qs ext = leaf j at (ap (�
 node_again g first leaves v pairs n made (constant z e) qs ext = constant z (ap (λ (a : Answer). record { pairs = qs; lit = a.lit }) e)
 node_again g first leaves v pairs n made (parameter j is e) qs ext = parameter j is (ap (λ (a : Answer). record { pairs = qs; lit = a.lit }) e)
 node_again g first leaves v pairs n made (node p x y out is mx my e) qs ext =
-    let a : ℕ = phase_literal p.x.0 x.lit in
     let b : ℕ = phase_literal p.y.0 y.lit in
     let ez : Extends (node_product first p x y).pairs qs = subst (λ (s : Answer). Extends s.pairs qs) e ext in
-    let ey : Extends y.pairs qs = Extends-trans y.pairs (node_product first p x y).pairs qs (and_grows first y.pairs (min a b) (max a b)) ez in
+    let ey : Extends y.pairs qs = Extends-trans y.pairs (node_product first p x y).pairs qs (and_grows first y.pairs (min _ b) (max _ b)) ez in
     let ex : Extends x.pairs qs = Extends-trans x.pairs y.pairs qs (node_grows g first leaves v x.pairs (p.y.0 / 2) y my) ey in
     node p (record { pairs = qs; lit = x.lit }) (record { pairs = qs; lit = y.lit }) out is
     (node_again g first leaves v pairs (p.x.0 / 2) x mx qs ex) (node_again g first leaves v x.pairs (p.y.0 / 2) y my qs ey)
-    (ap (λ (s : Answer). record { pairs = qs; lit = s.lit }) e ∙ sym (and_again first y.pairs qs (min a b) (max a b) ez))
+    (ap (λ (s : Answer). record { pairs = qs; lit = s.lit }) e ∙ sym (and_again first y.pairs qs (min _ b) (max _ b) ez))
 
 -- the bits of a table from v on: v is at most their end
 table_within : (g : Aig) (first : ℕ) (t : Lut) (pairs : List Pair) (v : ℕ) (made : BitsMade) → MakesTable g first t pairs v made → v ≤ 2 ^ length t.leaves
@@ -81,8 +77,7 @@ table_once g first t pairs v a b are (done z e) (more this others m ms f) = absu
 table_once g first t pairs v a b are (more this others m ms e) (done z f) = absurd (let w : 1 + v ≤ 2 ^ length t.leaves = table_within g first t this.pairs (1 + v) others ms in omega arith)
 table_once g first t pairs v a b are (more this others m ms e) (more that next k ks f) =
     let same : this ≡ that = makes_once g first t.leaves v pairs (t.lit.0 / 2) this that are m k in
-    let ks' : MakesTable g first t this.pairs (1 + v) next = subst (λ (s : Answer). MakesTable g first t s.pairs (1 + v) next) (sym same) ks in
-    let rest : others ≡ next = table_once g first t this.pairs (1 + v) others next are ms ks' in
+    let rest : others ≡ next = table_once g first t this.pairs (1 + v) others next are ms (subst (λ (s : Answer). MakesTable g first t s.pairs (1 + v) next) (sym same) ks) in
     e ∙ ap (λ (s : Answer). bit_more t s others) same ∙ ap (λ (s : BitsMade). bit_more t that s) rest ∙ sym f
 
 abbrev both_made : BitsMade → BitsMade → BitsMade
@@ -94,14 +89,10 @@ tables_once g first pairs luts a b are (none z e) (none y f) = e ∙ sym f
 tables_once g first pairs luts a b are (none z e) (tables t rest these others q m ms f) = absurd (cc)
 tables_once g first pairs luts a b are (tables t rest these others q m ms e) (none z f) = absurd (cc)
 tables_once g first pairs luts a b are (tables t rest these others q m ms e) (tables u left those next r k ks f) =
-    let head : t ≡ u = cc in
-    let tail : rest ≡ left = cc in
     let are' : (x : Lut) → In (t ∷ rest) x → AreLeaves g x.leaves = subst (λ (ls : List Lut). (x : Lut) → In ls x → AreLeaves g x.leaves) q are in
-    let k' : MakesTable g first t pairs 0 those = subst (λ (x : Lut). MakesTable g first x pairs 0 those) (sym head) k in
-    let same : these ≡ those = table_once g first t pairs 0 these those (are' t (inl refl)) m k' in
-    let ks' : MakesTables g first those.pairs rest next = subst (λ (ls : List Lut). MakesTables g first those.pairs ls next) (sym tail) ks in
-    let ks'' : MakesTables g first these.pairs rest next = subst (λ (s : BitsMade). MakesTables g first s.pairs rest next) (sym same) ks' in
-    let after : others ≡ next = tables_once g first these.pairs rest others next (λ x i. are' x (inr i)) ms ks'' in
+    let same : these ≡ those = table_once g first t pairs 0 these those (are' t (inl refl)) m (subst (λ (x : Lut). MakesTable g first x pairs 0 those) (sym cc) k) in
+    let ks' : MakesTables g first those.pairs rest next = subst (λ (ls : List Lut). MakesTables g first those.pairs ls next) (sym cc) ks in
+    let after : others ≡ next = tables_once g first these.pairs rest others next (λ x i. are' x (inr i)) ms (subst (λ (s : BitsMade). MakesTables g first s.pairs rest next) (sym same) ks') in
     e ∙ ap (λ (s : BitsMade). both_made s others) same ∙ ap (λ (s : BitsMade). both_made those s) after ∙ sym f
 
 -- the values of the nodes under the parameters' values, where these pairs are the AND nodes
@@ -115,19 +106,11 @@ xor-true false = refl
 
 -- a literal in its phase has the value in this phase
 pub phase_value : (values : List Bool) (lit made : ℕ) → value_of values (phase_literal lit made) ≡ in_phase lit (value_of values made)
-phase_value values lit made = by (eqb (lit % 2) 1)
-  where
-    by : (odd : Bool) → value_of values (cond odd (complement made) made) ≡ xor (value_of values made) odd
-    by true = value_of-complement values made ∙ sym (xor-true (value_of values made))
-    by false = sym (xor-false (value_of values made))
+phase_value values lit made = grind arith
 
 -- and is a literal of the same nodes
 pub phase_below : (lit made count : ℕ) → made < 2 * count → phase_literal lit made < 2 * count
-phase_below lit made count l = by (eqb (lit % 2) 1)
-  where
-    by : (odd : Bool) → cond odd (complement made) made < 2 * count
-    by true = complement-below made count l
-    by false = l
+phase_below lit made count l = grind arith
 
 -- What is made for a node: the nodes grow and stay normal, and the literal has the value of the node's bit.
 pub record IsMade (g : Aig) (params : List Bool) (first : ℕ) (leaves : List ℕ) (v : ℕ) (pairs : List Pair) (n : ℕ) (made : Answer) : Type 0 where
@@ -138,7 +121,6 @@ pub record IsMade (g : Aig) (params : List Bool) (first : ℕ) (leaves : List �
   pub is : NodeBit g params leaves v n bit
   pub value : value_of (values_over params made.pairs) made.lit ≡ bit
 
--- the constants
 constant_value : (params : List Bool) (pairs : List Pair) (b : Bool) → value_of (values_over params pairs) (bit_value b) ≡ b
 constant_value params pairs true = ap (λ b. xor b true) (values_old (false ∷ params) pairs 0 (omega arith))
 constant_value params pairs false = ap (λ b. xor b false) (values_old (false ∷ params) pairs 0 (omega arith))
@@ -147,14 +129,8 @@ constant_below : (first : ℕ) (pairs : List Pair) (b : Bool) → 1 ≤ first �
 constant_below first pairs true some = omega arith
 constant_below first pairs false some = omega arith
 
--- the parameters
 parameter_value : (params : List Bool) (pairs : List Pair) (j : ℕ) → j < length params → value_of (values_over params pairs) (2 * (1 + j)) ≡ get_or params j false
-parameter_value params pairs j l =
-    let back : 1 + j - 1 ≡ j = omega arith in
-    positive_value (values_over params pairs) (1 + j)
-    ∙ values_old (false ∷ params) pairs (1 + j) (omega arith)
-    ∙ behind_constant params (1 + j) (omega arith)
-    ∙ ap (λ m. get_or params m false) back
+parameter_value params pairs j l = grind (arith, positive_value, values_over, values_old, behind_constant)
 
 pub is_made : (g : Aig) (params : List Bool) (first : ℕ) (leaves : List ℕ) (v : ℕ) (pairs : List Pair) (n : ℕ) (made : Answer) → first ≡ 1 + length params → length params ≡ param_count g.kinds → AreNormal first pairs
     → MakesNode g first leaves v pairs n made → IsMade g params first leaves v pairs n made
@@ -187,13 +163,10 @@ is_made g params first leaves v pairs n made at len normal (parameter j is e) =
 is_made g params first leaves v pairs n made at len normal (node p x y out is mx my e) =
     let hx : IsMade g params first leaves v pairs (p.x.0 / 2) x = is_made g params first leaves v pairs (p.x.0 / 2) x at len normal mx in
     let hy : IsMade g params first leaves v x.pairs (p.y.0 / 2) y = is_made g params first leaves v x.pairs (p.y.0 / 2) y at len hx.normal my in
-    let a : ℕ = phase_literal p.x.0 x.lit in
     let b : ℕ = phase_literal p.y.0 y.lit in
     let more : length x.pairs ≤ length y.pairs = length-Extends x.pairs y.pairs hy.grows in
-    let lx : x.lit < 2 * (first + length x.pairs) = hx.below in
     let both : Makes first y.pairs _ (node_product first p x y) =
-    Makes-and first y.pairs a b hy.normal (omega arith) (phase_below p.x.0 x.lit (first + length y.pairs) (omega arith)) (phase_below p.y.0 y.lit (first + length y.pairs) hy.below) in
-    let base : AreBase first (false ∷ params) = subst (λ m. AreBase m (false ∷ params)) (sym at) (AreBase-sources params (length params) refl) in
+    Makes-and first y.pairs (phase_literal p.x.0 x.lit) b hy.normal (omega arith) (phase_below p.x.0 x.lit (first + length y.pairs) (omega arith)) (phase_below p.y.0 y.lit (first + length y.pairs) hy.below) in
     subst (λ (s : Answer). IsMade g params first leaves v pairs n s) (sym e) (record {
       grows = Extends-trans pairs x.pairs _ hx.grows (Extends-trans x.pairs y.pairs _ hy.grows both.grows);
       normal = both.normal;
@@ -201,7 +174,7 @@ is_made g params first leaves v pairs n made at len normal (node p x y out is mx
       bit = in_phase p.x.0 hx.bit && in_phase p.y.0 hy.bit;
       is = node_bit p hx.bit hy.bit out is hx.is hy.is refl;
       value =
-          both.value (false ∷ params) base
+          both.value (false ∷ params) (subst (λ m. AreBase m (false ∷ params)) (sym at) (AreBase-sources params (length params) refl))
           ∙ ap (λ c. c && value_of (values_over params y.pairs) b) (phase_value (values_over params y.pairs) p.x.0 x.lit
           ∙ ap (in_phase p.x.0) (value_of-more (false ∷ params) x.pairs y.pairs x.lit hy.grows (omega arith) ∙ hx.value))
           ∙ ap (λ c. in_phase p.x.0 hx.bit && c) (phase_value (values_over params y.pairs) p.y.0 y.lit ∙ ap (in_phase p.y.0) hy.value);
@@ -227,19 +200,11 @@ pub record IsTableMade (g : Aig) (params : List Bool) (first : ℕ) (t : Lut) (p
 
 pub table_made : (g : Aig) (params : List Bool) (first : ℕ) (t : Lut) (pairs : List Pair) (v : ℕ) (made : BitsMade) → first ≡ 1 + length params → length params ≡ param_count g.kinds → AreNormal first pairs
     → MakesTable g first t pairs v made → IsTableMade g params first t pairs v made
-table_made g params first t pairs v made at len normal (done z e) = subst (λ (m : BitsMade). IsTableMade g params first t pairs v m) (sym e) (record {
-  grows = Extends-refl pairs;
-  normal = normal;
-  count = omega arith;
-  lits = λ l i. absurd i;
-  each = λ qs ext i l. absurd (omega arith);
-})
+table_made g params first t pairs v made at len normal (done z e) = search rules
 table_made g params first t pairs v made at len normal (more this others m ms e) =
     let here : IsMade g params first t.leaves v pairs (t.lit.0 / 2) this = is_made g params first t.leaves v pairs (t.lit.0 / 2) this at len normal m in
     let rest : IsTableMade g params first t this.pairs (1 + v) others = table_made g params first t this.pairs (1 + v) others at len here.normal ms in
-    let lit : ℕ = phase_literal t.lit.0 this.lit in
     let long : length this.pairs ≤ length others.pairs = length-Extends this.pairs others.pairs rest.grows in
-    let low : this.lit < 2 * (first + length this.pairs) = here.below in
     subst (λ (x : BitsMade). IsTableMade g params first t pairs v x) (sym e) (record {
       grows = Extends-trans pairs this.pairs others.pairs here.grows rest.grows;
       normal = rest.normal;
@@ -284,28 +249,19 @@ pub record AreTablesMade (g : Aig) (params : List Bool) (first off : ℕ) (luts 
 
 -- a bit of the first table, and one of the others
 first_bit : (g : Aig) (params : List Bool) (off : ℕ) (t : Lut) (rest : List Lut) (qs : List Pair) (i lit : ℕ) → t.base ≡ off → i < 2 ^ length t.leaves → HasTableBit g params t (0 + i) qs lit → HasBitAt g params (t ∷ rest) (off + i) qs lit
-first_bit g params off t rest qs i lit base l has =
-    let same : 0 + i ≡ off + i - t.base = omega arith in
-    record { table = t; in' = inl refl; from = omega arith; before = omega arith; has = subst (λ m. HasTableBit g params t m qs lit) same has }
+first_bit g params off t rest qs i lit base l has = grind arith
 
 later_bit : (g : Aig) (params : List Bool) (t : Lut) (rest : List Lut) (qs : List Pair) (b lit : ℕ) → HasBitAt g params rest b qs lit → HasBitAt g params (t ∷ rest) b qs lit
 later_bit g params t rest qs b lit h = record { table = h.table; in' = inr h.in'; from = h.from; before = h.before; has = h.has }
 
 pub tables_made : (g : Aig) (params : List Bool) (first off : ℕ) (luts : List Lut) (pairs : List Pair) (made : BitsMade) → first ≡ 1 + length params → length params ≡ param_count g.kinds → HaveBases off luts
     → AreNormal first pairs → MakesTables g first pairs luts made → AreTablesMade g params first off luts pairs made
-tables_made g params first off luts pairs made at len bases normal (none z e) = subst (λ (m : BitsMade). AreTablesMade g params first off luts pairs m) (sym e) (record {
-  grows = Extends-refl pairs;
-  normal = normal;
-  count = ap bits_of (sym z);
-  lits = λ l i. absurd i;
-  each = λ qs ext i l. absurd (omega arith);
-})
+tables_made g params first off luts pairs made at len bases normal (none z e) = search rules
 tables_made g params first off luts pairs made at len bases normal (tables t rest these others q m ms e) =
     let bases' : HaveBases off (t ∷ rest) = subst (HaveBases off) q bases in
     let here : IsTableMade g params first t pairs 0 these = table_made g params first t pairs 0 these at len normal m in
     let left : AreTablesMade g params first (off + 2 ^ length t.leaves) rest these.pairs others = tables_made g params first (off + 2 ^ length t.leaves) rest these.pairs others at len bases'.1 here.normal ms in
     let long : length these.pairs ≤ length others.pairs = length-Extends these.pairs others.pairs left.grows in
-    let n : 0 + length these.bits ≡ 2 ^ length t.leaves = here.count in
     let whole : length (these.bits ++ others.bits) ≡ length these.bits + length others.bits = length-append these.bits others.bits in
     subst (λ (ls : List Lut). AreTablesMade g params first off ls pairs made) (sym q) (subst (λ (x : BitsMade). AreTablesMade g params first off (t ∷ rest) pairs x) (sym e) (record {
       grows = Extends-trans pairs these.pairs others.pairs here.grows left.grows;
@@ -321,10 +277,8 @@ tables_made g params first off luts pairs made at len bases normal (tables t res
             (first_bit g params off t rest qs i _ bases'.0 (omega arith) (here.each qs (Extends-trans these.pairs others.pairs qs left.grows ext) i h))
         | inr h ↦
             let k : ℕ = i - length these.bits in
-            let back : length these.bits + k ≡ i = omega arith in
             let there : off + 2 ^ length t.leaves + k ≡ off + i = omega arith in
-            let same : literal_at others.bits k ≡ literal_at (these.bits ++ others.bits) i =
-            ap (λ (x : Lit). x.0) (sym (get_or-append-add these.bits others.bits k (record { 0 = 0 }))) ∙ ap (literal_at (these.bits ++ others.bits)) back in
+            let same = ap (λ (x : Lit). x.0) (sym (get_or-append-add these.bits others.bits k (record { 0 = 0 }))) ∙ ap (literal_at (these.bits ++ others.bits)) (omega arith) in
             later_bit g params t rest qs (off + i) _
             (subst (λ b. HasBitAt g params rest b qs (literal_at (these.bits ++ others.bits) i)) there
             (subst (λ x. HasBitAt g params rest (off + 2 ^ length t.leaves + k) qs x) same (left.each qs ext k (omega arith))))

@@ -1,5 +1,5 @@
 -- The marks of the nodes whose literals are kept.
-use Rattle.bit_fun.proofs.Common.{◌≡◌, ℕ, zero, suc, ◌<◌, Bool, true, false, List, [], ◌∷◌, length, replicate, slice_set, get_or-set_same, get_or-set_other, length-set, refl, sym, ap, ◌∙◌, subst, inl, inr, ◌⊎◌, arith, true≢false, In, same_or, Aig, node_count, mark_of, with_marks, AreMarked, IsConeOrder, reverse}
+use Rattle.bit_fun.proofs.Common.{◌≡◌, ℕ, zero, suc, ◌<◌, Bool, true, false, List, [], ◌∷◌, length, replicate, slice_set, get_or-set_same, get_or-set_other, length-set, refl, sym, ap, ◌∙◌, subst, inl, inr, ◌⊎◌, arith, true≢false, In, same_or, Aig, node_count, mark_of, with_marks, AreMarked, IsConeOrder, reverse, rules}
 use Rattle.list_laws.proofs.Reversed.{in_reversed, reversed_in}
 
 -- setting the mark of a node
@@ -23,13 +23,7 @@ length-with_marks free marks (m ∷ ms) = length-with_marks free (slice_set mark
 
 with_marks_each : (free marks : List Bool) (ms : List ℕ) (n : ℕ) → ((k : ℕ) → In ms k → k < length marks) → mark_of (with_marks free marks ms) n ≡ true → (mark_of marks n ≡ true) ⊎ (In ms n × (mark_of free n ≡ true))
 with_marks_each free marks [] n inside e = inl e
-with_marks_each free marks (m ∷ ms) n inside e = elim (with_marks_each free (slice_set marks m (mark_of free m)) ms n (inside_set marks m (mark_of free m) ms inside) e) [
-  | inl h ↦ elim (same_or n m) [
-    | inl q ↦ inr (inl q, ap (mark_of free) q ∙ sym (mark_here marks m (mark_of free m) (inside m (inl refl))) ∙ ap (mark_of (slice_set marks m (mark_of free m))) (sym q) ∙ h)
-    | inr off ↦ inl (sym (mark_other marks m n (mark_of free m) off) ∙ h)
-  ]
-  | inr h ↦ inr (inr h.0, h.1)
-]
+with_marks_each free marks (m ∷ ms) n inside e = search (rules, slice_set, inside_set, same_or, mark_here, mark_other, with_marks_each free (slice_set marks m (mark_of free m)) ms n (inside_set marks m (mark_of free m) ms inside) e)
 
 marks_stay : (free marks : List Bool) (ms : List ℕ) (n : ℕ) → (In ms n → ⊥) → mark_of (with_marks free marks ms) n ≡ mark_of marks n
 marks_stay free marks [] n out = refl
@@ -37,10 +31,7 @@ marks_stay free marks (m ∷ ms) n out = marks_stay free (slice_set marks m (mar
 
 free_stay : (free marks : List Bool) (ms : List ℕ) (n : ℕ) → ((k : ℕ) → In ms k → k < length marks) → mark_of free n ≡ true → mark_of marks n ≡ true → mark_of (with_marks free marks ms) n ≡ true
 free_stay free marks [] n inside f e = e
-free_stay free marks (m ∷ ms) n inside f e = free_stay free (slice_set marks m (mark_of free m)) ms n (inside_set marks m (mark_of free m) ms inside) f (elim (same_or n m) [
-  | inl q ↦ ap (mark_of (slice_set marks m (mark_of free m))) q ∙ mark_here marks m (mark_of free m) (inside m (inl refl)) ∙ ap (mark_of free) (sym q) ∙ f
-  | inr off ↦ mark_other marks m n (mark_of free m) off ∙ e
-])
+free_stay free marks (m ∷ ms) n inside f e = grind (arith, slice_set, inside_set, same_or, mark_here, mark_other, free_stay free (slice_set marks m (mark_of free m)) ms n (inside_set marks m (mark_of free m) ms inside) f (elim (same_or n m) [ inl q ↦ ap (mark_of (slice_set marks m (mark_of free m))) q ∙ mark_here marks m (mark_of free m) (inside m (inl refl)) ∙ ap (mark_of free) (sym q) ∙ f | inr off ↦ mark_other marks m n (mark_of free m) off ∙ e ]))
 
 -- the free ones of an order have theirs
 free_marked : (free marks : List Bool) (ms : List ℕ) (n : ℕ) → ((k : ℕ) → In ms k → k < length marks) → In ms n → mark_of free n ≡ true → mark_of (with_marks free marks ms) n ≡ true
@@ -56,14 +47,9 @@ marks_grow free marks ms n fresh e = marks_stay free marks ms n (λ i. true≢fa
 
 -- so are the free nodes of an order that was just walked
 pub order_marked : (g : Aig) (leaves : List ℕ) (free kept marked : List Bool) (top : ℕ) (order : List ℕ) → IsConeOrder g leaves kept top (reverse order) → length kept ≡ node_count g → marked ≡ with_marks free kept order → AreMarked free kept marked (reverse order)
-order_marked g leaves free kept marked top order cone long same = subst (λ ms. AreMarked free kept ms (reverse order)) (sym same) (record {
-  stay = λ n e. marks_grow free kept order n (λ k i. cone.fresh k (in_reversed order k i)) e;
-  these = λ n i f. free_marked free kept order n (order_inside g leaves kept top order cone long) (reversed_in order n i) f;
-  only = λ n e. elim (with_marks_each free kept order n (order_inside g leaves kept top order cone long) e) [ inl h ↦ inl h | inr h ↦ inr (in_reversed order n h.0, h.1) ];
-})
+order_marked g leaves free kept marked top order cone long same = grind (arith, marks_grow, in_reversed, free_marked, order_inside, reversed_in, with_marks_each)
 
 -- at the start no node has one
 pub clear_marks : (k n : ℕ) → mark_of (replicate k false) n ≡ false
-clear_marks zero n = refl
-clear_marks (suc k) zero = refl
 clear_marks (suc k) (suc n) = clear_marks k n
+clear_marks k n = refl

@@ -101,7 +101,6 @@ names_same : (list : List Param) → map (λ (p : PackParam). p.name) (map pack_
 names_same [] = refl
 names_same (q ∷ qs) = ap (λ ns. q.name ∷ ns) (names_same qs)
 
--- the pack
 pub pack_of : (g : Aig) (luts : List Lut) (list : List Param) (old new : Aig) (lits bits : List Lit) → old.kinds ≡ replicate (length list) Parameter → old.pairs ≡ [] → HasAllTables g luts old new lits bits
     → IsPackOf g luts list (record { params = map pack_param list; graph = new; bits = bits })
 pack_of g luts list old new lits bits kinds none made =

@@ -30,10 +30,7 @@ some_bits zero = omega arith
 some_bits (suc n) = let l : 1 ≤ 2 ^ n = some_bits n in omega arith
 
 split_room : (k c : ℕ) → 1 ≤ k → k * c ≡ c + (k - 1) * c
-split_room k c l =
-    let e : k - 1 + 1 ≡ k = omega arith in
-    let same : k * c ≡ (k - 1 + 1) * c = ap (λ n. n * c) (sym e) in
-    omega (arith, same, add-mul (k - 1) 1 c, one-mul c)
+split_room k c l = grind (arith, add-mul, one-mul)
 
 -- The walks of a table: the first before the free nodes of its order are marked, the other after it.
 module _ (g : Aig) (free : List Bool) (t : Lut) (kept marked : List Bool) (first : List ℕ) (cone : IsConeOrder g t.leaves kept (t.lit.0 / 2) (reverse first)) (marks : AreMarked free kept marked (reverse first)) where
@@ -56,11 +53,7 @@ module _ (g : Aig) (free : List Bool) (t : Lut) (kept marked : List Bool) (first
   -- and the other one own nodes alone
   pub rest_few : (rest own shared : List ℕ) → IsConeOrder g t.leaves marked (t.lit.0 / 2) (reverse rest) → AreCounted g free t own shared → length rest ≤ length own
   rest_few rest own shared more counted =
-      let short : length (reverse rest) ≤ length own =
-      apart_short (reverse rest) own more.apart (λ m i. elim (counted.each m (more.paths m i)) [
-        | inl k ↦ k
-        | inr k ↦ absurd (true≢false (sym (marks.these m (order_within g t.leaves kept marked marks.stay (t.lit.0 / 2) (reverse first) (reverse rest) cone more m i) (counted.marked m k)) ∙ more.fresh m i))
-      ]) in
+      let short : length (reverse rest) ≤ length own = grind (arith, apart_short, true≢false, order_within) in
       omega (arith, short, length-reverse rest)
 
   -- a pack that has room for a table has room for its first bit
@@ -70,28 +63,21 @@ module _ (g : Aig) (free : List Bool) (t : Lut) (kept marked : List Bool) (first
   -- and then for the others
   pub rest_room : (rest : List ℕ) (old mid : Aig) (lits : List Lit) → IsConeOrder g t.leaves marked (t.lit.0 / 2) (reverse rest) → HasRoom g free t kept old → IsGrown g old mid (length first) lits → length mid.pairs + (2 ^ length t.leaves - 1) * length rest ≤ mid.max
   rest_room rest old mid lits more has grown =
-      let max : mid.max ≡ old.max = ap (λ (m : Aig). m.max) grown.same in
-      let times : (2 ^ length t.leaves - 1) * length rest ≤ (2 ^ length t.leaves - 1) * length has.own =
-      mul-le-mul_left (2 ^ length t.leaves - 1) (rest_few rest has.own has.shared more has.counted) in
-      omega (arith, max, times, grown.few, has.room, first_few has.own has.shared has.counted, split_room (2 ^ length t.leaves) (length has.own) (some_bits (length t.leaves)))
+      let times = mul-le-mul_left (2 ^ length t.leaves - 1) (rest_few rest has.own has.shared more has.counted) in
+      omega (arith, ap (λ (m : Aig). m.max) grown.same, times, grown.few, has.room, first_few has.own has.shared has.counted, split_room (2 ^ length t.leaves) (length has.own) (some_bits (length t.leaves)))
 
   -- so the bits of a table take no more
   pub table_within : (rest : List ℕ) (old mid new : Aig) (lits after : List Lit) → IsConeOrder g t.leaves marked (t.lit.0 / 2) (reverse rest) → IsGrown g old mid (length first) lits → IsGrown g mid new ((2 ^ length t.leaves - 1) * length rest) after
       → IsTableWithin g free t old kept new marked
   table_within rest old mid new lits after more one others = record {
     few = λ own shared counted.
-        let times : (2 ^ length t.leaves - 1) * length rest ≤ (2 ^ length t.leaves - 1) * length own =
-        mul-le-mul_left (2 ^ length t.leaves - 1) (rest_few rest own shared more counted) in
+        let times = mul-le-mul_left (2 ^ length t.leaves - 1) (rest_few rest own shared more counted) in
         omega (arith, times, one.few, others.few, first_few own shared counted, split_room (2 ^ length t.leaves) (length own) (some_bits (length t.leaves)));
   }
 
 -- a pack that has room for the bits from the second on has room for the next one
 pub bit_room : (g old new : Aig) (v last long : ℕ) (lits : List Lit) → 1 ≤ v → v < last → length old.pairs + (last - 1) * long ≤ old.max → IsGrown g old new ((v - 1) * long) lits → length new.pairs + long ≤ new.max
-bit_room g old new v last long lits some l room grown =
-    let max : new.max ≡ old.max = ap (λ (m : Aig). m.max) grown.same in
-    let whole : v + (last - 1 - v) ≡ last - 1 = omega arith in
-    let times : v * long + (last - 1 - v) * long ≡ (last - 1) * long = sym (add-mul v (last - 1 - v) long) ∙ ap (λ n. n * long) whole in
-    omega (arith, max, times, room, grown.few, split_room v long some)
+bit_room g old new v last long lits some l room grown = grind arith
 
 -- the work of a table, and of those that are left
 pub work_split : (k own rest work : ℕ) → work ≡ k * (1 + own) + rest → work ≡ k + k * own + rest
@@ -107,11 +93,7 @@ path_inside g leaves m n (path_right p inner is q) = path_inside g leaves m (p.y
 once_or : (g : Aig) (luts : List Lut) (free : List Bool) (supply : Supply) (m : ℕ) → AreFree g luts free → ((n : ℕ) → n < node_count g → IsFree g luts n → mark_of free n ≡ true) → m < node_count g
     → (once_by supply g luts m × (mark_of free m ≡ true)) ⊎ (once_by supply g luts m → ⊥)
 once_or g luts free (Rows table) m only all inside = inr (λ f. f)
-once_or g luts free (Sets k low) m only all inside = by (mark_of free m) refl
-  where
-    by : (b : Bool) → mark_of free m ≡ b → (IsFree g luts m × (mark_of free m ≡ true)) ⊎ (IsFree g luts m → ⊥)
-    by true e = inl (only.each m e, e)
-    by false e = inr (λ f. true≢false (sym (all m inside f) ∙ e))
+once_or g luts free (Sets k low) m only all inside = grind arith
 
 module _ (g : Aig) (luts : List Lut) (free : List Bool) (once : ℕ → Type 0) (decide : (m : ℕ) → m < node_count g → (once m × (mark_of free m ≡ true)) ⊎ (once m → ⊥)) (shared : List ℕ) (are : AreShared g once luts shared) where
   table_counted : (t : Lut) (own : List ℕ) → In luts t → AreOwn g once t.leaves (t.lit.0 / 2) own → AreCounted g free t own shared
@@ -134,15 +116,7 @@ pub record HasCount (g : Aig) (free : List Bool) (luts : List Lut) : Type 0 wher
   pub light : work + length shared ≤ 33554432
 
 pub count_work : (g : Aig) (luts : List Lut) (free : List Bool) → AreFree g luts free → ((n : ℕ) → n < node_count g → IsFree g luts n → mark_of free n ≡ true) → IsMakeable g luts → HasCount g free luts
-count_work g luts free only all makeable =
-    let light : IsLight makeable.supply g luts = makeable.light in
-    let is : IsWork g (once_by makeable.supply g luts) luts light.work = light.is in
-    record {
-      shared = is.shared;
-      work = is.own;
-      is = work_counted g luts free (once_by makeable.supply g luts) (λ m. once_or g luts free makeable.supply m only all) is.shared is.are_shared luts is.own (λ t i. i) is.is_own;
-      light = omega (arith, light.light, is.work_is);
-    }
+count_work g luts free only all makeable = grind (arith, work_counted, once_or)
 
 pub waiting_few : (kept : List Bool) (shared : List ℕ) → waiting kept shared ≤ length shared
 waiting_few kept shared = length-filter_le (λ m. not (mark_of kept m)) shared

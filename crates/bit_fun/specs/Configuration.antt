@@ -1,10 +1,12 @@
 -- The configuration under the parameters' values: all bits in the order of their addresses.
 use Rattle.std.specs.Prelude.{◌≡◌, ℕ, ◌<◌, Bool, false, List, length, slice_index_or}
-use Rattle.bit_fun.specs.Words.{Aig, Lut, Param, IsMapping, bits_of}
+use Rattle.bit_fun.specs.Words.{Aig, Lut, Param, IsMapping, bits_of, value_of, FitsGraph, Shape}
 use Rattle.bit_fun.specs.BitFunction.{IsBit, HasOneBit}
 use Rattle.bit_fun.specs.Parameters.{param_count}
 use Rattle.cover_pick.specs.Work.{IsMakeable}
 use Rattle.param_list.specs.Parameters.{AreNamed}
+use Rattle.lut_sim.specs.Cycle.{FitsTables}
+use Rattle.lut_sim.specs.GraphShape.{HasShape, AreSourceValues}
 
 -- the tables map the graph for some roots
 pub record IsMapped (g : Aig) (luts : List Lut) : Type 0 where
@@ -34,3 +36,11 @@ pub record HaveFunctions (g : Aig) (luts : List Lut) (params : List Param) : Typ
   pub light : IsMakeable g luts
   pub count : param_count g.kinds ≡ length params
   pub names : AreNamed params
+
+-- The law of a configuration: whatever values the regular sources have, the values of the graph's literals fit the LUTs under it.
+
+-- `params` has the parameters' values that the configuration was made for
+abbrev pub IsLawful : Aig → List Lut → List Bool → List Bool → Type 0
+IsLawful g luts params config =
+    (shape : Shape) (inputs states sources values : List Bool) → HasShape g shape → AreSourceValues shape inputs params states sources → FitsGraph g sources values
+    → FitsTables luts shape config inputs states (value_of values)

@@ -3,7 +3,6 @@ pub mod Words
 pub mod Parameters
 pub mod BitFunction
 pub mod Configuration
-pub mod Lawful
 pub mod PackOf
 pub mod PackLaw
 -- What only bodies are compared with.

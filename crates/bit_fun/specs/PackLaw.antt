@@ -1,8 +1,7 @@
 -- The configurations of a template's pack are those of the template, for all values of the parameters.
 use Rattle.std.specs.Prelude.{◌≡◌, Bool, List, length}
 use Rattle.bit_fun.specs.Words.{Aig, Lut, PackValue, IsConf}
-use Rattle.bit_fun.specs.Configuration.{IsConfiguration}
-use Rattle.bit_fun.specs.Lawful.{IsLawful}
+use Rattle.bit_fun.specs.Configuration.{IsConfiguration, IsLawful}
 
 pub record HasConfigurations (g : Aig) (luts : List Lut) (pack : PackValue) : Type 0 where
   -- a configuration of the pack has the bit of each address

@@ -13,8 +13,7 @@ use Rattle.blif_flat.proofs.LoopLemmas.{past_sound}
 -- a main model that isn't too large in one weighing isn't in another
 pub not_heavy : (library : LibraryValue) (main other : ModelValue) (weight own : ℕ) → model_at library [] ≡ Some main → Weighs library main weight → weight ≤ most_weight
     → model_at library [] ≡ Some other → Weighs library other own → most_weight < own → ⊥
-not_heavy library main other weight own at w light at_other v heavy =
-    omega (arith, weighs_once library main other weight own (same_Some main other (sym at ∙ at_other)) w v)
+not_heavy library main other weight own at w light at_other v heavy = grind (arith, weighs_once, same_Some)
 
 pub fault_excluded : (library : LibraryValue) → IsSound library → (main : ModelValue) (weight : ℕ) → model_at library [] ≡ Some main → Weighs library main weight → weight ≤ most_weight
     → (fault : FlatErr) → IsFault library fault → ⊥
@@ -59,8 +58,7 @@ module _ (library : LibraryValue) where
   same_loop : (f g : FlatErr) → IsLoop library f → IsLoop library g → f ≡ g
   same_loop f g a b =
       let e : a.repeat ≡ b.repeat = same_Some a.repeat b.repeat (loop_once library (Some a.repeat) (Some b.repeat) a.walk b.walk) in
-      let n : a.names ≡ b.names = names_once (subst (λ (c : Repeat Place). AreWritten library (from_node c.node c.path) a.names) e a.written) b.written in
-      a.is ∙ ap Loop n ∙ sym b.is
+      a.is ∙ ap Loop (names_once (subst (λ (c : Repeat Place). AreWritten library (from_node c.node c.path) a.names) e a.written) b.written) ∙ sym b.is
 
   module _ (formed : IsWellFormed library) where
     connected_driven : IsConnected library → IsDriven library

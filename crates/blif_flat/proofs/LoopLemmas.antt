@@ -1,5 +1,5 @@
 -- Loops of covers: none depends on itself exactly where the walk meets none again, and then they have an order in which each comes after those that it reads.
-use Rattle.blif_flat.proofs.Common.{◌≡◌, ℕ, List, [], ◌∷◌, Option, Some, None, refl, sym, ap, ◌∙◌, subst, inl, inr, In, CoverValue, LibraryValue, Path, CoverAt, Net, cover_net, Place, FlatOrder, AreNets, with_cover, covers_among, reads_in, reads_of, ReadsCover, Depends, direct, through, LoopWalk, IsWellFormed, is_gate, ClockData, IsSound, IsClocked, cover_at-is, Reaches, at_once, further, acyclic, HasCover, walk_ordered}
+use Rattle.blif_flat.proofs.Common.{◌≡◌, ℕ, List, [], ◌∷◌, Option, Some, None, refl, sym, ap, ◌∙◌, subst, inl, inr, In, CoverValue, LibraryValue, Path, CoverAt, Net, cover_net, Place, FlatOrder, AreNets, with_cover, covers_among, reads_in, reads_of, ReadsCover, Depends, direct, through, LoopWalk, IsWellFormed, is_gate, ClockData, IsSound, IsClocked, cover_at-is, Reaches, at_once, further, acyclic, HasCover, walk_ordered, arith}
 use Rattle.blif_flat.proofs.Clocking.ControlLemmas.{clocks-input, clocks-one, data-output, data-clock}
 use Rattle.blif_flat.proofs.Models.DrivenLemmas.{walked_driven}
 use Rattle.netlist.proofs.LawLemmas.{in_rest}
@@ -11,8 +11,7 @@ module _ (library : LibraryValue) (net : Path → List ℕ → Option Net) (nets
   among_there path (own ∷ names) name q (inr i) e = in_rest (net path own) (covers_among (net path) names) q (among_there path names name q i e)
 
   cover_reads : (p q : Place) → ReadsCover library p q → In (reads_of library net p) q
-  cover_reads p q r = subst (λ o. In (reads_in (net p.path) o) q) (sym (cover_at-is library p.path p.command r.cover r.is))
-      (among_there p.path (r.cover).inputs r.name q r.input (nets.finds p.path r.name (cover_net q.path q.command) r.drives))
+  cover_reads p q r = grind (arith, reads_in, cover_at-is, among_there, cover_net)
 
   pub depends_reaches : {p q : Place} → Depends library p q → Reaches (reads_of library net) p q
   depends_reaches {p} {q} (direct r) = at_once (cover_reads p q r)
@@ -27,8 +26,7 @@ depends_cover library (through m r d) = (r.cover, r.is)
 walk_free : (library : LibraryValue) → LoopWalk library None → (p : Place) → Depends library p p → ⊥
 walk_free library w p d =
     let ordered = walk_ordered library w in
-    let h : HasCover library p = depends_cover library d in
-    acyclic (reads_of library w.net) ordered.order p ordered.after (ordered.all p.path p.command h.0 h.1) (depends_reaches library w.net w.nets d)
+    acyclic (reads_of library w.net) ordered.order p ordered.after (ordered.all p.path p.command (depends_cover library d).0 (depends_cover library d).1) (depends_reaches library w.net w.nets d)
 
 -- A well-formed library that comes past all stages is sound.
 pub past_sound : (library : LibraryValue) → IsWellFormed library → (past : IsClocked library) (gates : List Place) → FlatOrder library is_gate [] past.past.past.main gates

@@ -4,7 +4,7 @@ use Rattle.std.specs.Result.{result_ok}
 use Rattle.blif_read.proofs.FaultLemmas.{read_no_fault, read_fault_is}
 use Rattle.blif_read.proofs.CompleteLemmas.{denotes_read}
 use Rattle.blif_read.proofs.DenotedLemmas.{read_denotes}
-use Rattle.blif_read.specs.HasOneReading.{HasOneReading}
+use Rattle.blif_read.specs.ReadFault.{HasOneReading}
 use Rattle.tl_text.specs.NameIndex.{place_of}
 use Rattle.blif_read.specs.declared.blif_err.BlifErr.TheVariants as blif_err
 use Rattle.blif_read.specs.declared.keyword.Keyword.TheVariants as k

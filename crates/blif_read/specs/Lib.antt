@@ -2,7 +2,6 @@
 pub mod Words
 pub mod Context
 pub mod Denotes
-pub mod HasOneReading
 pub mod Latches
 pub mod LineFault
 pub mod ReadFault
@@ -12,4 +11,3 @@ pub mod Size
 pub mod Statement
 -- What only bodies are compared with.
 pub mod Reading
-pub mod Answers

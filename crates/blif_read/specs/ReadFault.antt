@@ -1,11 +1,12 @@
 -- The refusal of a text: of its lines, else that of the first logical line that has one, else that it has no model.
-use Rattle.std.specs.Prelude.{ℕ, Bool, true, false, List, [], ◌∷◌, Option, Some, None, Result, Ok, Err, if◌then◌else◌}
+use Rattle.std.specs.Prelude.{ℕ, Bool, true, false, List, [], ◌∷◌, Option, Some, None, Result, Ok, Err, if◌then◌else◌, ◌≡◌}
 use Rattle.std.specs.List.{list_any}
-use Rattle.blif_read.specs.Words.{LineValue, lines_of, TextErr, BlifErr, BadByte, TrailingSlash, NoModel, Memory, Keyword, Model}
+use Rattle.blif_read.specs.Words.{LineValue, lines_of, TextErr, BlifErr, BadByte, TrailingSlash, NoModel, Memory, Keyword, Model, LibraryValue}
 use Rattle.tl_text.specs.declared.text_err.TextErr.TheVariants as text
 use Rattle.blif_read.specs.Statement.{StatementValue, statements}
 use Rattle.blif_read.specs.Context.{context_of}
 use Rattle.blif_read.specs.LineFault.{or_later, line_fault}
+use Rattle.blif_read.specs.Denotes.{Denotes}
 
 -- the refusal of the first statement that has one, each in its place behind the earlier ones
 abbrev pub first_fault : List StatementValue → List StatementValue → Option BlifErr
@@ -34,3 +35,9 @@ lines_fault bytes (Err e) = Some (blif_err e)
 
 abbrev pub read_fault : List ℕ → Option BlifErr
 read_fault bytes = lines_fault bytes (lines_of bytes)
+
+-- A text has a library or a refusal, never both, and one library at most.
+pub record HasOneReading (text : List ℕ) : Type 0 where
+  pub once : (a b : LibraryValue) → Denotes text a → Denotes text b → a ≡ b
+  pub not_both : (library : LibraryValue) → Denotes text library → read_fault text ≡ None
+  pub some : read_fault text ≡ None → (library : LibraryValue) × Denotes text library

@@ -1,6 +1,6 @@
 -- The reader as one pass over the statements with an open model: what its code computes.
 -- The proofs show that it gives what a text denotes, and its refusals; no reader of the contracts needs it.
-use Rattle.std.specs.Prelude.{ℕ, ◌-◌, ◌==◌, Bool, true, false, if◌then◌else◌, List, [], ◌∷◌, ◌++◌, length, take, codes, bytes_eq, Option, Some, None, is_some, Result, Ok, Err, slice_index_or}
+use Rattle.std.specs.Prelude.{ℕ, ◌-◌, ◌==◌, Bool, true, false, if◌then◌else◌, List, [], ◌∷◌, ◌++◌, length, take, codes, bytes_eq, Option, Some, None, is_some, Result, Ok, Err, slice_index_or, ◌≡◌, MatchResult}
 use Rattle.std.specs.Option.{option_map}
 use Rattle.blif_read.specs.Words.{LineValue, lines_of, TextErr, BlifErr, NoModel, OutsideModel, Keyword, Body, Cover, Command, LatchValue, Connection, CoverValue, SubcktValue, ModelValue, LibraryValue, Ports, input_ports, output_ports, clock_ports, ports_of}
 use Rattle.blif_read.specs.declared.keyword.Keyword.TheVariants as keyword
@@ -9,6 +9,8 @@ use Rattle.blif_read.specs.Statement.{StatementValue, statements}
 use Rattle.blif_read.specs.Context.{Context, CoverPlace, RowRead, row_of}
 use Rattle.blif_read.specs.LineFault.{line_fault, connection_of, ports_fault, names_fault, row_fault, latch_fault, subckt_fault, end_fault}
 use Rattle.blif_read.specs.ReadFault.{blif_err}
+use Rattle.tl_fault.specs.OrMemory.{OrMemory}
+use Rattle.blif_read.specs.Refusals.{refusal_of}
 
 -- a cover whose rows may follow, with its line
 pub record CoverRead : Type 0 where
@@ -221,3 +223,9 @@ end_line_fault (Some r) number words = end_fault number words
 abbrev pub commands_with : List Command → Option CoverRead → List Command
 commands_with commands None = commands
 commands_with commands (Some c) = commands ++ record { line = c.line; body = Cover c.cover } ∷ []
+
+-- What the reader of a part answers.
+
+-- the part has no fault, and this holds of what is read; or it is refused for its fault
+abbrev pub ReadsUnless : {V : Type 0} → Option BlifErr → (V → Type 0) → Result V BlifErr → Type 0
+ReadsUnless fault Holds result = MatchResult result (λ v. (fault ≡ None) × Holds v) (OrMemory refusal_of (λ e. fault ≡ Some e))

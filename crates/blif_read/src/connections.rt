@@ -2,10 +2,9 @@
 ghost use Rattle.std.specs.Prelude.{◌≡◌, ◌==◌, ◌<◌, ◌++◌, [], length, true, false, None, Some, MatchResult, IfOk, position};
 ghost use Rattle.blif_read.specs.declared.blif_err.BlifErr.TheVariants.{BadConnection};
 ghost use Rattle.blif_read.specs.LineFault.{connection_of, split_at, repeats_formal, with_formal, connections_fault, subckt_fault};
-ghost use Rattle.blif_read.specs.Answers.{ReadsUnless};
+ghost use Rattle.blif_read.specs.Reading.{ReadsUnless, put_pair, pairs_of, subckt_of};
 ghost use Rattle.blif_read.specs.Refusals.{refusal_of};
 ghost use Rattle.tl_fault.specs.OrMemory.{OrMemory};
-ghost use Rattle.blif_read.specs.Reading.{put_pair, pairs_of, subckt_of};
 
 use crate::blif_err::BlifErr;
 use netlist::{Connection, Subckt};

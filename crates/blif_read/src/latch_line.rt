@@ -1,10 +1,9 @@
 //! The `.latch` lines.
 ghost use Rattle.std.specs.Prelude.{◌≡◌, Some, Option, ◌<◌, length, None, MatchResult};
 ghost use Rattle.blif_read.specs.LineFault.{init_fault, kind_fault, latch_fault};
-ghost use Rattle.blif_read.specs.Answers.{ReadsUnless};
+ghost use Rattle.blif_read.specs.Reading.{ReadsUnless, control_of, latch_of};
 ghost use Rattle.blif_read.specs.Refusals.{refusal_of};
 ghost use Rattle.tl_fault.specs.OrMemory.{OrMemory};
-ghost use Rattle.blif_read.specs.Reading.{control_of, latch_of};
 
 use crate::blif_err::BlifErr;
 use netlist::Latch;

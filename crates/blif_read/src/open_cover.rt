@@ -3,10 +3,9 @@ ghost use Rattle.std.specs.Prelude.{◌≡◌, [], length, None, Some, MatchResu
 ghost use Rattle.std.specs.Option.{option_map};
 ghost use Rattle.blif_read.specs.Context.{row_of};
 ghost use Rattle.blif_read.specs.LineFault.{mixed_fault, names_fault, row_fault, row_read_fault, same_bit};
-ghost use Rattle.blif_read.specs.Answers.{ReadsUnless};
+ghost use Rattle.blif_read.specs.Reading.{ReadsUnless, cover_of, place_of_cover, value_so_far, with_row as cover_with_row, with_row_words};
 ghost use Rattle.blif_read.specs.Refusals.{refusal_of};
 ghost use Rattle.tl_fault.specs.OrMemory.{OrMemory};
-ghost use Rattle.blif_read.specs.Reading.{cover_of, place_of_cover, value_so_far, with_row as cover_with_row, with_row_words};
 
 use crate::blif_err::BlifErr;
 use crate::row_line::{RowLine, row_line};

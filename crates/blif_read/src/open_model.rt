@@ -2,9 +2,7 @@
 ghost use Rattle.std.specs.Prelude.{◌≡◌, ◌++◌, Some, ◌∷◌, [], None, IfOk, OnOk};
 ghost use Rattle.netlist.specs.declared.command.Body.TheVariants.{Latch as LatchBody, Subckt as SubcktBody};
 ghost use Rattle.blif_read.specs.LineFault.{latch_fault, names_fault, ports_fault, row_fault, subckt_fault};
-ghost use Rattle.blif_read.specs.Answers.{ReadsUnless};
-ghost use Rattle.blif_read.specs.Reading.{body_read, commands_with, flushed, fresh, latch_of, model_line_fault, names_read, place_of_cover, row_read, subckt_of};
-ghost use Rattle.blif_read.specs.Reading.{model_after as after};
+ghost use Rattle.blif_read.specs.Reading.{ReadsUnless, body_read, commands_with, flushed, fresh, latch_of, model_line_fault, names_read, place_of_cover, row_read, subckt_of, model_after as after};
 
 use crate::blif_err::BlifErr;
 use crate::connections::subckt_line;

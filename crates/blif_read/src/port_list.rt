@@ -2,7 +2,7 @@
 ghost use Rattle.std.specs.Prelude.{◌≡◌, ◌∷◌, [], ◌++◌, false, None, Some, MatchResult, if◌then◌else◌};
 ghost use Rattle.blif_read.specs.declared.blif_err.BlifErr.TheVariants.{DuplicatePort};
 ghost use Rattle.blif_read.specs.LineFault.{has, ports_fault};
-ghost use Rattle.blif_read.specs.Answers.{ReadsUnless};
+ghost use Rattle.blif_read.specs.Reading.{ReadsUnless};
 ghost use Rattle.blif_read.specs.Refusals.{refusal_of};
 ghost use Rattle.tl_fault.specs.OrMemory.{OrMemory};
 

@@ -5,10 +5,9 @@ ghost use Rattle.tl_text.specs.LineValue.{AreLinesIn};
 ghost use Rattle.blif_read.specs.declared.keyword.Keyword.TheVariants as keyword_;
 ghost use Rattle.blif_read.specs.Statement.{statements};
 ghost use Rattle.blif_read.specs.LineFault.{line_fault, model_fault};
-ghost use Rattle.blif_read.specs.Answers.{ReadsUnless};
+ghost use Rattle.blif_read.specs.Reading.{ReadsUnless, context, end_line_fault, ended, fault_of, finished, inside_fault, library_at_end, library_read, model_after as after, next, next_by, steps};
 ghost use Rattle.blif_read.specs.Refusals.{refusal_of};
 ghost use Rattle.tl_fault.specs.OrMemory.{OrMemory};
-ghost use Rattle.blif_read.specs.Reading.{context, end_line_fault, ended, fault_of, finished, inside_fault, library_at_end, library_read, model_after as after, next, next_by, steps};
 
 use crate::blif_err::BlifErr;
 use crate::keyword::Keyword;

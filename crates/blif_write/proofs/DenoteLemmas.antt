@@ -16,7 +16,6 @@ statements_of number lines = map statement_of (numbered number lines)
 statements_append : (number : ℕ) (xs ys : List (List (List ℕ))) → statements_of number (xs ++ ys) ≡ statements_of number xs ++ statements_of (number + length xs) ys
 statements_append number xs ys = ap (map statement_of) (numbered-append number xs ys) ∙ map-append statement_of (numbered number xs) (numbered (number + length xs) ys)
 
--- rows
 row_is : (inputs number : ℕ) (value : Bool) (cells : List Cell) → value ≡ true → length cells ≡ inputs → IsRow inputs value (statement_at number (row_line cells)) (record { cells = cells })
 row_is inputs number value cells on count = search rules
 
@@ -82,13 +81,10 @@ commands_are n h =
     let at : ℕ = 2 + length n.inputs in
     let covers = covers_are (suc at + length n.latches) n.covers h.on h.cells in
     let latches : AreCommands (statements_of (suc at) (map latch_line n.latches ++ (flat_map cover_lines n.covers ++ (codes ".end" ∷ []) ∷ []))) (latch_commands (suc at) n.latches ++ cover_commands (suc at + length n.latches) n.covers) = grind (arith, latches_are, codes) in
-    let e : suc at ≡ 3 + length n.inputs = omega arith in
     let all : AreCommands (statements_of at ((codes ".outputs" ∷ n.outputs) ∷ (map latch_line n.latches ++ (flat_map cover_lines n.covers ++ (codes ".end" ∷ []) ∷ [])))) (latch_commands (suc at) n.latches ++ cover_commands (suc at + length n.latches) n.covers) =
     denotes.ports (statement_at at (codes ".outputs" ∷ n.outputs)) _ _ (inr (inl refl)) latches in
-    subst (λ (k : ℕ). AreCommands (statements_of 2 (body_lines n)) (latch_commands k n.latches ++ cover_commands (k + length n.latches) n.covers)) e
-    (inputs_are 2 n.inputs ((codes ".outputs" ∷ n.outputs) ∷ (map latch_line n.latches ++ (flat_map cover_lines n.covers ++ (codes ".end" ∷ []) ∷ []))) _ all)
+    grind (arith, statements_of, body_lines, inputs_are, codes)
 
--- ports
 no_port : (p : Ports) (k : Ports → List (List ℕ)) → k input_ports ≡ [] → k output_ports ≡ [] → k clock_ports ≡ [] → k p ≡ []
 no_port p k i o c = search rules
 

@@ -53,7 +53,6 @@ bits_once : (g : Naming) (b : ℕ) (luts : List Lut) → HaveBases b luts → b 
 bits_once g b [] h small = tt
 bits_once g b (t ∷ ts) h small =
     let sum : bits_of (t ∷ ts) ≡ 2 ^ length t.leaves + bits_of ts = sum_by-cons (λ (k : Lut). 2 ^ length k.leaves) t ts in
-    let base : t.base ≡ b = h.0 in
     grind (arith, joined_apart, g, all_bits, range_once, from_map, of_range, bits_there, own_number, bits_once g (b + 2 ^ length t.leaves) ts h.1 (omega (arith, small, sum)))
 
 fixed_covers : (g : Naming) (luts : List Lut) (config : List Bool) → AreCovers g luts [] (fixed_table g config)

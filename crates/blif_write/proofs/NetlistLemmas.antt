@@ -11,17 +11,7 @@ covers_bytes cs = flat_map line_text (flat_map cover_lines cs)
 pub whole_netlist : (n : PlainNetlist) (first : List (List ℕ)) (bits : List (List (List ℕ))) (tables wires : List CoverValue) → n.inputs ≡ first ∷ bits → n.covers ≡ tables ++ wires
     → (line_text (codes ".model" ∷ n.name ∷ []) ++ line_text (codes ".inputs" ∷ first)) ++ (inputs_text bits ++ (line_text (codes ".outputs" ∷ n.outputs)
     ++ (flat_map line_text (map latch_line n.latches) ++ (covers_bytes tables ++ (covers_bytes wires ++ codes ".end\n"))))) ≡ netlist_text n
-whole_netlist n first bits tables wires i c =
-    let model : List ℕ = line_text (codes ".model" ∷ n.name ∷ []) in
-    let inputs : List ℕ = line_text (codes ".inputs" ∷ first) in
-    let outputs : List ℕ = line_text (codes ".outputs" ∷ n.outputs) in
-    let latches : List (List (List ℕ)) = map latch_line n.latches in
-    let end : List (List (List ℕ)) = (codes ".end" ∷ []) ∷ [] in
-    let covers : covers_bytes tables ++ (covers_bytes wires ++ codes ".end\n") ≡ flat_map line_text (flat_map cover_lines n.covers ++ end) = grind (arith, append_assoc, covers_bytes, codes, flat_map-append) in
-    let behind : flat_map line_text latches ++ (covers_bytes tables ++ (covers_bytes wires ++ codes ".end\n")) ≡ flat_map line_text (latches ++ (flat_map cover_lines n.covers ++ end)) =
-    ap (λ (t : List ℕ). flat_map line_text latches ++ t) covers ∙ sym (flat_map-append line_text latches (flat_map cover_lines n.covers ++ end)) in
-    let rest : List (List (List ℕ)) = (codes ".outputs" ∷ n.outputs) ∷ (latches ++ (flat_map cover_lines n.covers ++ end)) in
-    grind (arith, append_assoc, inputs_text, flat_map-append, codes)
+whole_netlist n first bits tables wires i c = grind (arith, codes, covers_bytes, append_assoc, flat_map-append, inputs_text)
 
 -- the two netlists, with the names as they are handed in
 abbrev head_of : Naming → FlatValue → List ℕ
@@ -54,7 +44,6 @@ specialised_is g flat params t config e =
     ap (λ (n : Naming). specialised_bytes n flat t config) e
     ∙ whole_netlist (specialised_netlist flat params t config) (h.regular ++ control_names flat.control) [] (map (fixed_table h config) t.luts) (wires h flat.outputs t.outputs) refl refl
 
--- wires
 wires_split : (g : Naming) (os more : List OutPort) (lits others : List Lit) → length lits ≡ length os → wires g (os ++ more) (lits ++ others) ≡ wires g os lits ++ wires g more others
 wires_split g [] more [] others e = refl
 wires_split g (o ∷ os) more (lit ∷ lits) others e = grind (arith, append_assoc, wires_split g os more lits others (omega arith))
@@ -83,7 +72,6 @@ wire_next g os lits i o lit e h =
     ∙ ap (λ (ps : List OutPort). wires_text (wires g ps (take i lits ++ get_or lits i lit ∷ []))) (sym (take_more os i o h))
     ∙ ap (λ (ls : List Lit). wires_text (wires g (take (i + 1) os) ls)) (sym (take_more lits i lit (omega arith)))
 
--- latches
 latches_split : (g : Naming) (control : Option (List ℕ)) (from at : ℕ) (ls more : List FlatLatch) (nexts others : List Lit) → length nexts ≡ length ls → at ≡ from + length ls
     → written_latches g control from (ls ++ more) (nexts ++ others) ≡ written_latches g control from ls nexts ++ written_latches g control at more others
 latches_split g control from at [] more [] others e a = ap (λ (k : ℕ). written_latches g control k more others) (let d : from ≡ at = omega arith in d)

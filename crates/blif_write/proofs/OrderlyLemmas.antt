@@ -184,7 +184,6 @@ module _ (flat : FlatValue) (params : List Param) (t : TemplateValue) (bits : Li
       let r : (m : ℕ) × In u.leaves m × (name ≡ literal_name g (2 * m)) = from_map (λ (m : ℕ). literal_name g (2 * m)) u.leaves name j in
       (r.0, r.1, r.2, leaf_is u r.0 i r.1)
 
-  -- roots
   output_root : (lit : Lit) → In t.outputs lit → LitIs lit.0
   output_root lit i = lit_is lit.0 (are.playable.outputs lit.0 (In-map (λ (l : Lit). l.0) t.outputs lit i))
 
@@ -215,7 +214,6 @@ module _ (flat : FlatValue) (params : List Param) (t : TemplateValue) (bits : Li
   inputs_by c (of_wire w) name j =
       root_named w.root.0 name (output_root w.root w.root_in) (subst (λ (d : CoverValue). In d.inputs name) w.is j)
 
-  -- ranks
   table_rank : (u : Lut) → In t.luts u → rank_of g t.luts (table_name g u.lit.0) ≡ suc u.lit.0
   table_rank u i =
       let many : underscores (table_name g u.lit.0) ≡ suc g.under = own_under g 110 u.lit.0 refl in

@@ -24,8 +24,7 @@ found (x ∷ xs) (suc i) name e = let r = found xs i name e in (let l : i < leng
 pub placed_names : (inputs : List (List ℕ)) (regular : List ℕ) (names : List (List ℕ)) → map (slice_get inputs) regular ≡ map (λ (name : List ℕ). Some name) names
     → map (λ (i : ℕ). get_or inputs i []) regular ≡ names
 placed_names inputs [] [] e = refl
-placed_names inputs (i ∷ is) (name ∷ names) e =
-    ap (λ (n : List ℕ). n ∷ map (λ (k : ℕ). get_or inputs k []) is) (found inputs i name cc).1 ∙ ap (λ (ns : List (List ℕ)). name ∷ ns) (placed_names inputs is names cc)
+placed_names inputs (i ∷ is) (name ∷ names) e = grind (arith, found, placed_names inputs is names cc)
 placed_names inputs regular names e = absurd (let wrong : ⊥ = cc in wrong)
 
 pub placed_within : (inputs : List (List ℕ)) (regular : List ℕ) (names : List (List ℕ)) → map (slice_get inputs) regular ≡ map (λ (name : List ℕ). Some name) names

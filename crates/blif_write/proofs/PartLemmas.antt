@@ -6,7 +6,6 @@ use Rattle.blif_write.proofs.OwnNameLemmas.{own_number}
 pub own_clean : (g : Naming) (letter number : ℕ) → is_special letter ≡ false → number < 2 ^ 64 → IsClean (own_name g letter number)
 own_clean g letter number h small = ordinary_clean (own_name g letter number) (omega arith) (marked_ordinary (suc g.under) letter (decimal number) h (decimal_ordinary number small))
 
--- latches
 pub latch_output : (g : Naming) (control : Option (List ℕ)) (ordinal : ℕ) (ls : List FlatLatch) (nexts : List Lit) (name : List ℕ) → In (map (λ (l : LatchValue). l.output) (written_latches g control ordinal ls nexts)) name
     → (j : ℕ) × (ordinal ≤ j) × (j < ordinal + length ls) × (name ≡ latch_name g j)
 latch_output g control ordinal (l ∷ ls) (next ∷ nexts) name (inl e) = (ordinal, omega arith, omega arith, e)
@@ -21,7 +20,6 @@ latches_once g control ordinal (l ∷ ls) (next ∷ nexts) small = (
 )
 latches_once g control ordinal ls nexts small = tt
 
--- tables
 abbrev pub table_names : Naming → List Lut → List (List ℕ)
 table_names g luts = map (λ (u : Lut). table_name g u.lit.0) luts
 
@@ -29,7 +27,6 @@ pub tables_once : (g : Naming) (luts : List Lut) → ((u : Lut) → In luts u �
 tables_once g [] small h = tt
 tables_once g (t ∷ ts) small h = grind (arith, from_map, own_number, tables_once g ts (λ u i. small u (inr i)) h.1)
 
--- wires
 pub record IsWire (g : Naming) (os : List OutPort) (lits : List Lit) (c : CoverValue) : Type 0 where
   pub output : OutPort
   pub root : Lit

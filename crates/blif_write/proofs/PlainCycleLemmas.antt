@@ -197,7 +197,6 @@ next_there : (n : PlainNetlist) (value : Path → List ℕ → Bool) (ls : List 
 next_there n value [] i h = refl
 next_there n value (l ∷ ls) i h =
     let at : LatchAt (library_of n) [] i (read_latch l) = latch_at_top n i l (subst (λ (k : ℕ). slice_get n.latches k ≡ Some l) (omega arith) (h 0 l refl)) in
-    let found : latch_at (library_of n) (record { path = []; command = i }) ≡ Some (read_latch l) = latch_found n i l at in
     grind (arith, places_from, next_there n value ls (suc i) (λ j k f. let g : i + suc j ≡ suc i + j = omega arith in subst (λ (m : ℕ). slice_get n.latches m ≡ Some k) g (h (suc j) k f)))
 
 inits_there : (n : PlainNetlist) (ls : List LatchValue) (i : ℕ) → ((j : ℕ) (l : LatchValue) → slice_get ls j ≡ Some l → slice_get n.latches (i + j) ≡ Some l)

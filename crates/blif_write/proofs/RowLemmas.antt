@@ -68,9 +68,7 @@ cells_of (suc leaves) v = digit_cell (eqb (v % 2) 1) ∷ cells_of leaves (v / 2)
 cells_from : (leaves place v : ℕ) → map (λ p. digit_cell (digit v p)) (range_with_len place leaves) ≡ cells_of leaves (v / 2 ^ place)
 cells_from zero place v = refl
 cells_from (suc leaves) place v =
-    let e : place + 1 ≡ suc place = omega arith in
     let p : 2 ^ suc place ≡ 2 * 2 ^ place = pow-succ' 2 place in
-    let c : 2 * 2 ^ place ≡ 2 ^ place * 2 = omega arith in
     let q : v / 2 ^ place / 2 ≡ v / (2 ^ place * 2) = div-div-eq-div-mul v (2 ^ place) 2 in
     grind (arith, cells_of, cells_from leaves (place + 1) v)
 
@@ -97,7 +95,6 @@ pub matches_own : (ins : List Bool) → matches (cells_of (length ins) (number i
 matches_own [] = refl
 matches_own (b ∷ bs) = grind (arith, and_from, eqb, cells_of, lowest, allows_own, half, matches_own bs)
 
--- rows
 row_matches : (rows : List RowValue) (row : RowValue) (ins : List Bool) → In rows row → matches row.cells ins ≡ true → some_row rows ins ≡ true
 row_matches [] row ins i h = elim i [ ]
 row_matches (r ∷ rows) row ins (inl e) h = ap (λ (t : Bool). t || some_row rows ins) (ap (λ (q : RowValue). matches q.cells ins) (sym e) ∙ h)

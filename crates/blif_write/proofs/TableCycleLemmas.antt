@@ -127,11 +127,10 @@ module _ (flat : FlatValue) (params : List Param) (t : TemplateValue) (bits : Li
 
   pub fixed_valued : (config : List Bool) (u : Lut) → In tables (fixed_table named config u) → value (table_name named u.lit.0) ≡ slice_index_or config (address valued u) false
   fixed_valued config u i =
-      let ins : List Bool = leaf_values valued u.leaves in
       fits.covers (fixed_table named config u) (In-left tables (wires named flat.outputs t.outputs) (fixed_table named config u) i)
       ∙ ap (some_row (fixed_rows config u.base (length u.leaves))) (leaves_valued u)
-      ∙ ap (λ (k : ℕ). some_row (fixed_rows config u.base k) ins) (sym (length-map u.leaves (λ (m : ℕ). valued (2 * m))))
-      ∙ fixed_value config u.base ins
+      ∙ ap (λ (k : ℕ). some_row (fixed_rows config u.base k) (leaf_values valued u.leaves)) (sym (length-map u.leaves (λ (m : ℕ). valued (2 * m))))
+      ∙ fixed_value config u.base (leaf_values valued u.leaves)
 
   pub tunable_valued : (u : Lut) → In t.luts u → In tables (tunable_table named u) → ((b : ℕ) → u.base ≤ b → b < u.base + 2 ^ length u.leaves → In (flat_map (λ (l : List (List ℕ)). l) bits) (bit_name named b))
       → value (table_name named u.lit.0) ≡ slice_index_or (input_bits named t.bits x) (address valued u) false
@@ -176,9 +175,8 @@ read_named control name e = grind arith
 pub bits_in_order : (g : Naming) (b : ℕ) (luts : List Lut) → HaveBases b luts → flat_map (λ (l : List (List ℕ)). l) (map (bit_names g) luts) ≡ map (bit_name g) (range_with_len b (bits_of luts))
 bits_in_order g b [] h = refl
 bits_in_order g b (t ∷ ts) h =
-    let count : ℕ = 2 ^ length t.leaves in
-    let sum : bits_of (t ∷ ts) ≡ count + bits_of ts = sum_by-cons (λ (k : Lut). 2 ^ length k.leaves) t ts in
-    grind (arith, g, map-append, ranges_join, bits_in_order g (b + count) ts h.1)
+    let sum : bits_of (t ∷ ts) ≡ _ + bits_of ts = sum_by-cons (λ (k : Lut). 2 ^ length k.leaves) t ts in
+    grind (arith, g, map-append, ranges_join, bits_in_order g (b + _) ts h.1)
 
 module _ (flat : FlatValue) (params : List Param) (t : TemplateValue) (bits : List (List (List ℕ))) (tables : List CoverValue) (ports : HasPorts flat) (nexts : length t.next ≡ length flat.latches) where
   abbrev g : Naming

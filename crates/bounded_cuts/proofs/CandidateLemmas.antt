@@ -20,10 +20,4 @@ heights_are labels ws n all us is known below priced c i =
 pub with_low : (labels : List ℕ) (r : ℕ) (low : List ℕ) (all new : List Candidate) (us : List (List ℕ)) → cuts_of all ≡ us → ((c : Candidate) → In all c → c.height ≡ height (label_at labels) c.cut) → AddsLow r low all new → WithLow (label_at labels) r low us (cuts_of new)
 with_low labels r low all new us is heights (as_low c m l e) =
     there (c.cut, subst (λ (cs : List (List ℕ)). In cs c.cut) is (In-map (λ (d : Candidate). d.cut) all c m), subst (λ (h : ℕ). h ≤ r) (heights c m) l) (ap cuts_of e ∙ is)
-with_low labels r low all new us is heights (none_low none e) = missing
-    (λ has. let from = from_map (λ (d : Candidate). d.cut) all has.0 (subst (λ (cs : List (List ℕ)). In cs has.0) (sym is) has.1) in
-    let above : r < from.0.height = none from.0 from.1 in
-    let same : from.0.height ≡ height (label_at labels) has.0 = heights from.0 from.1 ∙ sym (ap (height (label_at labels)) from.2) in
-    let small : height (label_at labels) has.0 ≤ r = has.2 in
-    omega arith)
-    (e ∙ ap (λ (cs : List (List ℕ)). cs ++ low ∷ []) is)
+with_low labels r low all new us is heights (none_low none e) = grind (arith, from_map)

@@ -19,12 +19,7 @@ sum_within f (x ∷ xs) (y ∷ ys) h k w = elim (w x (inl refl)) [
 
 -- fewer of the same leaves cost less
 cost_less : (f : ℕ → ℕ) (c d : List ℕ) → IsAscending c → IsAscending d → Within c d → length c < length d → TABLE_PRICE + (2 ^ length c + sum_by f c) < TABLE_PRICE + (2 ^ length d + sum_by f d)
-cost_less f c d h k w l =
-    let s : sum_by f c ≤ sum_by f d = sum_within f c d h k w in
-    let p : 2 ^ suc (length c) ≤ 2 ^ length d = pow_mono l in
-    let one : 2 ^ 0 ≤ 2 ^ length c = pow_mono {i = 0} {j = length c} (omega arith) in
-    let two : 2 ^ suc (length c) ≡ 2 ^ length c * 2 = pow-suc 2 (length c) in
-    omega arith
+cost_less f c d h k w l = omega (arith, sum_within f c d h k w, pow_mono l, pow_mono {i = 0} {j = length c} (omega arith), pow-suc 2 (length c))
 
 pub costs_less : (order : Order) (p : Pricing) (c d : List ℕ) → IsAscending c → IsAscending d → Within c d → length c < length d → first_of order p c < first_of order p d
 costs_less LeastHeight p c d h k w l = cost_less (flow_at p.lows) c d h k w l
@@ -34,5 +29,4 @@ costs_less LeastCost p c d h k w l = cost_less (λ m. if is_favoured p.favoured 
 -- an order that looks at a cut looks at one within it
 pub qualifies_within : (order : Order) (p : Pricing) (r : ℕ) (c d : List ℕ) → Within c d → r ≤ height (label_at p.labels) c → Qualifies order p r d → Qualifies order p r c
 qualifies_within LeastHeight p r c d w l q = let m : height (label_at p.labels) c ≤ height (label_at p.labels) d = height_within (label_at p.labels) c d w in omega arith
-qualifies_within FewestLeaves p r c d w l q = q
-qualifies_within LeastCost p r c d w l q = q
+qualifies_within order p r c d w l q = q

@@ -1,5 +1,5 @@
 -- Each candidate of a node is a cut of it, and one is as low as its label, if that is so of the sets below it.
-use Rattle.bounded_cuts.proofs.Common.{◌≡◌, ℕ, ◌/◌, ◌<◌, ◌≤◌, nat_lt, List, [], ◌∷◌, length, refl, sym, subst, inl, inr, arith, choose, ltb-false, In, In-append, In-push, In-pushed, IsAscending, height, row_at, Aig, AreNormal, IsNormal, IsAnd, IsNode, first_and, node_normal, Blocks, member, fan_ins, CanBeLeaf, IsCut, Blocks-within, AreLeastHeights, Pair}
+use Rattle.bounded_cuts.proofs.Common.{◌≡◌, ℕ, ◌/◌, ◌<◌, ◌≤◌, nat_lt, List, [], ◌∷◌, length, refl, sym, subst, inl, inr, arith, choose, ltb-false, In, In-append, In-push, In-pushed, IsAscending, height, row_at, Aig, AreNormal, IsNormal, IsAnd, IsNode, first_and, node_normal, Blocks, member, fan_ins, CanBeLeaf, IsCut, Blocks-within, AreLeastHeights, Pair, rules}
 use Rattle.cut_sets.specs.Unions.{union}
 use Rattle.cut_sets.proofs.SetLemmas.{In-union, union_left, union_right, IsAscending-union}
 use Rattle.bounded_cuts.specs.Candidates.{AreCandidates, HandsOn, WithLow, free, missing, node, one_union, source, there, unions, unions_with}
@@ -21,11 +21,7 @@ none_part : (g : Aig) (n m : ℕ) (c : List ℕ) → Blocks g [] m → c ≡ [] 
 none_part g n m c b e = subst (IsPart g n m) (sym e) (record { ascending = tt; below = λ j i. absurd i; blocks = b })
 
 cut_part : (g : Aig) (k n m : ℕ) (c : List ℕ) → m < n → IsCut g k m c → IsPart g n m c
-cut_part g k n m c l cut = record {
-  ascending = cut.ascending;
-  below = λ j i. ((let b : j < m = (cut.below j i).0 in omega arith), (cut.below j i).1);
-  blocks = cut.blocks;
-}
+cut_part g k n m c l cut = search rules
 
 -- what a fan-in hands on
 front_part : (g : Aig) (k : ℕ) (rows : List (List (List ℕ))) (n m : ℕ) (front : List (List ℕ)) → ((c : List ℕ) → IsAnd g m → In (row_at rows m) c → IsCut g k m c) → m < n → HandsOn g rows m front → (c : List ℕ) → In front c → IsPart g n m c
@@ -43,8 +39,7 @@ record IsUnionOf (k : ℕ) (xs ys : List (List ℕ)) (c : List ℕ) : Type 0 whe
   few : length (union left right) ≤ k
 
 one_from : (k : ℕ) (a d c : List ℕ) → In (one_union k a d) c → (c ≡ union a d) × (length (union a d) ≤ k)
-one_from k a d c = choose (λ (l : List (List ℕ)). In l c → (c ≡ union a d) × (length (union a d) ≤ k)) (nat_lt k (length (union a d))) [] (union a d ∷ [])
-    (λ t i. absurd i) (λ f i. elim i [ inl e ↦ (e, ltb-false k (length (union a d)) f) | inr b ↦ absurd b ])
+one_from k a d c = grind arith
 
 with_from : (k : ℕ) (a : List ℕ) (xs ds : List (List ℕ)) (c : List ℕ) → In xs a → In (unions_with k a ds) c → IsUnionOf k xs ds c
 with_from k a xs [] c x i = absurd i

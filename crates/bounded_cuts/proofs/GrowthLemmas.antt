@@ -12,17 +12,11 @@ AgreeBelow rows more n = (m : ℕ) → m < n → row_at more m ≡ row_at rows m
 
 pub flows_agree : (g : Aig) (scope : Scope) (label : ℕ → ℕ) (rows more : List (List (List ℕ))) (counts : ℕ → ℕ) (n : ℕ) → AgreeBelow rows more n → flows_below g scope label more counts n ≡ flows_below g scope label rows counts n
 flows_agree g scope label rows more counts zero same = refl
-flows_agree g scope label rows more counts (suc n) same =
-    let before : List ℕ = flows_below g scope label rows counts n in
-    ap (λ (fs : List ℕ). fs ++ node_flow g scope label more counts fs n ∷ []) (flows_agree g scope label rows more counts n (λ m l. same m (omega arith)))
-    ∙ ap (λ (row : List (List ℕ)). before ++ (if nat_lt n (first_and g) then 0 else least_flow before (allowed_row scope label (label n) row) / max 1 (counts n)) ∷ []) (same n (omega arith))
+flows_agree g scope label rows more counts (suc n) same = grind (arith, nat_lt, flows_agree g scope label rows more counts n (λ m l. same m (omega arith)))
 
 -- no flow is greater than the most
 node_capped : (g : Aig) (scope : Scope) (label : ℕ → ℕ) (rows : List (List (List ℕ))) (counts : ℕ → ℕ) (flows : List ℕ) (n : ℕ) → node_flow g scope label rows counts flows n ≤ MOST_FLOW
-node_capped g scope label rows counts flows n =
-    let least : ℕ = least_flow flows (allowed_row scope label (label n) (row_at rows n)) in
-    choose_one (λ (x : ℕ). x ≤ MOST_FLOW) (nat_lt n (first_and g)) 0 (least / max 1 (counts n)) (omega arith)
-    (let a : least / max 1 (counts n) ≤ least = div-le_self least (max 1 (counts n)) in let b : least ≤ MOST_FLOW = least_capped flows (allowed_row scope label (label n) (row_at rows n)) in omega arith)
+node_capped g scope label rows counts flows n = grind (arith, choose_one, nat_lt, div-le_self, least_capped)
 
 capped_push : (xs : List ℕ) (y : ℕ) → AreCapped xs → y ≤ MOST_FLOW → AreCapped (xs ++ y ∷ [])
 capped_push [] y h l zero = l
@@ -40,23 +34,8 @@ hands_agree g rows more m front e (source s is) = source s is
 hands_agree g rows more m front e (node a live is) = node a live (is ∙ ap (λ (row : List (List ℕ)). (m ∷ []) ∷ row) (sym e))
 
 pub candidates_agree : (g : Aig) (k : ℕ) (label : ℕ → ℕ) (low : List ℕ) (rows more : List (List (List ℕ))) (n : ℕ) (cs : List (List ℕ)) → AreNormal (first_and g) g.pairs → AgreeBelow rows more n → AreCandidates g k label low rows n cs → AreCandidates g k label low more n cs
-candidates_agree g k label low rows more n cs normal same are =
-    let is : IsNormal n are.pair = node_normal g n are.pair normal are.is in
-    let y : are.pair.y.0 / 2 < n = is.below in
-    let x : are.pair.x.0 / 2 < are.pair.y.0 / 2 = is.ordered in
-    record {
-      pair = are.pair;
-      is = are.is;
-      xs = are.xs;
-      x_front = hands_agree g rows more (are.pair.x.0 / 2) are.xs (same (are.pair.x.0 / 2) (omega arith)) are.x_front;
-      ys = are.ys;
-      y_front = hands_agree g rows more (are.pair.y.0 / 2) are.ys (same (are.pair.y.0 / 2) y) are.y_front;
-      are = are.are;
-    }
+candidates_agree g k label low rows more n cs normal same are = grind (arith, node_normal, hands_agree)
 
 -- a set over equal flows
 pub taken_as : (k : ℕ) (label : ℕ → ℕ) (r : ℕ) (flows lows more_flows more_lows : List ℕ) (favoured : ℕ → Bool) (cs set more : List (List ℕ)) → flows ≡ more_flows → lows ≡ more_lows → set ≡ more → IsTaken k label r flows lows favoured cs set → IsTaken k label r more_flows more_lows favoured cs more
-taken_as k label r flows lows more_flows more_lows favoured cs set more e el es is =
-    subst (λ (s : List (List ℕ)). IsTaken k label r more_flows more_lows favoured cs s) es
-    (subst (λ (l : List ℕ). IsTaken k label r more_flows l favoured cs set) el
-    (subst (λ (f : List ℕ). IsTaken k label r f lows favoured cs set) e is))
+taken_as k label r flows lows more_flows more_lows favoured cs set more e el es is = grind arith

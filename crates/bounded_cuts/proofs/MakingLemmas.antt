@@ -1,5 +1,5 @@
 -- The sets of the first n nodes and one set more are those of the first n + 1.
-use Rattle.bounded_cuts.proofs.Common.{◌≡◌, ℕ, zero, suc, ◌+◌, ◌-◌, ◌*◌, ◌/◌, ◌<◌, ◌≤◌, max, cond, Bool, if◌then◌else◌, nat_lt, List, [], ◌∷◌, ◌++◌, length, refl, sym, ap, subst, ◌∙◌, inl, inr, arith, length-append, get_or_push, get_or_append_left, get_or_past, sum_by, sum_by-cons, cases_lt, cases_eq, lt-ltb, le-ltb, mul-suc, mul-zero, mul-le-mul_left, In, label_at, row_at, IsAnd, first_and, node_count, IsCut, places, Worth, flows_of, low_flows_of, IsWorth, AreWorths, MOST_CUTS}
+use Rattle.bounded_cuts.proofs.Common.{◌≡◌, ℕ, zero, suc, ◌+◌, ◌-◌, ◌*◌, ◌/◌, ◌<◌, ◌≤◌, max, cond, Bool, if◌then◌else◌, nat_lt, List, [], ◌∷◌, ◌++◌, length, refl, sym, ap, subst, ◌∙◌, inl, inr, arith, length-append, get_or_push, get_or_append_left, get_or_past, sum_by, sum_by-cons, cases_lt, cases_eq, lt-ltb, le-ltb, mul-suc, mul-zero, mul-le-mul_left, In, label_at, row_at, IsAnd, first_and, node_count, IsCut, places, Worth, flows_of, low_flows_of, IsWorth, AreWorths, MOST_CUTS, rules}
 use Rattle.bounded_cuts.specs.declared.making.Wanted.{Wanted}
 use Rattle.bounded_cuts.specs.declared.scope.Scope.{Scope}
 use Rattle.bounded_cuts.specs.declared.scope.Scope.TheVariants.{AnyHeight, LeastHeight}
@@ -37,13 +37,9 @@ sum_rows : (p : ℕ) (rows : List (List (List ℕ))) (first rest : ℕ) → leng
 sum_rows p [] first rest l few none = omega arith
 sum_rows p (r ∷ rows) zero zero l few none = absurd (omega arith)
 sum_rows p (r ∷ rows) zero (suc rest) l few none =
-    let s : sum_by length rows ≤ p * rest = sum_rows p rows zero rest (omega arith) (λ m. few (suc m)) (λ m b. absurd (omega arith)) in
-    let new : length r ≤ p = few zero in
-    omega (arith, sum_by-cons (λ (c : List (List ℕ)). length c) r rows, mul-suc p rest)
+    omega (arith, sum_rows p rows zero rest (omega arith) (λ m. few (suc m)) (λ m b. absurd (omega arith)), few zero, sum_by-cons (λ (c : List (List ℕ)). length c) r rows, mul-suc p rest)
 sum_rows p (r ∷ rows) (suc first) rest l few none =
-    let s : sum_by length rows ≤ p * rest = sum_rows p rows first rest (omega arith) (λ m. few (suc m)) (λ m b. none (suc m) (omega arith)) in
-    let new : length r ≡ 0 = ap length (none zero (omega arith)) in
-    omega (arith, sum_by-cons (λ (c : List (List ℕ)). length c) r rows)
+    omega (arith, sum_rows p rows first rest (omega arith) (λ m. few (suc m)) (λ m b. none (suc m) (omega arith)), ap length (none zero (omega arith)), sum_by-cons (λ (c : List (List ℕ)). length c) r rows)
 
 module _ (w : Wanted) (n : ℕ) (rows : List (List (List ℕ))) (worths : List Worth) (can : CanMake w) (made : AreMade w n rows worths) where
   pub rows_cut : (m : ℕ) (c : List ℕ) → IsAnd w.graph.now m → m < n → In (row_at rows m) c → IsCut w.graph.now w.k m c
@@ -140,11 +136,4 @@ all_sets w rows worths made = record { count = made.count; sources = made.source
 
 -- before the first node
 pub none_made : (w : Wanted) (rows : List (List (List ℕ))) (worths : List Worth) → rows ≡ [] → worths ≡ [] → AreMade w 0 rows worths
-none_made w rows worths e ew = record {
-  count = ap length e;
-  sources = λ m l. ap (λ (r : List (List (List ℕ))). row_at r m) e;
-  flows_are = ap flows_of ew;
-  low_flows_are = ap low_flows_of ew;
-  worths_are = no_worths w.labels.now w.favoured.now worths ew;
-  each = λ m and l. absurd (omega arith);
-}
+none_made w rows worths e ew = search (rules, no_worths)

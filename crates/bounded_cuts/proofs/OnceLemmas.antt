@@ -111,9 +111,7 @@ module _ (g : Aig) where
       let p : other.pair ≡ are.pair = same_pair g other.pair are.pair n other.is are.is in
       let xs : other.xs ≡ are.xs = same_front rows _ other.xs are.xs (subst (λ (q : Pair). HandsOn g rows (q.x.0 / 2) other.xs) p other.x_front) are.x_front in
       let ys : other.ys ≡ are.ys = same_front rows _ other.ys are.ys (subst (λ (q : Pair). HandsOn g rows (q.y.0 / 2) other.ys) p other.y_front) are.y_front in
-      same_with_low label (label n) low (unions k are.xs are.ys) a b are.are
-      (subst (λ (zs : List (List ℕ)). WithLow label (label n) low (unions k are.xs zs) b) ys
-      (subst (λ (zs : List (List ℕ)). WithLow label (label n) low (unions k zs other.ys) b) xs other.are))
+      grind (arith, same_with_low)
 
   module _ (normal : AreNormal (first_and g) g.pairs) (k : ℕ) (label : ℕ → ℕ) (lows : ℕ → List ℕ) (counts : ℕ → ℕ) (favoured : ℕ → Bool) (rows more : List (List (List ℕ))) (are : AreSets g k label lows counts favoured rows) (others : AreSets g k label lows counts favoured more) where
     -- the set of a node, if those of the nodes below it are the same

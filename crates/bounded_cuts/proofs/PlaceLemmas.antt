@@ -1,26 +1,13 @@
 -- Three takings, one behind another.
-use Rattle.bounded_cuts.proofs.Common.{◌≡◌, ℕ, ◌+◌, ◌-◌, ◌/◌, ◌≤◌, Bool, false, List, [], ◌++◌, length, sym, ap, subst, ◌∙◌, inl, inr, arith, length-append, replicate, length-replicate, get_or-replicate, get_or_past, cases_lt, false≢true, In, label_at, LeastHeight, FewestLeaves, LeastCost, cut_flow, paid_flow, AreFirst, IsLeastAtHeight, IsLeft, places, is_favoured, Pricing, AreTaking, MayTake, HasTaken, ArePlaced}
+use Rattle.bounded_cuts.proofs.Common.{◌≡◌, ℕ, ◌+◌, ◌-◌, ◌/◌, ◌≤◌, Bool, false, List, [], ◌++◌, length, sym, ap, subst, ◌∙◌, inl, inr, arith, length-append, replicate, length-replicate, get_or-replicate, get_or_past, cases_lt, false≢true, In, label_at, LeastHeight, FewestLeaves, LeastCost, cut_flow, paid_flow, AreFirst, IsLeastAtHeight, IsLeft, places, is_favoured, Pricing, AreTaking, MayTake, HasTaken, ArePlaced, rules}
 
 -- before the first look
 pub nothing_taken : (cs : List (List ℕ)) (looked : List Bool) (taken : List ℕ) (n : ℕ) → n ≡ length cs → looked ≡ replicate n false → taken ≡ [] → AreTaking cs looked taken
-nothing_taken cs looked taken n e el et = subst (AreTaking cs looked) (sym et) (subst (λ (l : List Bool). AreTaking cs l []) (sym el) (record {
-  size = length-replicate n false ∙ e;
-  taken_looked = λ i m. absurd m;
-  taken_least = λ i m. absurd m;
-  parts = λ i h. absurd (elim (cases_lt i n) [
-    | inl l ↦ false≢true (sym (get_or-replicate n i false false l) ∙ h)
-    | inr l ↦ false≢true (sym (get_or_past (replicate n false) i false (omega (arith, length-replicate n false))) ∙ h)
-  ]);
-}))
+nothing_taken cs looked taken n e el et = grind (arith, length-replicate, cases_lt, false≢true, get_or-replicate, get_or_past)
 
 -- the first of those that qualify, said otherwise
 first_as : (first second : List ℕ → ℕ) (cs : List (List ℕ)) (P Q : ℕ → Type 0) (m n : ℕ) (taken : List ℕ) → ((i : ℕ) → P i → Q i) → ((i : ℕ) → Q i → P i) → m ≡ n → AreFirst first second cs P m taken → AreFirst first second cs Q n taken
-first_as first second cs P Q m n taken to from e are = record {
-  ordered = are.ordered;
-  only = λ i t. to i (are.only i t);
-  few = subst (λ (l : ℕ). length taken ≤ l) e are.few;
-  all = λ i q. elim (are.all i (from i q)) [ inl t ↦ inl t | inr b ↦ inr (b.0 ∙ e, b.1) ];
-}
+first_as first second cs P Q m n taken to from e are = search rules
 
 module _ (p : Pricing) (k r : ℕ) (cs : List (List ℕ)) (l1 l2 l3 : List Bool) (t1 t2 t3 : List ℕ) (m1 m2 m3 : ℕ) (e1 : m1 ≡ places k / 2) (e2 : m2 ≡ length t1 + places k / 4) (e3 : m3 ≡ places k) (low : HasTaken LeastHeight p r cs m1 [] l1 t1) (short : HasTaken FewestLeaves p r cs m2 t1 l2 t2) (rest : HasTaken LeastCost p r cs m3 t2 l3 t3) where
   low_is : t1 ≡ low.now
@@ -37,8 +24,7 @@ module _ (p : Pricing) (k r : ℕ) (cs : List (List ℕ)) (l1 l2 l3 : List Bool)
     low = low.now;
     short = short.now;
     rest = rest.now;
-    low_are = first_as (cut_flow p.lows) length cs (MayTake LeastHeight p r cs []) (IsLeastAtHeight (label_at p.labels) r cs) (m1 - length {A = ℕ} []) (places k / 2) low.now
-        (λ i m. record { least = m.least; height_is = m.qualifies }) (λ i q. record { least = q.least; qualifies = q.height_is; apart = λ t. t }) (omega arith) low.first;
+    low_are = grind (arith, first_as);
     short_are = first_as length (cut_flow p.flows) cs (MayTake FewestLeaves p r cs t1) (IsLeft cs low.now) (m2 - length t1) (places k / 4) short.now
         (λ i m. record { least = m.least; apart = λ t. m.apart (subst (λ (l : List ℕ). In l i) (sym low_is) t) }) (λ i q. record { least = q.least; qualifies = tt; apart = λ t. q.apart (subst (λ (l : List ℕ). In l i) low_is t) }) (omega arith) short.first;
     rest_are = first_as (paid_flow (is_favoured p.favoured) p.flows) length cs (MayTake LeastCost p r cs t2) (IsLeft cs (low.now ++ short.now)) (m3 - length t2) (places k - (length low.now + length short.now)) rest.now

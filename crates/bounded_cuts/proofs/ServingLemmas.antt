@@ -1,5 +1,5 @@
 -- Sets serve a plan: the candidates of a node are cuts of it, and one of those that are taken is as low as the label.
-use Rattle.bounded_cuts.proofs.Common.{◌≡◌, ℕ, zero, suc, ◌+◌, ◌-◌, ◌*◌, ◌/◌, ◌<◌, ◌≤◌, Bool, List, [], ◌++◌, length, length-append, length-map, get_or, refl, sym, ap, subst, ◌∙◌, inl, inr, ◌⊎◌, arith, false≢true, cases_Bool, cases_lt, get_or_from_slice_get, slice_get_within, In, Within, IsAscending, In-left, In-append, In-get_or, In-map, from_map, place_in, height, height_within, length_within, same_length_within, subset, subset_true, subset_from, cut_flow, candidate_at, places, AreFirst, IsLeastAt, IsLeastAtHeight, AreTakenPlaces, IsTaken, HasSet, AreOfUse, Aig, first_and, IsAnd, AreNormal, IsCut, AreLeastHeights, row_at}
+use Rattle.bounded_cuts.proofs.Common.{◌≡◌, ℕ, zero, suc, ◌+◌, ◌-◌, ◌*◌, ◌/◌, ◌<◌, ◌≤◌, Bool, List, [], ◌++◌, length, length-append, length-map, get_or, refl, sym, ap, subst, ◌∙◌, inl, inr, ◌⊎◌, arith, false≢true, cases_Bool, cases_lt, get_or_from_slice_get, slice_get_within, In, Within, IsAscending, In-left, In-append, In-get_or, In-map, from_map, place_in, height, height_within, length_within, same_length_within, subset, subset_true, subset_from, cut_flow, candidate_at, places, AreFirst, IsLeastAt, IsLeastAtHeight, AreTakenPlaces, IsTaken, HasSet, AreOfUse, Aig, first_and, IsAnd, AreNormal, IsCut, AreLeastHeights, row_at, rules}
 use Rattle.bounded_cuts.proofs.CutLemmas.{candidate_cut, low_candidate}
 
 -- the places that are taken are inside
@@ -48,30 +48,15 @@ one_more P n old new j l = elim (cases_lt j n) [ inl b ↦ old j b | inr b ↦ s
 module _ (cs : List (List ℕ)) (i n : ℕ) where
   -- place n is no part
   past_no_part : (IsPart cs i n → ⊥) → (b : ℕ) → IsShortest cs i n b → IsShortest cs i (suc n) b
-  past_no_part apart b is = record {
-    inside = (let l : b < n = is.inside in omega arith);
-    part = is.part;
-    least = one_more (λ (j : ℕ). IsPart cs i j → leaves cs b ≤ leaves cs j) n is.least (λ w. absurd (apart w));
-    first = one_more (λ (j : ℕ). IsPart cs i j → leaves cs j ≤ leaves cs b → b ≤ j) n is.first (λ w. absurd (apart w));
-  }
+  past_no_part apart b is = search (rules, one_more, leaves)
 
   -- place n has no fewer leaves
   past_longer : (b : ℕ) → leaves cs b ≤ leaves cs n → IsShortest cs i n b → IsShortest cs i (suc n) b
-  past_longer b l is = record {
-    inside = (let before : b < n = is.inside in omega arith);
-    part = is.part;
-    least = one_more (λ (j : ℕ). IsPart cs i j → leaves cs b ≤ leaves cs j) n is.least (λ _. l);
-    first = one_more (λ (j : ℕ). IsPart cs i j → leaves cs j ≤ leaves cs b → b ≤ j) n is.first (λ _ _. let before : b < n = is.inside in omega arith);
-  }
+  past_longer b l is = search (rules, one_more, leaves)
 
   -- place n is a part of fewer leaves than those before
   at_shorter : IsPart cs i n → ((j : ℕ) → j < n → IsPart cs i j → leaves cs n < leaves cs j) → IsShortest cs i (suc n) n
-  at_shorter w shorter = record {
-    inside = omega arith;
-    part = w;
-    least = one_more (λ (j : ℕ). IsPart cs i j → leaves cs n ≤ leaves cs j) n (λ j l v. let s : leaves cs n < leaves cs j = shorter j l v in omega arith) (λ _. omega arith);
-    first = one_more (λ (j : ℕ). IsPart cs i j → leaves cs j ≤ leaves cs n → n ≤ j) n (λ j l v few. let s : leaves cs n < leaves cs j = shorter j l v in absurd (omega arith)) (λ _ _. omega arith);
-  }
+  at_shorter w shorter = search (rules, one_more, leaves)
 
 -- none of the first n places is a part, or one is the shortest
 shortest_of : (cs : List (List ℕ)) (i n : ℕ) → ((j : ℕ) → j < n → IsPart cs i j → ⊥) ⊎ ((b : ℕ) × IsShortest cs i n b)
@@ -117,8 +102,7 @@ module _ (k : ℕ) (label : ℕ → ℕ) (r : ℕ) (flows lows : List ℕ) (favo
   low_place low are b is = elim (are.all b is) [
     | inl m ↦ (b, m, is.height_is)
     | inr full ↦ (let some : 0 < length low = (let z : places k ≡ 2 * k + 4 = refl in let e : length low ≡ places k / 2 = full.0 in omega arith) in
-        let m : In low (get_or low 0 0) = In-get_or low 0 0 some in
-        (get_or low 0 0, m, (are.only (get_or low 0 0) m).height_is))
+        (get_or low 0 0, (In-get_or low 0 0 some), (are.only (get_or low 0 0) (In-get_or low 0 0 some)).height_is))
   ]
 
   -- Of candidates that are no lower than the label, and one of them as low, one as low is taken.
@@ -128,9 +112,7 @@ module _ (k : ℕ) (label : ℕ → ℕ) (r : ℕ) (flows lows : List ℕ) (favo
       let c_is : candidate_at cs at.0 ≡ has.0 = get_or_from_slice_get cs at.0 has.0 [] at.1 in
       let b = least_within cs up at.0 (slice_get_within cs at.0 has.0 at.1) in
       let no_higher : height label (candidate_at cs b.0) ≤ height label has.0 = subst (λ (c : List ℕ). height label (candidate_at cs b.0) ≤ height label c) c_is (height_within label (candidate_at cs b.0) (candidate_at cs at.0) b.2) in
-      let no_lower : r ≤ height label (candidate_at cs b.0) = above (candidate_at cs b.0) (In-get_or cs b.0 [] b.1.inside) in
-      let low : height label has.0 ≡ r = has.2 in
-      let place = low_place is.are.low is.are.low_are b.0 (record { least = b.1; height_is = omega arith }) in
+      let place = low_place is.are.low is.are.low_are b.0 (record { least = b.1; height_is = omega (arith, above (candidate_at cs b.0) (In-get_or cs b.0 [] b.1.inside)) }) in
       let in_taken : In is.taken place.0 = subst (λ (l : List ℕ). In l place.0) (sym is.are.is) (In-left (is.are.low ++ is.are.short) is.are.rest place.0 (In-left is.are.low is.are.short place.0 place.1)) in
       (candidate_at cs place.0, subst (λ (l : List (List ℕ)). In l (candidate_at cs place.0)) (sym is.is) (In-map (candidate_at cs) is.taken place.0 in_taken), place.2)
 
@@ -154,15 +136,8 @@ sets_serve g normal k label least lows low_cuts low_is counts favoured rows sets
 
 -- a set has at most as many cuts as places
 taken_few : (k : ℕ) (label : ℕ → ℕ) (r : ℕ) (flows lows : List ℕ) (favoured : ℕ → Bool) (cs : List (List ℕ)) (taken : List ℕ) → AreTakenPlaces k label r flows lows favoured cs taken → length taken ≤ places k
-taken_few k label r flows lows favoured cs taken are =
-    let a : length are.low ≤ places k / 2 = are.low_are.few in
-    let b : length are.short ≤ places k / 4 = are.short_are.few in
-    let c : length are.rest ≤ places k - (length are.low + length are.short) = are.rest_are.few in
-    let l : length taken ≡ length are.low + length are.short + length are.rest = ap (λ (t : List ℕ). length t) are.is ∙ length-append (are.low ++ are.short) are.rest ∙ ap (λ (x : ℕ). x + length are.rest) (length-append are.low are.short) in
-    omega arith
+taken_few k label r flows lows favoured cs taken are = grind (arith, length-append)
 
 pub set_few : (k : ℕ) (label : ℕ → ℕ) (r : ℕ) (flows lows : List ℕ) (favoured : ℕ → Bool) (cs set : List (List ℕ)) → IsTaken k label r flows lows favoured cs set → length set ≤ places k
 set_few k label r flows lows favoured cs set is =
-    let f : length is.taken ≤ places k = taken_few k label r flows lows favoured cs is.taken is.are in
-    let l : length set ≡ length is.taken = ap length is.is ∙ length-map is.taken (candidate_at cs) in
-    omega arith
+    omega (arith, taken_few k label r flows lows favoured cs is.taken is.are, ap length is.is ∙ length-map is.taken (candidate_at cs))

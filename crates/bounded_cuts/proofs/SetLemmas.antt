@@ -22,16 +22,8 @@ least_capped flows [] = omega arith
 least_capped flows (c ∷ cs) = omega (arith, least_capped flows cs)
 
 pub least_low_push : (label : ℕ → ℕ) (most : ℕ) (lows : List ℕ) (cs : List (List ℕ)) (c : List ℕ) → least_flow lows (cuts_within label most (cs ++ c ∷ [])) ≡ min (least_flow lows (cuts_within label most cs)) (if nat_lt most (height label c) then MOST_FLOW else cut_flow lows c)
-least_low_push label most lows [] c = by_test (ltb most (height label c))
-  where
-    by_test : (b : Bool) → least_flow lows (cond b [] (c ∷ [])) ≡ min MOST_FLOW (cond b MOST_FLOW (cut_flow lows c))
-    by_test true = omega arith
-    by_test false = omega arith
-least_low_push label most lows (d ∷ cs) c = by_test (ltb most (height label d)) (least_low_push label most lows cs c)
-  where
-    by_test : (b : Bool) → least_flow lows (cuts_within label most (cs ++ c ∷ [])) ≡ min (least_flow lows (cuts_within label most cs)) (if nat_lt most (height label c) then MOST_FLOW else cut_flow lows c) → least_flow lows (cond b (cuts_within label most (cs ++ c ∷ [])) (d ∷ cuts_within label most (cs ++ c ∷ []))) ≡ min (least_flow lows (cond b (cuts_within label most cs) (d ∷ cuts_within label most cs))) (if nat_lt most (height label c) then MOST_FLOW else cut_flow lows c)
-    by_test true h = h
-    by_test false h = omega (arith, h)
+least_low_push label most lows [] c = grind arith
+least_low_push label most lows (d ∷ cs) c = grind (arith, ltb, nat_lt, cond, least_low_push label most lows cs c)
 
 pub low_value : (label h n low : ℕ) → (label < h → n ≡ MOST_FLOW) → (h ≤ label → n ≡ low) → n ≡ (if nat_lt label h then MOST_FLOW else low)
 low_value label h n low high other = choose (λ (x : ℕ). n ≡ x) (nat_lt label h) MOST_FLOW low (λ e. high (ltb-true label h e)) (λ e. other (ltb-false label h e))

@@ -32,26 +32,20 @@ priced_push ws cs c is are d m = elim (In-push cs c d m) [ inl k ↦ are d k | i
 -- the unions of one more cut
 pub with_next : (k : ℕ) (c : List ℕ) (front : List (List ℕ)) (i : ℕ) (d : List ℕ) (old now next : List (List ℕ)) → i < length front → d ≡ get_or front i d → now ≡ old ++ unions_with k c (take i front) → next ≡ now ++ one_union k c d → next ≡ old ++ unions_with k c (take (i + 1) front)
 with_next k c front i d old now next l e was is =
-    let more : take (i + 1) front ≡ take i front ++ d ∷ [] = take_more front i d l ∙ ap (λ (z : List ℕ). take i front ++ z ∷ []) (sym e) in
     is ∙ ap (λ (m : List (List ℕ)). m ++ one_union k c d) was ∙ append_assoc old (unions_with k c (take i front)) (one_union k c d)
-    ∙ ap (λ (m : List (List ℕ)). old ++ m) (sym (with_push k c (take i front) d) ∙ ap (unions_with k c) (sym more))
+    ∙ ap (λ (m : List (List ℕ)). old ++ m) (sym (with_push k c (take i front) d) ∙ ap (unions_with k c) (sym (take_more front i d l ∙ ap (λ (z : List ℕ). take i front ++ z ∷ []) (sym e))))
 
 pub unions_next : (k : ℕ) (front ds : List (List ℕ)) (i : ℕ) (c : List ℕ) (old now next : List (List ℕ)) → i < length front → c ≡ get_or front i c → now ≡ old ++ unions k (take i front) ds → next ≡ now ++ unions_with k c ds → next ≡ old ++ unions k (take (i + 1) front) ds
 unions_next k front ds i c old now next l e was is =
     let more : take (i + 1) front ≡ take i front ++ c ∷ [] = take_more front i c l ∙ ap (λ (z : List ℕ). take i front ++ z ∷ []) (sym e) in
-    is ∙ ap (λ (m : List (List ℕ)). m ++ unions_with k c ds) was ∙ append_assoc old (unions k (take i front) ds) (unions_with k c ds)
-    ∙ ap (λ (m : List (List ℕ)). old ++ m) (sym (unions_push k (take i front) ds c) ∙ ap (λ (m : List (List ℕ)). unions k m ds) (sym more))
+    grind (arith, append_assoc, unions_push)
 
 suc_times : (n m : ℕ) → suc n * m ≡ m + n * m
 suc_times n m = suc-mul n m ∙ add_comm (n * m) m
 
 -- how many unions there are
 one_length : (k : ℕ) (c d : List ℕ) → length (one_union k c d) ≤ 1
-one_length k c d = by_test (ltb k (length (union c d)))
-  where
-    by_test : (b : Bool) → length (cond b [] (union c d ∷ [])) ≤ 1
-    by_test true = omega arith
-    by_test false = omega arith
+one_length k c d = grind arith
 
 with_length : (k : ℕ) (c : List ℕ) (ds : List (List ℕ)) → length (unions_with k c ds) ≤ length ds
 with_length k c [] = omega arith
@@ -59,8 +53,4 @@ with_length k c (d ∷ ds) = omega (arith, length-append (one_union k c d) (unio
 
 pub unions_length : (k : ℕ) (cs ds : List (List ℕ)) (m : ℕ) → length ds ≤ m → length (unions k cs ds) ≤ length cs * m
 unions_length k [] ds m l = omega arith
-unions_length k (c ∷ cs) ds m l =
-    let n : length (unions k cs ds) ≤ length cs * m = unions_length k cs ds m l in
-    let w : length (unions_with k c ds) ≤ length ds = with_length k c ds in
-    let s : suc (length cs) * m ≡ m + length cs * m = suc_times (length cs) m in
-    omega (arith, length-append (unions_with k c ds) (unions k cs ds))
+unions_length k (c ∷ cs) ds m l = grind (arith, with_length, suc_times, length-append, unions_length k cs ds m l)

@@ -73,9 +73,4 @@ module _ (labels : List ℕ) (favoured : List Bool) (n : ℕ) (ws : List Worth) 
 
 -- before the first node
 pub no_worths : (labels : List ℕ) (favoured : List Bool) (ws : List Worth) → ws ≡ [] → AreWorths labels favoured 0 ws
-no_worths labels favoured ws e = subst (AreWorths labels favoured 0) (sym e) (record {
-  count = refl;
-  labels_are = λ m l. absurd (omega arith);
-  labels_small = λ m. omega arith;
-  paid_are = λ m. choose_one (λ (x : ℕ). 0 ≡ x) (is_favoured favoured m) 0 0 refl refl;
-})
+no_worths labels favoured ws e = grind arith

@@ -26,7 +26,6 @@ upper = record { line = 4; node = 7; claim = 2; paths = path 5 (3 ∷ 7 ∷ []) 
 abbrev pub certificate : CertificateValue
 certificate = record { depth = 2; steps = lower ∷ upper ∷ [] }
 
--- the edges
 edge : (m n : ℕ) (p : Pair) → 4 ≤ n → slice_get circuit.pairs (n - 4) ≡ Some p → (m ≡ p.x.0 / 2) ⊎ (m ≡ p.y.0 / 2) → IsFanIn circuit m n
 edge m n p l e (inl f) = first p (record { above = l; is = e }) f
 edge m n p l e (inr f) = second p (record { above = l; is = e }) f

@@ -33,11 +33,10 @@ pub use Rattle.tl_text.specs.declared.token.Token.{Token}
 pub use Rattle.cert_check.specs.CertText.{says_depth, says_claim, SaidLine, path_said, steps_said, CertSaying, says_path, small, number_of, in_front, numbers_of, depth_with, claim_with, path_with, saying_by, said_of, step_said, AreSaid, AreLinesOf, IsCertText, fits_at, first_misfit, IsMalformed, malformed_line, cert_err, HasOneReading, IsCertTextFault, IsMisfit, saying_value}
 pub use Rattle.cert_check.specs.CertificateValue.{PathValue, StepValue, CertificateValue}
 pub use Rattle.cert_check.specs.Faults.{MayStand, IsFault, First, IsAbove, StepFault, StepsFault, DepthFault, HasOneVerdict, NodesFault, PathsFault, IsNext, AreInTurn}
-pub use Rattle.cert_check.specs.LowerBound.{IsLowerBound, AreLowerBounds}
+pub use Rattle.cert_check.specs.Valid.{IsLowerBound, AreLowerBounds, claim_of, IsJustified, IsReached, IsValid, node, complemented, SomeNeeds, path_count, Needs}
 pub use Rattle.cut_sets.specs.Paths.{IsPath, IsFanIn, first, second, Climbs}
 pub use Rattle.cert_check.specs.Refusals.{refusal_of}
 pub use Rattle.cert_check.specs.Stamps.{Clashes, IsFirstClash, AreStamped, IsPathFault, no_path, clash, IsPathTaken}
-pub use Rattle.cert_check.specs.Valid.{claim_of, IsJustified, IsReached, IsValid, node, complemented, SomeNeeds, path_count, Needs}
 pub use Rattle.cert_check.specs.WrittenText.{number_text, path_text, claim_text, step_text, saying_words, line_text, cert_text, bare_path, bare_step, bare, IsWritableStep, IsWritable, cert_lines, IsWritablePath, ReadsBack, words_text}
 pub use Rattle.cert_check.specs.declared.cert_err.CertErr.{CertErr}
 pub use Rattle.cert_check.specs.declared.cert_err.CertErr.TheVariants.{PathCount, Shared, NotReached, BadClaim, Malformed}

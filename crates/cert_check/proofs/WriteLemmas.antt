@@ -6,7 +6,6 @@ numbers_text : (ns : List ℕ) → flat_map number_text ns ≡ words_text (map d
 numbers_text [] = refl
 numbers_text (n ∷ ns) = ap (λ t. number_text n ++ t) (numbers_text ns)
 
--- lines
 pub depth_line : (d : ℕ) → codes "depth" ++ (number_text d ++ 10 ∷ []) ≡ line_text (saying_words (says_depth d))
 depth_line d = ap (λ t. codes "depth" ++ (t ++ 10 ∷ [])) (sym (append-nil (number_text d)))
 

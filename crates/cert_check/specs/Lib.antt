@@ -2,7 +2,6 @@
 pub mod CertificateValue
 pub mod Valid
 pub mod Faults
-pub mod LowerBound
 pub mod CertText
 pub mod WrittenText
 pub mod Refusals

@@ -1,11 +1,12 @@
 -- When a certificate is valid: each step's paths show its claim, and some root is as deep as the certificate says.
-use Rattle.std.specs.Prelude.{◌≡◌, ℕ, ◌+◌, ◌/◌, ◌%◌, ◌<◌, ◌≤◌, ◌≢◌, ◌⊎◌, if◌then◌else◌, ◌==◌, List, [], ◌∷◌, length, map, Some, slice_get}
+use Rattle.std.specs.Prelude.{◌≡◌, ℕ, ◌+◌, ◌/◌, ◌%◌, ◌<◌, ◌≤◌, ◌≢◌, ◌⊎◌, if◌then◌else◌, ◌==◌, List, [], ◌∷◌, length, map, Some, slice_get, Option}
 use Rattle.aig_core.specs.Aig.{Aig, IsAnd, IsSource}
 use Rattle.aig_core.specs.declared.lit.Kind.TheVariants.{Regular}
 use Rattle.list_laws.specs.Members.{In}
 use Rattle.list_laws.specs.Order.{IsAscending}
 use Rattle.cert_check.specs.CertificateValue.{PathValue, StepValue, CertificateValue}
 use Rattle.cut_sets.specs.Paths.{IsPath}
+use Rattle.cut_sets.specs.Covers.{IsCover, HasDepth, RootsWithin}
 
 -- the claim of a node: that of its step, and 0 without one
 abbrev pub claim_of : List StepValue → ℕ → ℕ
@@ -44,3 +45,13 @@ pub record IsValid (g : Aig) (roots : List ℕ) (k : ℕ) (c : CertificateValue)
   pub nodes : (s : StepValue) → In c.steps s → IsAnd g s.node
   pub justified : (s : StepValue) → In c.steps s → IsJustified g k (claim_of c.steps) s
   pub reached : IsReached g roots (claim_of c.steps) c.depth
+
+-- What a valid certificate is good for.
+
+-- no cover of the graph for these roots, whatever its cuts of at most k leaves, has a depth below d
+pub record IsLowerBound (g : Aig) (k : ℕ) (roots : List ℕ) (d : ℕ) : Type 0 where
+  pub least : (cover : ℕ → Option (List ℕ)) (e : ℕ) → IsCover g k roots cover → RootsWithin g cover roots e → d ≤ e
+
+-- nor does any cover have a node at a lower depth than is claimed for it
+pub record AreLowerBounds (g : Aig) (k : ℕ) (claim : ℕ → ℕ) : Type 0 where
+  pub least : (roots : List ℕ) (cover : ℕ → Option (List ℕ)) (n d : ℕ) → IsCover g k roots cover → HasDepth g cover n d → claim n ≤ d

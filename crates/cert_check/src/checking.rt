@@ -4,9 +4,8 @@ ghost use Rattle.aig_core.specs.Aig.{node_count, first_and, IsAnd, AreNormal};
 ghost use Rattle.aig_core.specs.Roots.{lits_of, roots_of};
 ghost use Rattle.tl_fault.specs.OrMemory.{OrMemory};
 ghost use Rattle.cert_check.specs.Faults.{First, StepFault, StepsFault, IsFault, HasOneVerdict, AreInTurn};
-ghost use Rattle.cert_check.specs.LowerBound.{IsLowerBound, AreLowerBounds};
+ghost use Rattle.cert_check.specs.Valid.{IsLowerBound, AreLowerBounds, claim_of, IsJustified, Needs, SomeNeeds, IsReached, IsValid};
 ghost use Rattle.cert_check.specs.Refusals.{refusal_of};
-ghost use Rattle.cert_check.specs.Valid.{claim_of, IsJustified, Needs, SomeNeeds, IsReached, IsValid};
 ghost use Rattle.cert_check.specs.declared.cert_err.CertErr.TheVariants.{BadClaim};
 
 use crate::cert_err::CertErr;

@@ -26,7 +26,7 @@ pub use Rattle.tl_fault.specs.OrMemory.{OrMemory}
 pub use Rattle.tl_fault.specs.RefusalValue.{RefusalValue}
 pub use Rattle.tl_io.specs.Shelf.{Files, ShelfSeen}
 pub use Rattle.tl_text.specs.declared.logical_lines.TheConstants.{MOST_BYTES}
-pub use Rattle.cmd_stations.proofs.FileLemmas.{of_source, text_once, short_or_long}
+pub use Rattle.cmd_stations.proofs.StopLemmas.{of_source, text_once, short_or_long}
 pub use Rattle.cmd_stations.proofs.WriteLemmas.{writing_ends, cut_in_file, line_ends, written_over}
 pub use Rattle.cmd_cert.specs.Proofs.{outcome_by, IsProof}
 pub use Rattle.cmd_cert.specs.Audit.{IsAudit, HasAudit, HasAuditJob, IsAuditRefused, source, long_cert, cert, IsAuditSettled, audit_walk, audit_reading, IsOfAudit, ReachesAudit}

@@ -6,8 +6,7 @@ use Rattle.aig_core.specs.Aig.{Aig}
 use Rattle.aig_core.specs.Roots.{RootsValue, roots_of}
 use Rattle.netlist.specs.Sound.{IsSound}
 use Rattle.cert_check.specs.CertificateValue.{CertificateValue}
-use Rattle.cert_check.specs.Valid.{IsValid}
-use Rattle.cert_check.specs.LowerBound.{IsLowerBound}
+use Rattle.cert_check.specs.Valid.{IsValid, IsLowerBound}
 use Rattle.cmd_base.specs.Walk.{FileReading, shelf_reading, CommandWalk, portless_walk}
 use Rattle.cmd_base.specs.Writing.{AreWritten, IsCutInLine}
 use Rattle.cmd_base.specs.Refusals.{too_long}

@@ -15,7 +15,7 @@ pub use Rattle.cmd_stations.specs.Packs.{present_bytes}
 pub use Rattle.cmd_stations.specs.Source.{IsMappedFrom}
 pub use Rattle.cmd_stations.specs.Tables.{AreMade, ComesPast}
 pub use Rattle.cmd_stations.specs.declared.mapped.MappedSource.{MappedSource}
-pub use Rattle.lut_sim.proofs.TableCountLemmas.{tables_within_bits}
+pub use Rattle.lut_sim.proofs.RoomLemmas.{tables_within_bits}
 pub use Rattle.param_list.specs.Parameters.{param_inits}
 pub use Rattle.ppc_pack.specs.Pack.{PackValue, IsConf}
 pub use Rattle.tl_io.specs.Port.{PortSeen}

@@ -9,7 +9,7 @@ use Rattle.cmd_stations.specs.FileWrites.{WritesAll}
 use Rattle.cmd_stations.specs.Mapped.{template_header}
 use Rattle.cmd_stations.specs.Packs.{present_bytes}
 use Rattle.cmd_stations.specs.declared.mapped.MappedSource.{MappedSource}
-pub use Rattle.cmd_stations.specs.WrittenFiles.{specialised_text, RunsSpecialised, template_text, IsTunedSource}
+pub use Rattle.cmd_stations.specs.Written.{specialised_text, RunsSpecialised, template_text, IsTunedSource}
 
 module _ (m : MappedSource) where
   -- its pack

@@ -1,5 +1,5 @@
 -- Asks and ticks show the source circuit.
-use Rattle.cmd_pace.proofs.Common.{◌≡◌, ℕ, Bool, List, [], ◌∷◌, length, map, take, refl, sym, ap, ◌∙◌, subst, inl, inr, arith, length-take, In, TemplateValue, Shape, PackValue, IsConf, differences, length-assigned, PaceValue, Ask, Tick, PacerValue, Shown, shown_line, IsAsked, IsStep, IsWait, IsTicked, steps, waits, IsPaced, ArePaced, Source, width_of, shape_of, IsTunable, cycle_count, param_count, PaceStage, stage_of, ShowsAsk, ShowsStep, ShowsWait, ShowsTick, Shows, ShowAll, shown_machine, pacer_machine, passes_over, none, more, IsSourceCycle}
+use Rattle.cmd_pace.proofs.Common.{◌≡◌, ℕ, Bool, List, [], ◌∷◌, length, map, take, refl, sym, ap, ◌∙◌, subst, inl, inr, arith, length-take, In, TemplateValue, Shape, PackValue, IsConf, differences, length-assigned, PaceValue, Ask, Tick, PacerValue, Shown, shown_line, IsAsked, IsStep, IsWait, IsTicked, steps, waits, IsPaced, ArePaced, Source, width_of, shape_of, IsTunable, cycle_count, param_count, PaceStage, stage_of, ShowsAsk, ShowsStep, ShowsWait, ShowsTick, Shows, ShowAll, shown_machine, pacer_machine, passes_over, IsSourceCycle}
 use Rattle.tl_io.specs.Assigns.{assigned}
 use Rattle.tl_io.specs.Writes.{written}
 use Rattle.tl_io.specs.declared.Assign.{Assign}

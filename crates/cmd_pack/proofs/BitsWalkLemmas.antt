@@ -2,9 +2,9 @@
 use Rattle.cmd_pack.proofs.Common.{◌≡◌, Option, refl, subst, Files, ShelfSeen, PackValue, Told, Explains, Outcome, HasPack, IsPackSettled, pack_reading, pack_names, IsScriptRefused, IsScriptSettled, script_reading, BitsWords, IsBitsRefused, IsBitsSettled, IsOfBits, bits_word, ReachesBits, bits_reading, HasBitsJob, IsPart, Explains_lift, pack_or_not, pack_refused_once, pack_once, same_names}
 use Rattle.tl_fault.specs.RefusalValue.{RefusalValue}
 use Rattle.cmd_base.specs.declared.outcome.File.{File}
-use Rattle.cmd_pack.specs.Bits as job
 use Rattle.cmd_stations.proofs.RefusedLemmas.{events_or_not, events_refused_once}
-use Rattle.cmd_stations.proofs.FileLemmas.{of_script, of_pack}
+use Rattle.cmd_stations.proofs.StopLemmas.{of_script, of_pack}
+use Rattle.cmd_pack.specs.Bits as job
 
 module _ (files : Files) (words : BitsWords) (settled : IsBitsSettled files words) where
   -- a script is refused behind the one pack

@@ -4,7 +4,7 @@ use Rattle.gen_case.specs.Netlist.{netlist_lines}
 use Rattle.std.specs.Option.{option_and_then}
 use Rattle.list_laws.proofs.Choice.{none_both}
 use Rattle.cover_pick.proofs.BitsLemmas.{bits_worked}
-use Rattle.run_text.specs.Each.{in_front, each_of}
+use Rattle.run_text.specs.EventValue.{in_front, each_of}
 use Rattle.run_text.specs.ScriptText.{line_refusal, refusal_at, line_event, IsScript}
 use Rattle.run_text.specs.declared.event.TheConstants.{MOST_EVENTS}
 use Rattle.run_text.specs.declared.script_err.ScriptErr.TheVariants.{Events}

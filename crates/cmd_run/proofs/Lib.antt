@@ -9,7 +9,6 @@ mod RunLemmas
 mod ShownLemmas
 mod HeadlineLemmas
 -- and of `gen`.
-mod NumberLemmas
 mod CaseLemmas
 mod CaseTextLemmas
 mod CaseSizeLemmas

@@ -1,5 +1,5 @@
--- What the events of a case add up to fits its types: a change writes no more bits than the LUTs have, and the outputs of a cycle are a number of as many digits.
-use Rattle.cmd_run.proofs.Common.{◌≡◌, ℕ, ◌+◌, ◌*◌, ◌^◌, ◌<◌, ◌≤◌, List, [], ◌∷◌, ◌++◌, length, take, refl, ap, ◌∙◌, subst, arith, length-append, length-map, length-take-le, length-range_with_len, number, length-filter_le, lits_of, value_of, Lit, TemplateValue, PackValue, Event, EventValue, event_value, event_values, Set, Cycle, differs_at, differences, write_of, SpecialiserValue, MachineValue, IsPlayed, writes_of, output_of, TalliedMachine, tally_machine, Totals, Passes, none, more, IsSmall}
+-- What the events of a case add up to fits its types: a change writes no more bits than the LUTs have, and the outputs of a cycle are a number of as many digits. Numbers are read from their highest digit down.
+use Rattle.cmd_run.proofs.Common.{◌≡◌, ℕ, ◌+◌, ◌*◌, ◌^◌, ◌<◌, ◌≤◌, List, [], ◌∷◌, ◌++◌, length, take, refl, ap, ◌∙◌, subst, arith, length-append, length-map, length-take-le, length-range_with_len, number, length-filter_le, lits_of, value_of, Lit, TemplateValue, PackValue, Event, EventValue, event_value, event_values, Set, Cycle, differs_at, differences, write_of, SpecialiserValue, MachineValue, IsPlayed, writes_of, output_of, TalliedMachine, tally_machine, Totals, Passes, none, more, IsSmall, Bool, bit_value}
 use Rattle.std.specs.List.{filter, range_with_len}
 use Rattle.std.proofs.Math.Pow.{pow_mono}
 use Rattle.std.proofs.lemmas.Nat.{pow_pos}
@@ -58,3 +58,26 @@ next_fits m events i item small here {writes = writes} {total = total} new total
     let all : length (event_values events) ≡ length events = length-map events event_value in
     let few : length (event_values events) ≤ 2 ^ 20 = small.few in
     (omega (arith, within.0, count, before, all, few, here), omega (arith, within.1, count, before, all, few, here))
+
+-- the number with these digits below those of another number
+abbrev pub number_below : ℕ → List Bool → ℕ
+number_below n [] = n
+number_below n (b ∷ bs) = bit_value b + 2 * number_below n bs
+
+pub below_zero : (bs : List Bool) → number_below 0 bs ≡ number bs
+below_zero [] = refl
+below_zero (b ∷ bs) = ap (λ n. bit_value b + 2 * n) (below_zero bs)
+
+pub below_none : (n : ℕ) (bs : List Bool) → length bs ≡ 0 → number_below n bs ≡ n
+below_none n [] is = refl
+below_none n (b ∷ bs) is = absurd (omega arith)
+
+-- the highest of these digits may be one of the other number
+pub below_last : (n : ℕ) (bs : List Bool) (b : Bool) → number_below n (bs ++ b ∷ []) ≡ number_below (bit_value b + 2 * n) bs
+below_last n [] b = refl
+below_last n (c ∷ bs) b = ap (λ m. bit_value c + 2 * m) (below_last n bs b)
+
+-- it is the other number at least
+pub below_more : (n : ℕ) (bs : List Bool) → n ≤ number_below n bs
+below_more n [] = omega arith
+below_more n (b ∷ bs) = let most : n ≤ number_below n bs = below_more n bs in omega arith

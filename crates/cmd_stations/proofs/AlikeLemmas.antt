@@ -27,9 +27,8 @@ module _ (p q : PackValue) (alike : AreAlike p q) (one : (given : List Bool) →
   -- under the same values they have the same configuration
   pub same_conf : (own packs : PackValue) (params values a b : List Bool) → own ≡ p → packs ≡ q → params ≡ values → length values ≡ length q.params → IsConf own params a → IsConf packs values b → a ≡ b
   same_conf own packs params values a b is_p is_q same count x y =
-      let only = one values count in
       let here : IsConf p values a = subst (λ (vs : List Bool). IsConf p vs a) same (subst (λ (r : PackValue). IsConf r params a) is_p x) in
-      only.only a (alike.conf values a (count ∙ sym alike.count) here) ∙ sym (only.only b (subst (λ (r : PackValue). IsConf r values b) is_q y))
+      (one values count).only a (alike.conf values a (count ∙ sym alike.count) here) ∙ sym ((one values count).only b (subst (λ (r : PackValue). IsConf r values b) is_q y))
 
   -- what an event makes of both: the same line, and the same state again
   pub record PlayAlike (event : EventValue) (h k : SpecialiserValue) : Type 0 where

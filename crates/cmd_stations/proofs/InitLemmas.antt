@@ -1,5 +1,5 @@
 -- The inits of a source circuit that was read: those of its latches, and the values of its parameters.
-use Rattle.cmd_stations.proofs.Common.{◌≡◌, Bool, List, length, sym, ap, ◌∙◌, subst, length-map, IsFlat, flat_inits, FlatLatch, Param, param_inits, PackValue, pack_param, Source, IsTunable, TemplateValue, HasOneConf, IsConf, SourceTables, AreMade, IsReadSource}
+use Rattle.cmd_stations.proofs.Common.{◌≡◌, Bool, List, length, sym, ap, ◌∙◌, subst, length-map, IsFlat, flat_inits, FlatLatch, Param, param_inits, PackValue, pack_param, Source, IsTunable, TemplateValue, HasOneConf, IsConf, SourceTables, AreMade, IsReadSource, rules}
 use Rattle.lut_sim.specs.Sim.{SimValue}
 use Rattle.ppc_pack.specs.Pack as pack
 use Rattle.cmd_stations.specs.Machine.{IsSourceStart}
@@ -23,12 +23,4 @@ module _ (source : Source) (template : TemplateValue) (pack : PackValue) (tunabl
 pub source_starts : (source : Source) (tables : SourceTables) (own : PackValue) (values bits : List Bool) (sim : SimValue) → IsReadSource source → AreMade source tables → ((given : List Bool) → length given ≡ length tables.pack.params → HasOneConf tables.pack given) → own ≡ tables.pack
     → values ≡ pack.inits_of tables.pack.params → IsConf tables.pack (pack.inits_of tables.pack.params) bits → sim.template ≡ tables.template → sim.shape ≡ tables.shape → sim.states ≡ flat_inits source.netlist.flat
     → IsSourceStart source tables.template own values bits sim
-source_starts source tables own values bits sim read made one is_pack params config template shape states = record {
-  pack = subst (λ (p : PackValue). IsTunable source tables.template p) (sym is_pack) made.tunable;
-  one_config = subst (λ (p : PackValue). (given : List Bool) → length given ≡ length p.params → HasOneConf p given) (sym is_pack) one;
-  params = params ∙ made.inits;
-  config = subst (λ (p : PackValue). IsConf p (param_inits source.params.list) bits) (sym is_pack) (subst (λ (vs : List Bool). IsConf tables.pack vs bits) made.inits config);
-  template = template;
-  shape = shape ∙ made.shape;
-  states = (read.netlist.cycles.agrees).back.starts sim.states states;
-}
+source_starts source tables own values bits sim read made one is_pack params config template shape states = search rules

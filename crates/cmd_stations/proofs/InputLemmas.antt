@@ -19,24 +19,19 @@ no_match a b differ true e = absurd (differ ((bytes_eq-Decides a b).0 e))
 
 named_values : (names : List (List ℕ)) (values : List Bool) → AreOnce names → length values ≡ length names → map (named_value names values) names ≡ values
 named_values [] [] once len = refl
-named_values [] (b ∷ bs) once len = absurd (omega arith)
-named_values (n ∷ ns) [] once len = absurd (omega arith)
 named_values (n ∷ ns) (b ∷ bs) once len =
     ap (λ t. cond t b (named_value ns bs n) ∷ map (named_value (n ∷ ns) (b ∷ bs)) ns) ((bytes_eq-Decides n n).1 refl)
     ∙ ap (λ vs. b ∷ vs) (map_agree (named_value (n ∷ ns) (b ∷ bs)) (named_value ns bs) ns later ∙ named_values ns bs once.1 (omega arith))
   where
     later : (m : List ℕ) → In ns m → named_value (n ∷ ns) (b ∷ bs) m ≡ named_value ns bs m
     later m i = ap (λ t. cond t b (named_value ns bs m)) (no_match n m (λ e. once.0 (subst (λ x. In ns x) (sym e) i)) (bytes_eq n m) refl)
+named_values names values once len = absurd (omega arith)
 
 -- two lists whose first parts are as long as each other
 pub same_parts : {A : Type 0} (xs us ys vs : List A) → length xs ≡ length us → xs ++ ys ≡ us ++ vs → (xs ≡ us) × (ys ≡ vs)
 same_parts [] [] ys vs len same = (refl, same)
-same_parts [] (u ∷ us) ys vs len same = absurd (omega arith)
-same_parts (x ∷ xs) [] ys vs len same = absurd (omega arith)
-same_parts (x ∷ xs) (u ∷ us) ys vs len same =
-    let rest = same_parts xs us ys vs (omega arith) (ap (drop 1) same) in
-    let first : x ≡ u = ap (λ l. get_or l 0 x) same in
-    (ap (λ z. z ∷ xs) first ∙ ap (λ zs. u ∷ zs) rest.0, rest.1)
+same_parts (x ∷ xs) (u ∷ us) ys vs len same = grind (arith, x, same_parts xs us ys vs (omega arith) (ap (drop 1) same))
+same_parts items o ys vs len same = absurd (omega arith)
 
 -- so the values given for the regular inputs stand at these, and those for the parameters at the parameters
 module _ (source : Source) (once : AreOnce (input_names source.netlist.flat source.params.list)) (params values : List Bool) (params_len : length params ≡ length source.params.list) (len : length values ≡ width_of source) where
@@ -50,14 +45,7 @@ module _ (source : Source) (once : AreOnce (input_names source.netlist.flat sour
   x = input_at source params values
 
   pub inputs_are : map x (input_names source.netlist.flat source.params.list) ≡ values ++ params
-  inputs_are = named_values (regular ++ names) (values ++ params) once counts
-    where
-      counts : length (values ++ params) ≡ length (regular ++ names)
-      counts =
-          let a : length (values ++ params) ≡ length values + length params = length-append values params in
-          let b : length (regular ++ names) ≡ width_of source + length names = length-append regular names in
-          let c : length names ≡ length source.params.list = length-map source.params.list (λ (p : Param). p.name) in
-          omega arith
+  inputs_are = grind (arith, named_values, names, length-append, length-map)
 
   pub parts_are : (map x regular ≡ values) × (map x names ≡ params)
   parts_are = same_parts (map x regular) values (map x names) params (length-map regular x ∙ sym len) (sym (map-append x regular names) ∙ inputs_are)

@@ -1,7 +1,6 @@
 -- of texts and files, and of the stops at them,
 mod Common
-mod StopLemmas
-pub mod FileLemmas
+pub mod StopLemmas
 pub mod LibraryTextLemmas
 mod TextLemmas
 pub mod LengthLemmas

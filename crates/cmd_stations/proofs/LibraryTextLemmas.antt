@@ -1,6 +1,6 @@
 -- A netlist's text denotes one library, or is refused for one reason, whichever its form.
-use Rattle.cmd_stations.proofs.Common.{◌≡◌, ℕ, Bool, true, false, List, sym, ap, ◌∙◌, same_Some, none-some, RefusalValue, LibraryValue, Denotes, is_aag, DenotesLibrary, LibraryRefusal, HasOneLibrary}
-use Rattle.blif_read.specs.HasOneReading.{HasOneReading}
+use Rattle.cmd_stations.proofs.Common.{◌≡◌, ℕ, Bool, true, false, List, sym, ap, ◌∙◌, same_Some, none-some, RefusalValue, LibraryValue, Denotes, is_aag, DenotesLibrary, LibraryRefusal, HasOneLibrary, arith}
+use Rattle.blif_read.specs.ReadFault.{HasOneReading}
 use Rattle.blif_read.specs.Refusals.{refusal_of as blif_refusal}
 use Rattle.aiger_io.specs.CircuitLibrary.{library_of}
 use Rattle.aiger_io.specs.Reading.{IsLibraryOf, HasRunsOf, HasOneReading as HasOneAagReading}
@@ -28,8 +28,7 @@ module _ (text : List ℕ) (is : is_aag text ≡ false) (one : HasOneReading tex
   blif_or_not a r first (form.LibraryRefusal.aiger begins_so e stands tells) = absurd (one_form is begins_so)
 
   blif_refused_once : (r s : RefusalValue) → LibraryRefusal text r → LibraryRefusal text s → r ≡ s
-  blif_refused_once r s (form.LibraryRefusal.blif off e stands tells) (form.LibraryRefusal.blif as_before f also says) =
-      same_Some r s (sym tells ∙ (ap (λ x. blif_refusal x) (same_Some e f (sym stands ∙ also)) ∙ says))
+  blif_refused_once r s (form.LibraryRefusal.blif off e stands tells) (form.LibraryRefusal.blif as_before f also says) = grind arith
   blif_refused_once r s (form.LibraryRefusal.aiger begins_so e stands tells) other = absurd (one_form is begins_so)
   blif_refused_once r s first (form.LibraryRefusal.aiger begins_so e stands tells) = absurd (one_form is begins_so)
 

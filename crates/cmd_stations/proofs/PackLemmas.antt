@@ -1,12 +1,12 @@
 -- The pack of a file: it is read or refused, for one reason, and the packs of one file are the same but for the room of their graphs.
-use Rattle.cmd_stations.proofs.Common.{◌≡◌, ℕ, ◌≤◌, List, length, Some, refl, sym, ap, ◌∙◌, subst, same_Some, RefusalValue, Files, ShelfSeen, Lit, PackParam, PackValue, IsPackFile, AreSame, HasOneReading, NamesValue, Stops, outcome_at, most_bytes, Told, Explains, File, Outcome, Stop, HasBytes, IsUnread, HasPack, IsPackRefusal, IsPackRefused, IsPackSettled, pack_reading, names_on, pack_names, param_names, Shape, Source, SourceTables, width_of, names_in, AreMade}
+use Rattle.cmd_stations.proofs.Common.{◌≡◌, ℕ, ◌≤◌, List, length, Some, refl, sym, ap, ◌∙◌, subst, same_Some, RefusalValue, Files, ShelfSeen, Lit, PackParam, PackValue, IsPackFile, AreSame, HasOneReading, NamesValue, Stops, outcome_at, most_bytes, Told, Explains, File, Outcome, Stop, HasBytes, IsUnread, HasPack, IsPackRefusal, IsPackRefused, IsPackSettled, pack_reading, names_on, pack_names, param_names, Shape, Source, SourceTables, width_of, names_in, AreMade, arith}
 use Rattle.ppc_file.specs.Refusals.{refusal_of as pack_refusal}
 use Rattle.run_text.specs.declared.event.Forms.{Forms}
+use Rattle.cmd_stations.proofs.LengthLemmas.{pack_not_long}
+use Rattle.cmd_stations.proofs.StopLemmas.{text_once, short_or_long}
+use Rattle.cmd_stations.proofs.StationLemmas.{unread_ends, stop_ends}
 use Rattle.cmd_base.specs.declared.outcome.File.TheVariants as file
 use Rattle.cmd_stations.specs.Packs as packs
-use Rattle.cmd_stations.proofs.LengthLemmas.{pack_not_long}
-use Rattle.cmd_stations.proofs.FileLemmas.{text_once, short_or_long}
-use Rattle.cmd_stations.proofs.StationLemmas.{unread_ends, stop_ends}
 
 -- bytes are read or refused, for one reason
 bytes_or_refused : (bytes : List ℕ) (pack : PackValue) (r : RefusalValue) → HasOneReading bytes → IsPackFile bytes pack → IsPackRefusal bytes r → ⊥
@@ -36,19 +36,14 @@ module _ (files : Files) (name : List ℕ) (settled : IsPackSettled files name) 
 
 -- and so a script may name the same of both
 pub same_names : (p q : PackValue) → AreSame p q → pack_names p ≡ pack_names q
-same_names p q same =
-    ap (λ (ps : List PackParam). let n : NamesValue = pack_names (record p { params = ps }) in n) same.params
-    ∙ ap (λ (ls : List Lit). let n : NamesValue = pack_names (record p { params = q.params; bits = ls }) in n) same.bits
+same_names p q same = grind arith
 
 -- the pack of a mapped source circuit has the names of its script
 abbrev names_with : Forms → List (List ℕ) → ℕ → ℕ → NamesValue
 names_with forms params width bits = record { forms = forms; params = params; width = Some width; bits = bits }
 
 pub made_names : (forms : Forms) (source : Source) (t : SourceTables) → AreMade source t → names_on forms t.pack (Some t.shape.regular) ≡ names_in forms source t.template.bits
-made_names forms source t made =
-    ap (λ params. names_with forms params t.shape.regular (length t.pack.bits)) made.names
-    ∙ ap (λ (s : Shape). names_with forms (param_names source.params.list) s.regular (length t.pack.bits)) made.shape
-    ∙ ap (names_with forms (param_names source.params.list) (width_of source)) made.bits
+made_names forms source t made = grind arith
 
 -- what the station of a pack answers explains how a command ends there
 module _ (name : List ℕ) (old new : ShelfSeen) where

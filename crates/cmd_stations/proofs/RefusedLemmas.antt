@@ -1,19 +1,15 @@
 -- What files hold is the only thing that they hold, it isn't refused, and they are refused for one reason.
-use Rattle.cmd_stations.proofs.Common.{◌≡◌, List, ap, ◌∙◌, subst, Files, TemplateValue, Param, IsParamsText, Source, SourceWords, IsNetlistText, IsMapped, Aim, ToTables, HasNetlist, HasParams, HasSource, HasMapped, IsLeastMapped, IsNetlistSettled, AreParamsSettled, IsSourceSettled, ℕ, RefusalValue, EventValue, NamesValue, IsScript, File, HasText, NetlistRefusal, IsParamsRefusal, IsUnmade, IsSourceRefused, long_netlist, netlist, long_params, params, unmade, HasScript, IsScriptRefused, IsScriptSettled, sym, same_Some, Rule, too_long, IsLongText, IsScriptRefusal, ToGraph, ToLabels, IsMakingSettled}
+use Rattle.cmd_stations.proofs.Common.{◌≡◌, List, ap, ◌∙◌, subst, Files, TemplateValue, Param, IsParamsText, Source, SourceWords, IsNetlistText, IsMapped, Aim, ToTables, HasNetlist, HasParams, HasSource, HasMapped, IsLeastMapped, IsNetlistSettled, AreParamsSettled, IsSourceSettled, ℕ, RefusalValue, EventValue, NamesValue, IsScript, File, HasText, NetlistRefusal, IsParamsRefusal, IsUnmade, IsSourceRefused, long_netlist, netlist, long_params, params, unmade, HasScript, IsScriptRefused, IsScriptSettled, sym, same_Some, Rule, too_long, IsLongText, IsScriptRefusal, ToGraph, ToLabels, IsMakingSettled, arith}
 use Rattle.cmd_stations.specs.declared.netlist_text.Netlist.{Netlist as NetlistValue}
-use Rattle.cmd_stations.proofs.FileLemmas.{text_once, short_or_long}
-use Rattle.cmd_stations.specs.Script as script
+use Rattle.cmd_stations.proofs.StopLemmas.{text_once, short_or_long}
 use Rattle.cmd_stations.proofs.TextLemmas.{params_or_refused, script_or_refused, params_refused_once, script_refused_once}
+use Rattle.cmd_stations.specs.Script as script
 
--- a netlist
 pub netlist_once : (files : Files) (words : SourceWords) (n m : NetlistValue) → IsNetlistSettled files words → HasNetlist files words n → HasNetlist files words m → n ≡ m
-netlist_once files words n m settled a b =
-    (settled b.text b.there).one_netlist n m (subst (λ ts. IsNetlistText ts n) (text_once files words.netlist a.text b.text a.there b.there) a.is) b.is
+netlist_once files words n m settled a b = grind arith
 
--- its parameters
 pub params_once : (files : Files) (words : SourceWords) (n : NetlistValue) (ps qs : List Param) → AreParamsSettled files words n → HasParams files words n.flat ps → HasParams files words n.flat qs → ps ≡ qs
-params_once files words n ps qs settled a b =
-    (settled b.text b.there).one_value ps qs (subst (λ ts. IsParamsText n.flat ts ps) (text_once files words.params a.text b.text a.there b.there) a.is) b.is
+params_once files words n ps qs settled a b = grind arith
 
 -- both: a source circuit
 pub source_once : (files : Files) (words : SourceWords) (a b : Source) → IsNetlistSettled files words → AreParamsSettled files words b.netlist → HasSource files words a → HasSource files words b → a ≡ b
@@ -26,7 +22,6 @@ source_once files words a b one settled x y =
 pub settled_once : {aim : Aim} (files : Files) (words : SourceWords) (a b : Source) → IsSourceSettled aim files words → HasSource files words a → HasSource files words b → a ≡ b
 settled_once files words a b settled x y = source_once files words a b settled.netlist (settled.params b.netlist y.netlist) x y
 
--- and its template
 pub template_once : (files : Files) (words : SourceWords) (a b : Source) (t u : TemplateValue) → IsSourceSettled ToTables files words → HasMapped files words a t → HasMapped files words b u → t ≡ u
 template_once files words a b t u settled x y =
     (settled.made b y.has).one_template t u (subst (λ s. IsMapped words.rule s words.k t) (settled_once files words a b settled x.has y.has) x.mapped) y.mapped
@@ -50,8 +45,7 @@ module _ {aim : Aim} (files : Files) (words : SourceWords) (settled : IsSourceSe
   list_or_not source n text r has own there refused =
       let same : source.netlist ≡ n = netlist_once files words source.netlist n settled.netlist has.netlist own in
       let here : HasParams files words n.flat source.params.list = subst (λ (m : NetlistValue). HasParams files words m.flat source.params.list) same has.params in
-      params_or_refused n.flat text source.params.list r (settled.params n own text there)
-      (subst (λ ts. IsParamsText n.flat ts source.params.list) (text_once files words.params here.text text here.there there) here.is) refused
+      grind (arith, params_or_refused, text_once)
 
   -- so a source circuit that is read isn't refused, unless for what is made of it
   pub refused_unmade : (source : Source) (f : File) (r : RefusalValue) → HasSource files words source → IsSourceRefused aim files words f r → IsUnmade aim words.rule source words.k r
@@ -68,14 +62,12 @@ source_or_not files words settled source t f r past refused = (settled.made sour
 -- nor is a script that is read
 pub events_or_not : (files : Files) (name : List ℕ) (names : NamesValue) (events : List EventValue) (f : File) (r : RefusalValue) → IsScriptSettled files name names → HasScript files name names events → IsScriptRefused files name names f r → ⊥
 events_or_not files name names events f r settled has (script.IsScriptRefused.long at long is) = short_or_long files name has.text has.there long
-events_or_not files name names events f r settled has (script.IsScriptRefused.text at ts there refused) =
-    script_or_refused names ts events r (settled ts there) (subst (λ xs. IsScript names xs events) (text_once files name has.text ts has.there there) has.is) refused
+events_or_not files name names events f r settled has (script.IsScriptRefused.text at ts there refused) = grind arith
 
 -- what is made of a source circuit is refused for one reason
 unmade_once : (aim : Aim) (rule : Rule) (source : Source) (k : ℕ) (r s : RefusalValue) → IsMakingSettled aim rule source k → IsUnmade aim rule source k r → IsUnmade aim rule source k s → r ≡ s
 unmade_once ToGraph rule source k r s settled u v = same_Some r s (sym u.tells ∙ v.tells)
-unmade_once ToLabels rule source k r s settled u v = settled.one_refusal r s u v
-unmade_once ToTables rule source k r s settled u v = settled.one_refusal r s u v
+unmade_once aim rule source k r s settled u v = settled.one_refusal r s u v
 
 module _ {aim : Aim} (files : Files) (words : SourceWords) (settled : IsSourceSettled aim files words) where
   netlist_short : {A : Type 0} (n : NetlistValue) → HasNetlist files words n → IsLongText files words.netlist → A
@@ -139,5 +131,4 @@ pub events_refused_once : (files : Files) (name : List ℕ) (names : NamesValue)
 events_refused_once files name names f e r s settled (script.IsScriptRefused.long at long is) (script.IsScriptRefused.long at2 long2 is2) = is ∙ sym is2
 events_refused_once files name names f e r s settled (script.IsScriptRefused.long at long is) (script.IsScriptRefused.text at2 ts there refused) = absurd (short_or_long files name ts there long)
 events_refused_once files name names f e r s settled (script.IsScriptRefused.text at ts there refused) (script.IsScriptRefused.long at2 long is) = absurd (short_or_long files name ts there long)
-events_refused_once files name names f e r s settled (script.IsScriptRefused.text at ts there refused) (script.IsScriptRefused.text at2 ts2 there2 refused2) =
-    script_refused_once names ts2 r s (settled ts2 there2) (subst (λ xs. IsScriptRefusal names xs r) (text_once files name ts ts2 there there2) refused) refused2
+events_refused_once files name names f e r s settled (script.IsScriptRefused.text at ts there refused) (script.IsScriptRefused.text at2 ts2 there2 refused2) = grind arith

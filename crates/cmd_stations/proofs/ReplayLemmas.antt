@@ -1,9 +1,9 @@
 -- Hosts that start on the same pack are alike, and a file is of one pack.
-use Rattle.cmd_stations.proofs.Common.{◌≡◌, ℕ, Bool, List, length, map, Some, Ok, sym, ap, ◌∙◌, subst, subst₂, inr, refl, option_and_then, length-map, same_Some, fun_ext, Files, Aig, FitsGraph, Kind, Lit, Pair, PackParam, PackValue, IsConf, inits_of, IsPackFile, AreSame, SpecialiserValue, HasPack, pack_names, present_bytes, IsHostStart, names_of, HasScript, HasMapped, IsMapped, IsTunable, SourceWords, Source, TemplateValue, EventValue, NamesValue, event_of, line_event, SamePacksReplay}
+use Rattle.cmd_stations.proofs.Common.{◌≡◌, ℕ, Bool, List, length, map, Some, Ok, sym, ap, ◌∙◌, subst, subst₂, inr, refl, option_and_then, length-map, same_Some, fun_ext, Files, Aig, FitsGraph, Kind, Lit, Pair, PackParam, PackValue, IsConf, inits_of, IsPackFile, AreSame, SpecialiserValue, HasPack, pack_names, present_bytes, IsHostStart, names_of, HasScript, HasMapped, IsMapped, IsTunable, SourceWords, Source, TemplateValue, EventValue, NamesValue, event_of, line_event, SamePacksReplay, arith, rules}
 use Rattle.std.specs.FinMap.{get}
 use Rattle.ppc_file.proofs.OneReading.{one_reading}
 use Rattle.cmd_stations.proofs.ShowLemmas.{pack_param_names}
-use Rattle.run_text.specs.Each.{each_of}
+use Rattle.run_text.specs.EventValue.{each_of}
 use Rattle.run_text.specs.Sayings.{said_of}
 use Rattle.tl_text.specs.LineValue.{WordsLine, words_line}
 use Rattle.tl_text.specs.Lines.{lines_of}
@@ -14,39 +14,24 @@ abbrev roomed : PackValue → ℕ → PackValue
 roomed p n = record { params = p.params; graph = record { kinds = p.graph.kinds; pairs = p.graph.pairs; max = n }; bits = p.bits }
 
 roomed_is : (p q : PackValue) → AreSame p q → roomed p q.graph.max ≡ q
-roomed_is p q same =
-    ap (λ (ps : List PackParam). let r : PackValue = record { params = ps; graph = record { kinds = p.graph.kinds; pairs = p.graph.pairs; max = q.graph.max }; bits = p.bits } in r) same.params
-    ∙ ap (λ (ks : List Kind). let r : PackValue = record { params = q.params; graph = record { kinds = ks; pairs = p.graph.pairs; max = q.graph.max }; bits = p.bits } in r) same.kinds
-    ∙ ap (λ (ps : List Pair). let r : PackValue = record { params = q.params; graph = record { kinds = q.graph.kinds; pairs = ps; max = q.graph.max }; bits = p.bits } in r) same.pairs
-    ∙ ap (λ (ls : List Lit). let r : PackValue = record { params = q.params; graph = q.graph; bits = ls } in r) same.bits
+roomed_is p q same = grind arith
 
 -- the room doesn't matter to the values
 fits_roomed : (g : Aig) (n : ℕ) (sources values : List Bool) → FitsGraph g sources values → FitsGraph (record { kinds = g.kinds; pairs = g.pairs; max = n }) sources values
-fits_roomed g n sources values fits = record {
-  given = fits.given;
-  count = fits.count;
-  constant = fits.constant;
-  source = fits.source;
-  node = λ m p is. fits.node m p (record { above = is.above; is = is.is });
-}
+fits_roomed g n sources values fits = search rules
 
 -- so packs that are the same are alike
 pub same_alike : (p q : PackValue) → AreSame p q → AreAlike p q
-same_alike p q same = record {
-  count = ap length same.params;
-  conf = λ params config len is.
-      subst (λ (r : PackValue). IsConf r params config) (roomed_is p q same) (record { values = is.values; fits = fits_roomed p.graph q.graph.max params is.values is.fits; are = is.are });
-}
+same_alike p q same = search (rules, roomed_is, fits_roomed)
 
 -- hosts that start on them stand alike
 pub start_alike : (p q : PackValue) (alike : AreAlike p q) → inits_of p.params ≡ inits_of q.params → (h k : SpecialiserValue) → IsHostStart p h → (there : IsHostStart q k) → StandAlike p q alike there.one_config h k
 start_alike p q alike inits h k here there =
-    let params : h.state.params ≡ k.state.params = here.params ∙ (inits ∙ sym there.params) in
     let long : length (inits_of q.params) ≡ length q.params = length-map q.params (λ (x : PackParam). x.init) in
     record {
       pack = here.pack;
       other = there.pack;
-      params = params;
+      params = here.params ∙ (inits ∙ sym there.params);
       config = same_conf p q alike there.one_config p q (inits_of p.params) (inits_of q.params) h.state.config k.state.config refl refl inits long here.config there.config;
       count = ap length there.params ∙ long;
     }
@@ -77,31 +62,11 @@ pack_at files name bytes p at has = subst (λ bs. IsPackFile bs p) (same_Some ha
 -- the same texts hold the same source circuit, mapped
 pub mapped_there : (first files : Files) (from to : SourceWords) (source : Source) (template : TemplateValue) → from.k ≡ to.k → from.rule ≡ to.rule → get first from.netlist ≡ get files to.netlist → get first from.params ≡ get files to.params
     → HasMapped first from source template → HasMapped files to source template
-mapped_there first files from to source template k rule netlist params has =
-    let n = has.has.netlist in
-    let p = has.has.params in
-    record {
-      has = record {
-        netlist = record { text = n.text; there = record { is = sym netlist ∙ n.there.is; short = n.there.short }; is = n.is };
-        params = record { text = p.text; there = record { is = sym params ∙ p.there.is; short = p.there.short }; is = p.is };
-      };
-      mapped = subst₂ (λ r n. IsMapped r source n template) rule k has.mapped;
-    }
+mapped_there first files from to source template k rule netlist params has = grind (arith, subst₂)
 
 -- a text has the same events wherever the same parameters may be named, by the same forms
 pub script_same : (first others : Files) (name other : List ℕ) (a b : NamesValue) (es fs : List EventValue) → get others other ≡ get first name → a.forms ≡ b.forms → a.params ≡ b.params → HasScript first name a es → HasScript others other b fs → es ≡ fs
-script_same first others name other a b es fs same forms params x y =
-    let texts : x.text ≡ y.text = same_Some x.text y.text (sym x.there.is ∙ sym same ∙ y.there.is) in
-    let reads : lines_of x.text ≡ Ok y.is.lines = ap (λ text. lines_of text) texts ∙ y.is.lines_are in
-    let oks : Ok x.is.lines ≡ Ok y.is.lines = sym x.is.lines_are ∙ reads in
-    let lines : x.is.lines ≡ y.is.lines = cc in
-    let events : (line : WordsLine) → line_event a line ≡ line_event b line = λ line.
-    ap (λ f. option_and_then (event_of a.params) (said_of f line.words)) forms ∙ ap (λ ps. option_and_then (event_of ps) (said_of b.forms line.words)) params in
-    same_Some es fs
-    (sym x.is.are.are
-    ∙ (ap (λ text. each_of (line_event a) (map (words_line text) x.is.lines)) texts
-    ∙ (ap (λ ls. each_of (line_event a) (map (words_line y.text) ls)) lines
-    ∙ (ap (λ e. each_of e (map (words_line y.text) y.is.lines)) (fun_ext events) ∙ y.is.are.are))))
+script_same first others name other a b es fs same forms params x y = grind (arith, same_Some, fun_ext)
 
 -- what a script may name by a source circuit's tables has the parameters of a pack of their bits
 pub params_same : (source : Source) (template : TemplateValue) (pack p : PackValue) → IsTunable source template pack → AreSame p pack → (names_of source template.bits).params ≡ (pack_names p).params

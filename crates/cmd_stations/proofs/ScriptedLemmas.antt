@@ -1,9 +1,9 @@
 -- A mapped source circuit with its script: what its files hold isn't refused, it is refused for one reason, and what its stations return explains how a command ends there.
-use Rattle.cmd_stations.proofs.Common.{◌≡◌, List, Option, refl, subst, RefusalValue, Files, ShelfSeen, TemplateValue, EventValue, event_values, Told, Explains, File, Outcome, IsPart, Explains_lift, Source, HasMapped, ReachesSource, names_in, HasScript, IsScriptRefused, IsScriptSettled, script_reading, ToTables, source_word, IsSourceSettled, source_reading, ScriptedWords, HasScripted, IsScriptedRefused, IsScriptedSettled, IsOfScripted, scripted_word, scripted_reading, ComesPast, ComesScripted}
+use Rattle.cmd_stations.proofs.Common.{◌≡◌, List, Option, refl, subst, RefusalValue, Files, ShelfSeen, TemplateValue, EventValue, event_values, Told, Explains, File, Outcome, IsPart, Explains_lift, Source, HasMapped, ReachesSource, names_in, HasScript, IsScriptRefused, IsScriptSettled, script_reading, ToTables, source_word, IsSourceSettled, source_reading, ScriptedWords, HasScripted, IsScriptedRefused, IsScriptedSettled, IsOfScripted, scripted_word, scripted_reading, ComesPast, ComesScripted, rules}
 use Rattle.cmd_stations.specs.declared.scripted.Scripted.{Scripted}
-use Rattle.cmd_stations.specs.Script as scripted
-use Rattle.cmd_stations.proofs.FileLemmas.{of_source, of_script}
+use Rattle.cmd_stations.proofs.StopLemmas.{of_source, of_script}
 use Rattle.cmd_stations.proofs.RefusedLemmas.{settled_once, template_once, source_or_not, events_or_not, source_refused_once, events_refused_once}
+use Rattle.cmd_stations.specs.Script as scripted
 
 module _ (files : Files) (words : ScriptedWords) (settled : IsScriptedSettled files words) where
   -- a script is refused behind the one source circuit that is mapped
@@ -23,10 +23,8 @@ module _ (files : Files) (words : ScriptedWords) (settled : IsScriptedSettled fi
   -- and what is refused is refused for one reason
   pub scripted_refused_once : (f e : File) (r s : RefusalValue) → IsScriptedRefused files words f r → IsScriptedRefused files words e s → r ≡ s
   scripted_refused_once f e r s (scripted.IsScriptedRefused.source one) (scripted.IsScriptedRefused.source other) = source_refused_once files words.source settled.source f e r s one other
-  scripted_refused_once f e r s (scripted.IsScriptedRefused.source one) (scripted.IsScriptedRefused.script source template past other) =
-      absurd (source_or_not files words.source settled.source source template f r past one)
-  scripted_refused_once f e r s (scripted.IsScriptedRefused.script source template past one) (scripted.IsScriptedRefused.source other) =
-      absurd (source_or_not files words.source settled.source source template e s past other)
+  scripted_refused_once f e r s (scripted.IsScriptedRefused.source one) (scripted.IsScriptedRefused.script source template past other) = search (rules, source_or_not)
+  scripted_refused_once f e r s (scripted.IsScriptedRefused.script source template past one) (scripted.IsScriptedRefused.source other) = search (rules, source_or_not)
   scripted_refused_once f e r s (scripted.IsScriptedRefused.script source template past one) (scripted.IsScriptedRefused.script again other_template has other) =
       events_refused_once files words.script (names_in words.forms again other_template.bits) f e r s (settled.script again other_template has) (refused_there source again template other_template f r past has one) other
 
@@ -75,7 +73,4 @@ script_to_scripted words old new o source template comes h =
 pub comes_scripted : (files : Files) (words : ScriptedWords) (s : Scripted) → ComesPast files words.source s.mapped
     → HasScript files words.script (names_in words.forms s.mapped.source s.mapped.tables.template.bits) (event_values s.events.items)
     → IsScriptSettled files words.script (names_in words.forms s.mapped.source s.mapped.tables.template.bits) → ComesScripted files words s
-comes_scripted files words s past script settled = record {
-  has = record { mapped = past.has; script = script };
-  settled = record { source = past.settled; script = names_settled words s.mapped.source s.mapped.tables.template files past.has past.settled settled };
-}
+comes_scripted files words s past script settled = search rules

@@ -4,8 +4,7 @@ use Rattle.std.proofs.lemmas.Simd.{map-map}
 use Rattle.machine.proofs.RefineLemmas.{refines_by}
 use Rattle.lut_sim.specs.Cycle.{lut_machine}
 use Rattle.aig_core.proofs.FitLemmas.{one_fit}
-use Rattle.bit_fun.specs.Configuration.{IsMapped}
-use Rattle.bit_fun.specs.Lawful.{IsLawful}
+use Rattle.bit_fun.specs.Configuration.{IsMapped, IsLawful}
 use Rattle.bit_fun.specs.PackLaw.{HasConfigurations}
 use Rattle.bit_fun.proofs.PackLemmas.{pack_made, params_len as pack_params}
 use Rattle.cmd_stations.proofs.SourceLemmas.{next_roots, source_shape, source_params, source_values_are, source_values_count}
@@ -39,8 +38,7 @@ pack_inits g luts list pack is = ap inits_of is.params_are ∙ map-map (λ p. p.
 
 pub pack_bits : (source : Source) (g : Aig) (t : TemplateValue) (pack : PackValue) → HasTables source g t → IsPackOf g t.luts source.params.list pack → length pack.bits ≡ t.bits
 pack_bits source g t pack h is =
-    let list = source.params.list in
-    ap length is.bits ∙ (pack_made g t.luts list (param_inits list) is.made (tables_mapped source g t h) (source_params source g h.is_graph.kinds) (length-map list (λ (p : Param). p.init)) is.makes).count ∙ sym h.least.mapping.sum
+    ap length is.bits ∙ (pack_made g t.luts _ (param_inits _) is.made (tables_mapped source g t h) (source_params source g h.is_graph.kinds) (length-map _ (λ (p : Param). p.init)) is.makes).count ∙ sym h.least.mapping.sum
 
 -- the tables' machine refines the source circuit's, under any values of the parameters
 module _ (source : Source) (read : IsReadSource source) (g : Aig) (normal : AreNormal (first_and g) g.pairs) (t : TemplateValue) (h : HasTables source g t) where

@@ -1,15 +1,15 @@
 -- What a station answers explains how a command ends there.
-use Rattle.cmd_stations.proofs.Common.{◌≡◌, ℕ, ◌≤◌, List, refl, sym, subst, MOST_BYTES, RefusalValue, too_long, most_bytes, File, Files, ShelfSeen, NamesValue, Stops, outcome_at, Told, Explains, Outcome, Stop, Refused, Memory, Source, SourceWords, HasText, IsLongText, IsNetlistText, NetlistRefusal, IsParamsRefusal, IsScriptRefusal, Aim, IsUnmade, HasNetlist, HasParams, HasSource, long_netlist, netlist, long_params, params, unmade, script_reading, IsTextSettled, IsNetlistSettled, AreParamsSettled, IsMakingSettled, IsSourceSettled, source_reading, ComesFrom, ComesWith, IsUnread, InFiles, FileReading, IsOverlong}
+use Rattle.cmd_stations.proofs.Common.{◌≡◌, ℕ, ◌≤◌, List, refl, sym, subst, MOST_BYTES, RefusalValue, too_long, most_bytes, File, Files, ShelfSeen, NamesValue, Stops, outcome_at, Told, Explains, Outcome, Stop, Refused, Memory, Source, SourceWords, HasText, IsLongText, IsNetlistText, NetlistRefusal, IsParamsRefusal, IsScriptRefusal, Aim, IsUnmade, HasNetlist, HasParams, HasSource, long_netlist, netlist, long_params, params, unmade, script_reading, IsTextSettled, IsNetlistSettled, AreParamsSettled, IsMakingSettled, IsSourceSettled, source_reading, ComesFrom, ComesWith, IsUnread, InFiles, FileReading, IsOverlong, arith}
 use Rattle.param_list.specs.ParamsText.{IsParamsText, HasOneReading}
-use Rattle.run_text.specs.ScriptText as script_text
-use Rattle.cmd_base.specs.declared.outcome.File.TheVariants as file
 use Rattle.cmd_stations.specs.declared.netlist_text.Netlist.{Netlist as NetlistValue}
-use Rattle.cmd_stations.specs.Script as script
-use Rattle.cmd_stations.specs.Stops as unread
-use Rattle.cmd_stations.proofs.FileLemmas.{text_once, short_or_long}
+use Rattle.cmd_stations.proofs.StopLemmas.{text_once, short_or_long}
 use Rattle.cmd_stations.proofs.TextLemmas.{params_or_refused}
 use Rattle.cmd_stations.proofs.LengthLemmas.{netlist_not_long, params_not_long, unmade_not_long, script_not_long}
 use Rattle.cmd_stations.proofs.RefusedLemmas.{netlist_once, source_once}
+use Rattle.run_text.specs.ScriptText as script_text
+use Rattle.cmd_base.specs.declared.outcome.File.TheVariants as file
+use Rattle.cmd_stations.specs.Script as script
+use Rattle.cmd_stations.specs.Stops as unread
 
 -- how a reading ends at a file that isn't read, or whose content is refused
 module _ (reading : FileReading) (f : File) (old new : ShelfSeen) (is_read : reading.IsRead f) (given : new.given ≤ most_bytes f → reading.HasGiven f new.given) where
@@ -61,8 +61,7 @@ module _ (aim : Aim) (files : Files) (words : SourceWords) where
   }
 
   long_params_settles : (n : NetlistValue) → ComesFrom files words n → IsLongText files words.params → IsSourceSettled aim files words
-  long_params_settles n comes long =
-      unlisted_settles n comes (λ text there. absurd (short_or_long files words.params text there long)) (λ source has. short_or_long files words.params has.params.text has.params.there long)
+  long_params_settles n comes long = grind arith
 
   params_settles : (n : NetlistValue) (text : List ℕ) (r : RefusalValue) → ComesFrom files words n → HasText files words.params text → HasOneReading n.flat text → IsParamsRefusal n.flat text r → IsSourceSettled aim files words
   params_settles n text r comes there one refused = unlisted_settles n comes (list_settles files words n text there one) none
@@ -104,8 +103,7 @@ module _ (aim : Aim) (words : SourceWords) (old new : ShelfSeen) where
       → Stops (λ _. IsMakingSettled aim words.rule source words.k) s → Explains (source_reading aim words) old new o
   made_explains source s o at g comes u settled =
       let Unmade = IsUnmade aim words.rule source words.k in
-      let Settled = IsMakingSettled aim words.rule source words.k in
-      stop_ends (source_reading aim words) file.Netlist old new tt (λ n. n) (λ r. Unmade r × Settled) s o at g (stops_both Unmade Settled s u settled) (λ r both. unmade_not_long aim words.rule source words.k r both.0)
+      stop_ends (source_reading aim words) file.Netlist old new tt (λ n. n) (λ r. Unmade r × _) s o at g (stops_both Unmade _ s u settled) (λ r both. unmade_not_long aim words.rule source words.k r both.0)
       (λ r both files told. (unmade refl source (comes files told).has both.0, making_settles aim files words source (comes files told) both.1))
 
 -- and so do those of a script

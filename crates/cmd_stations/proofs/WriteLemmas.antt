@@ -1,5 +1,5 @@
 -- What is written: a file, the files of a job one after the other and then its line, and the job of a command that does so.
-use Rattle.cmd_stations.proofs.Common.{◌≡◌, take, Option, Result, Ok, Err, inl, inr, ◌⊎◌, sym, ap, ◌∙◌, subst, option_map, Puts, FileText, HasPrefix, WritesFile, ℕ, List, ◌∷◌, ◌++◌, refl, PortSeen, SinkSeen, IsPut, HasWriteFault, Outside, outside, CommandWalk, with_texts, IsCut, WritesAll, ◌≤◌, Some, MOST_BYTES, AreWritten, writing_outcome, Told, IsBegun, IsBegunFrom, Ends, Outcome, Aim, SourceWords, Files, ShelfSeen, apart, written, emptied}
+use Rattle.cmd_stations.proofs.Common.{◌≡◌, take, Option, Result, Ok, Err, inl, inr, ◌⊎◌, sym, ap, ◌∙◌, subst, option_map, Puts, FileText, HasPrefix, WritesFile, ℕ, List, ◌∷◌, ◌++◌, refl, PortSeen, SinkSeen, IsPut, HasWriteFault, Outside, outside, CommandWalk, with_texts, IsCut, WritesAll, ◌≤◌, Some, MOST_BYTES, AreWritten, writing_outcome, Told, IsBegun, IsBegunFrom, Ends, Outcome, Aim, SourceWords, Files, ShelfSeen, apart, written, emptied, arith}
 use Rattle.tl_io.proofs.WrittenLemmas.{files_written}
 use Rattle.tl_io.specs.Causes.{Rose}
 use Rattle.cmd_base.specs.declared.outcome.Outcome.TheVariants as outcome
@@ -14,9 +14,7 @@ written_ends text old mid new (Err e) at begun put same = inr (inr (put.0, put.1
 -- the same through a sink over a lent shelf, which has what the sink left once it is gone
 pub written_over : {E : Type 0} {S : Type 0} (seen : S → ShelfSeen) (text : FileText) (old begun over put new : S) (r : Result Unit E) → over ≡ begun → new ≡ put → (seen begun).writing ≡ option_map (λ _. text.name) (seen old).files
     → (seen begun).files ≡ emptied (seen old).files text.name → Puts (written (seen over)) (written (seen put)) text.bytes r → apart (seen put) ≡ apart (seen over) → WritesFile text (seen old).files (seen new).files r
-written_over seen text old begun over put new r lent back at empty puts same =
-    subst (λ s. WritesFile text (seen old).files (seen s).files r) (sym back)
-    (written_ends text (seen old) (seen over) (seen put) r (ap (λ s. (seen s).writing) lent ∙ at) (ap (λ s. (seen s).files) lent ∙ empty) puts same)
+written_over seen text old begun over put new r lent back at empty puts same = grind (arith, written_ends)
 
 -- where it was not begun, it is as before or empty
 pub not_begun : (text : FileText) (old new : Option Files) → (new ≡ old) ⊎ (new ≡ emptied old text.name) → HasPrefix text old new
@@ -26,17 +24,7 @@ not_begun text old new (inr empty) = inr (inl empty)
 -- a fault of writing in a file: those before it are there
 pub cut_in_file : (before : List FileText) (cut : FileText) (after : List FileText) (line : List ℕ) (old mid new : ShelfSeen) (out : SinkSeen) (ports : List PortSeen) → mid.files ≡ with_texts old.files before
     → HasPrefix cut mid.files new.files → Rose old.write_faults new.write_faults → IsCut (before ++ cut ∷ after) line (outside old out ports) (outside new out ports)
-cut_in_file before cut after line old mid new out ports same prefix rose = inl (record {
-  before = before;
-  cut = cut;
-  after = after;
-  split = refl;
-  files = subst (λ (fs : Option Files). HasPrefix cut fs new.files) same prefix;
-  cause = rose;
-  bytes = refl;
-  put_faults = refl;
-  ports = refl;
-})
+cut_in_file before cut after line old mid new out ports same prefix rose = grind arith
 
 -- all files are there, and then the line is, or a prefix of it
 pub line_ends : {E : Type 0} (texts : List FileText) (line : List ℕ) (old new : ShelfSeen) (before after : SinkSeen) (ports : List PortSeen) (r : Result Unit E) → new.files ≡ with_texts old.files texts

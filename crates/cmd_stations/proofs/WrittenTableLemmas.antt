@@ -1,5 +1,5 @@
 -- The LUTs of a source circuit that was read can be written: they are few, their numbers are small, and an output that is a regular input has this input as its root.
-use Rattle.cmd_stations.proofs.Common.{◌≡◌, ℕ, zero, suc, ◌+◌, ◌-◌, ◌*◌, ◌/◌, ◌^◌, ◌<◌, ◌≤◌, Bool, true, cond, ◌&&◌, leb, ltb, List, [], length, map, Some, refl, sym, ap, ◌∙◌, inl, inr, subst, subst₂, arith, slice_get, slice_index_or, option_map, and_from, or_left, le-leb, none-some, same_Some, slice_get-map, slice_get_within, get_or_from_slice_get, In, place_in, length-filter_le, get_left, AreOnce, LibraryValue, FlatLatch, OutPort, FlatValue, Places, IsFlat, IsNumbered, IsNetOf, AreNetsOf, In-filter, Param, param_names, regular_names, is_split, Lit, Pair, Aig, node_count, GRAPH_ROOM, Literals, input_names, IsSourceLiteral, Makes, a_source, MakesAll, none, more, Lut, IsTableOf, bits_of, TemplateValue, IsPlayable, is_regular, last_source, HasPorts, AreTablesOf, naming_of, literal_name, latch_name, Source, shape_of, HasTables, IsReadSource}
+use Rattle.cmd_stations.proofs.Common.{◌≡◌, ℕ, zero, suc, ◌+◌, ◌-◌, ◌*◌, ◌/◌, ◌^◌, ◌<◌, ◌≤◌, Bool, true, cond, ◌&&◌, leb, ltb, List, [], length, map, Some, refl, sym, ap, ◌∙◌, inl, inr, subst, subst₂, arith, slice_get, slice_index_or, option_map, and_from, or_left, le-leb, none-some, same_Some, slice_get-map, slice_get_within, get_or_from_slice_get, In, place_in, length-filter_le, get_left, AreOnce, LibraryValue, FlatLatch, OutPort, FlatValue, Places, IsFlat, IsNumbered, IsNetOf, AreNetsOf, In-filter, Param, param_names, regular_names, is_split, Lit, Pair, Aig, node_count, GRAPH_ROOM, Literals, input_names, IsSourceLiteral, Makes, a_source, MakesAll, none, more, Lut, IsTableOf, bits_of, TemplateValue, IsPlayable, is_regular, last_source, HasPorts, AreTablesOf, naming_of, literal_name, latch_name, Source, shape_of, HasTables, IsReadSource, rules}
 use Rattle.netlist.specs.declared.flat.FlatNet.{FlatNet}
 use Rattle.netlist.specs.declared.flat.FlatNet.TheVariants.{Input, Latch}
 use Rattle.netlist.specs.Flat as flat_fields
@@ -29,12 +29,8 @@ record IsMade (library : LibraryValue) (flat : FlatValue) (params : List Param) 
 made_at : (library : LibraryValue) (flat : FlatValue) (params : List Param) {pairs : List Pair} {nets : List FlatNet} {made : Literals} → MakesAll library flat params pairs nets made → (i : ℕ) (net : FlatNet) (lit : Lit)
     → slice_get nets i ≡ Some net → slice_get made.lits i ≡ Some lit → IsMade library flat params net lit.0
 made_at library flat params (none no_nets is) i net lit at there = absurd (none-some net (sym (ap (λ (ns : List FlatNet). slice_get ns i) no_nets) ∙ at))
-made_at library flat params {pairs = pairs} (more first rest this others are one all is) zero net lit at there =
-    let same : first ≡ net = same_Some first net (sym (ap (λ (ns : List FlatNet). slice_get ns 0) are) ∙ at) in
-    let made : record { 0 = this.lit } ≡ lit = same_Some (record { 0 = this.lit }) lit (sym (ap (λ (m : Literals). slice_get m.lits 0) is) ∙ there) in
-    record { before = pairs; answer = this; makes = subst (λ (n : FlatNet). Makes library flat params pairs n this) same one; is = ap (λ (l : Lit). l.0) (sym made) }
-made_at library flat params (more first rest this others are one all is) (suc i) net lit at there =
-    made_at library flat params all i net lit (sym (ap (λ (ns : List FlatNet). slice_get ns (suc i)) are) ∙ at) (sym (ap (λ (m : Literals). slice_get m.lits (suc i)) is) ∙ there)
+made_at library flat params {pairs = pairs} (more first rest this others are one all is) zero net lit at there = grind (arith, same_Some, library, flat)
+made_at library flat params (more first rest this others are one all is) (suc i) net lit at there = grind (arith, library, flat, made_at library flat params all i net lit (sym (ap (λ (ns : List FlatNet). slice_get ns (suc i)) are) ∙ at) (sym (ap (λ (m : Literals). slice_get m.lits (suc i)) is) ∙ there))
 
 -- an input's net is made into its source's literal
 made_input : (library : LibraryValue) (flat : FlatValue) (params : List Param) {pairs : List Pair} {net : FlatNet} {answer : Answer} → Makes library flat params pairs net answer → (j : ℕ) → net ≡ Input j → IsSourceLiteral flat params net answer.lit
@@ -47,19 +43,14 @@ record IsPlaced (flat : FlatValue) (params : List Param) (name : List ℕ) (lit 
   is : lit ≡ 2 * (1 + place)
 
 placed_at : (flat : FlatValue) (params : List Param) (net : FlatNet) (lit j : ℕ) (name : List ℕ) → IsSourceLiteral flat params net lit → net ≡ Input j → slice_get flat.inputs j ≡ Some name → IsPlaced flat params name lit
-placed_at flat params net lit j name (graph.IsSourceLiteral.an_input i place other e there at is) same here =
-    let numbers : Input i ≡ Input j = sym e ∙ same in
-    let places : i ≡ j = cc in
-    let names : other ≡ name = same_Some other name (sym there ∙ (ap (λ (k : ℕ). slice_get flat.inputs k) places ∙ here)) in
-    record { place = place; at = at ∙ ap (λ (n : List ℕ). Some n) names; is = is }
+placed_at flat params net lit j name (graph.IsSourceLiteral.an_input i place other e there at is) same here = grind arith
 placed_at flat params net lit j name (graph.IsSourceLiteral.a_latch k e is) same here = absurd (let numbers : Latch k ≡ Input j = sym e ∙ same in let wrong : ⊥ = cc in wrong)
 
 -- the nets of names by their places
 net_at : (library : LibraryValue) (at : Places) {path : List ℕ} {names : List (List ℕ)} {numbers : List FlatNet} → AreNetsOf library at path names numbers → (i : ℕ) (name : List ℕ) (number : FlatNet)
     → slice_get names i ≡ Some name → slice_get numbers i ≡ Some number → IsNetOf library at path name number
 net_at library at flat_fields.AreNetsOf.none i name number here there = absurd (none-some name here)
-net_at library at {path = path} (flat_fields.AreNetsOf.more first names one numbers is are) zero name number here there =
-    subst₂ (λ (n : List ℕ) (k : FlatNet). IsNetOf library at path n k) (same_Some first name here) (same_Some one number there) is
+net_at library at {path = path} (flat_fields.AreNetsOf.more first names one numbers is are) zero name number here there = grind arith
 net_at library at (flat_fields.AreNetsOf.more first names one numbers is are) (suc i) name number here there = net_at library at are i name number here there
 
 -- the number of an input's net is that of a name's net
@@ -69,10 +60,7 @@ record IsInputNumber (flat : FlatValue) (name : List ℕ) (number : FlatNet) : T
   at : slice_get flat.inputs place ≡ Some name
 
 input_number : (flat : FlatValue) (at : Places) (net : Net) (name : List ℕ) (number : FlatNet) → at.inputs ≡ flat.inputs → IsNumbered at net number → net ≡ input_net name → IsInputNumber flat name number
-input_number flat at net name number places (flat_fields.IsNumbered.an_input other j e there is) same =
-    let nets : input_net other ≡ input_net name = sym e ∙ same in
-    let names : other ≡ name = cc in
-    record { place = j; is = is; at = subst (λ (ns : List (List ℕ)). slice_get ns j ≡ Some name) places (there ∙ ap (λ (n : List ℕ). Some n) names) }
+input_number flat at net name number places (flat_fields.IsNumbered.an_input other j e there is) same = search rules
 input_number flat at net name number places (flat_fields.IsNumbered.a_latch p j e there is) same = absurd (let wrong : ⊥ = cc in wrong)
 input_number flat at net name number places (flat_fields.IsNumbered.a_cover p j e there is) same = absurd (let wrong : ⊥ = cc in wrong)
 
@@ -116,8 +104,7 @@ module _ (source : Source) (read : IsReadSource source) where
   output_input : (i : ℕ) (o : OutPort) → slice_get flat.outputs i ≡ Some o → In (regular_names flat params) o.name → IsInputNumber flat o.name o.net
   output_input i o at regular =
       let n : IsNetOf library fields.at [] o.name o.net = output_net i o at in
-      let own : Drives library [] o.name (input_net o.name) = main_input refl (main_in o.name (regular_in o.name regular)) refl in
-      input_number flat fields.at n.net o.name o.net fields.places n.numbered (one_net library read.netlist.sound.driven n.drives own)
+      input_number flat fields.at n.net o.name o.net fields.places n.numbered (one_net library read.netlist.sound.driven n.drives (main_input refl (main_in o.name (regular_in o.name regular)) refl))
 
   module _ (g : Aig) (t : TemplateValue) (tables : HasTables source g t) where
     -- the literal of an output's root

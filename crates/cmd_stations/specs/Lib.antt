@@ -9,7 +9,6 @@ pub mod Packs
 -- what the tables, their bits and the written netlists mean,
 pub mod Tunable
 pub mod Written
-pub mod WrittenFiles
 -- and what events do to a machine and to its host, and put.
 pub mod Machine
 pub mod Host

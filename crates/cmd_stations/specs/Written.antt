@@ -15,6 +15,8 @@ use Rattle.blif_write.specs.Netlists.{specialised_netlist, template_netlist}
 use Rattle.blif_write.specs.Meaning.{free_control, all_bit_names, input_bits}
 use Rattle.cmd_stations.specs.declared.source.Source.{Source}
 use Rattle.cmd_stations.specs.SourceCircuit.{source_machine}
+use Rattle.cmd_base.specs.Writing.{FileText}
+use Rattle.cmd_stations.specs.declared.mapped.MappedSource.{MappedSource}
 
 -- the values of the regular inputs, by their names
 abbrev pub regular_values : Source → (List ℕ → Bool) → List Bool
@@ -51,3 +53,19 @@ specialised_of source template config = specialised_netlist source.netlist.flat 
 
 abbrev pub template_of : Source → TemplateValue → PlainNetlist
 template_of source template = template_netlist source.netlist.flat source.params.list template
+
+-- The two netlists of a mapped source circuit as files, and what they mean.
+module _ (m : MappedSource) where
+  -- its netlist under a configuration, which runs as the source circuit under the values of the parameters that have this configuration
+  abbrev pub specialised_text : List Bool → List ℕ → FileText
+  specialised_text config name = record { name = name; bytes = netlist_text (specialised_of m.source m.tables.template config) }
+
+  abbrev pub RunsSpecialised : List Bool → Type 0
+  RunsSpecialised config = (params : List Bool) → length params ≡ length m.source.params.list → IsConf m.tables.pack params config → RunsAs m.source params (specialised_of m.source m.tables.template config)
+
+  -- its template
+  abbrev pub template_text : List ℕ → FileText
+  template_text name = record { name = name; bytes = netlist_text (template_of m.source m.tables.template) }
+
+  abbrev pub IsTunedSource : Type 0
+  IsTunedSource = IsTuned m.source m.tables.template m.tables.pack (template_of m.source m.tables.template)

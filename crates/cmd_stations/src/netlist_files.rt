@@ -3,8 +3,7 @@ ghost use Rattle.std.specs.Prelude.{◌≡◌};
 ghost use Rattle.tl_io.specs.Causes.{HasCause};
 ghost use Rattle.tl_io.specs.Sink.{IsPut};
 ghost use Rattle.blif_write.specs.PlainNetlist.{netlist_text};
-ghost use Rattle.cmd_stations.specs.Written.{specialised_of, template_of};
-ghost use Rattle.cmd_stations.specs.WrittenFiles.{specialised_text, RunsSpecialised, template_text, IsTunedSource};
+ghost use Rattle.cmd_stations.specs.Written.{specialised_of, template_of, specialised_text, RunsSpecialised, template_text, IsTunedSource};
 ghost use Rattle.cmd_stations.specs.FileWrites.{WritesFile};
 ghost use Rattle.cmd_stations.specs.Tables.{IsDraft};
 

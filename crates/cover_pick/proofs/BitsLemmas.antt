@@ -4,8 +4,7 @@ use Rattle.cover_pick.proofs.Common.{◌≡◌, ℕ, ◌+◌, ◌^◌, ◌≤◌
 pub base_within : (b : ℕ) (ts : List Lut) (t : Lut) → HaveBases b ts → In ts t → t.base + 2 ^ length t.leaves ≤ b + bits_of ts
 base_within b [] t h i = elim i [ ]
 base_within b (u ∷ ts) t h (inl e) =
-    let s : bits_of (u ∷ ts) ≡ 2 ^ length u.leaves + bits_of ts = sum_by-cons (λ (x : Lut). 2 ^ length x.leaves) u ts in
-    subst (λ (x : Lut). x.base + 2 ^ length x.leaves ≤ b + bits_of (u ∷ ts)) (sym e) (omega arith)
+    subst (λ (x : Lut). x.base + 2 ^ length x.leaves ≤ b + bits_of (u ∷ ts)) (sym e) (omega (arith, sum_by-cons (λ (x : Lut). 2 ^ length x.leaves) u ts))
 base_within b (u ∷ ts) t h (inr i) = search (rules, sum_by-cons, base_within (b + 2 ^ length u.leaves) ts t h.1 i)
 
 bits_own : (once : ℕ → Type 0) (g : Aig) (ts : List Lut) (work : ℕ) → IsOwnWork g once ts work → bits_of ts ≤ work

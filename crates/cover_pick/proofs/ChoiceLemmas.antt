@@ -204,21 +204,10 @@ module _ (cost : List ℕ → ℕ) (label : ℕ → ℕ) (r : ℕ) where
   not_later b e h = elim (cases_Bool (comes_before b e)) [ inl t ↦ inr t | inr f ↦ inl (before_none b e f h) ]
 
   kept_over : (b e : List ℕ) → cost b ≤ cost e → ((eqb (cost e) (cost b)) && comes_before e b) ≡ false → Cheaper b e
-  kept_over b e l t = elim (cases_eq (cost e) (cost b)) [
-    | inl q ↦ elim (cases_Bool (comes_before e b)) [
-      | inl s ↦ absurd (both_ways ((eqb (cost e) (cost b)) && comes_before e b) t (and_from (eqb (cost e) (cost b)) (comes_before e b) (eq-eqb (cost e) (cost b) q) s))
-      | inr s ↦ earlier (sym q) (not_later b e s)
-    ]
-    | inr d ↦ less (omega arith)
-  ]
+  kept_over b e l t = search (rules, cases_eq, cases_Bool, both_ways, eqb, and_from, eq-eqb, not_later)
 
   kept : (b e : List ℕ) → Kept b e (cheaper cost (Some b) e)
-  kept b e =
-      choose (Kept b e) (ltb (cost e) (cost b)) (Some e) (cond ((eqb (cost e) (cost b)) && comes_before e b) (Some e) (Some b))
-      (λ t. kept_new b e (less (ltb-true (cost e) (cost b) t)))
-      (λ f. choose (Kept b e) ((eqb (cost e) (cost b)) && comes_before e b) (Some e) (Some b)
-      (λ t. let p = and_parts (eqb (cost e) (cost b)) (comes_before e b) t in kept_new b e (earlier (eqb-true (cost e) (cost b) p.0) (inr p.1)))
-      (λ t. kept_old b e (kept_over b e (ltb-false (cost e) (cost b) f) t)))
+  kept b e = grind (arith, ltb, cond, eqb, kept_new, ltb-true, and_parts, eqb-true, kept_old, kept_over, ltb-false)
 
   -- what is found is the first of the least cost
   pub cheapest_first : (cs : List (List ℕ)) (o : Option (List ℕ)) (c : List ℕ) → ((b : List ℕ) → o ≡ Some b → height label b ≤ r)
@@ -294,8 +283,7 @@ module _ (flows : List ℕ) (reqs : List (Option ℕ)) (needed : ℕ → Type 0)
   leaves_only : (c : List ℕ) (cost : ℕ) → AreLeafCosts (flow_at flows) needed c cost → cost ≡ sum_by (leaf_cost flows reqs) c
   leaves_only [] cost a = a
   leaves_only (m ∷ ms) cost a =
-      let first : a.0 ≡ leaf_cost flows reqs m = leaf_only m a.0 (need reqs m) refl a.2 in
-      omega (arith, leaves_only ms a.1 a.3, sum_by-cons (leaf_cost flows reqs) m ms, a.4)
+      omega (arith, leaf_only m a.0 (need reqs m) refl a.2, leaves_only ms a.1 a.3, sum_by-cons (leaf_cost flows reqs) m ms, a.4)
 
   pub cost_only : (c : List ℕ) (cost : ℕ) → IsCost (flow_at flows) needed c cost → cost ≡ cut_cost flows reqs c
   cost_only c cost a = grind (arith, leaves_only)

@@ -1,5 +1,5 @@
 -- What the marks find is the tables by their own words.
-use Rattle.cover_pick.proofs.Common.{◌≡◌, ℕ, ◌-◌, ◌*◌, ◌/◌, ◌%◌, ◌<◌, ◌≤◌, cond, List, [], ◌∷◌, Option, Some, None, refl, sym, ap, ◌∙◌, subst, inl, inr, arith, slice_get, same_Some, cases_lt, cases_eq, eq-eqb, Aig, first_and, node_count, IsAnd, Regular, Parameter, Lit, RootsValue, roots_of, AreRoots, In, OrMemory, source_below, refusal_of, PickErr, Work, Memory, target, Supply, IsSupplied, HasPlan, cut_at, and_depths, depths_of, CanBeLeaf, once_by, IsPast, IsWithin, ArePicked, Result, Ok, Err, IfOk, IfErr, TablesWithin, AreChosen, IsTemplate, AreTimely, IsTooMuch}
+use Rattle.cover_pick.proofs.Common.{◌≡◌, ℕ, ◌-◌, ◌*◌, ◌/◌, ◌%◌, ◌<◌, ◌≤◌, cond, List, [], ◌∷◌, Option, Some, None, refl, sym, ap, ◌∙◌, subst, inl, inr, arith, slice_get, same_Some, cases_lt, cases_eq, eq-eqb, Aig, first_and, node_count, IsAnd, Regular, Parameter, Lit, RootsValue, roots_of, AreRoots, In, OrMemory, source_below, refusal_of, PickErr, Work, Memory, target, Supply, IsSupplied, HasPlan, cut_at, and_depths, depths_of, CanBeLeaf, once_by, IsPast, IsWithin, ArePicked, Result, Ok, Err, IfOk, IfErr, TablesWithin, AreChosen, IsTemplate, AreTimely, IsTooMuch, rules}
 use Rattle.cover_pick.specs.Tables.{IsNeeded, root, leaf, IsLeaves, constant, parameter, source, node}
 use Rattle.cover_pick.specs.Marks.{IsMarked, root as marked_root, leaf as marked_leaf, leaves_of, source_leaves, Made, IsMade, tables_of, AreMade}
 use Rattle.cover_pick.proofs.TableLemmas.{tables_needed}
@@ -19,16 +19,7 @@ needed_is roots cuts l (root i) = marked_root i
 needed_is roots cuts l (leaf n m c at i e) = marked_leaf c m (cut_in cuts n c at) i e
 
 leaves_are : (g : Aig) (cuts : List (Option (List ℕ))) (l : ℕ) (c : List ℕ) → l < 2 * node_count g → leaves_of g cuts l ≡ Some c → IsLeaves g (cut_at cuts) l c
-leaves_are g cuts l c b e = elim (cases_eq (l / 2) 0) [
-  | inl z ↦ constant z (sym (same_Some [] c (sym (leaves_zero g cuts l z) ∙ e)))
-  | inr d ↦ elim (cases_lt (l / 2) (first_and g)) [
-    | inl s ↦ elim (kind_there g (l / 2) d s) [
-      | inl r ↦ (let h = regular_leaves l c (sym (ap (λ o. source_leaves o (l / 2) (l % 2)) r.is) ∙ (sym (leaves_source g cuts l d s) ∙ e)) in source r h.0 h.1)
-      | inr r ↦ parameter r (sym (same_Some [] c (sym (ap (λ o. source_leaves o (l / 2) (l % 2)) r.is) ∙ (sym (leaves_source g cuts l d s) ∙ e))))
-    ]
-    | inr s ↦ node (let and : IsAnd g (l / 2) = (s, omega arith) in sym (leaves_and g cuts l and) ∙ e)
-  ]
-]
+leaves_are g cuts l c b e = search (rules, cases_eq, same_Some, leaves_zero, cases_lt, kind_there, regular_leaves, leaves_source, leaves_and)
 
 source_there : (g : Aig) (cuts : List (Option (List ℕ))) (l : ℕ) → 1 ≤ l / 2 → l / 2 < first_and g → leaves_of g cuts l ≡ source_leaves (slice_get g.kinds (l / 2 - 1)) (l / 2) (l % 2)
 source_there g cuts l a b = leaves_source g cuts l (λ z. omega arith) b
@@ -68,8 +59,7 @@ module _ (supply : Supply) (g : Aig) (label : ℕ → ℕ) (roots : List ℕ) (m
   pub timely_is : IsSupplied supply g label → AreTimely supply g label roots made.luts
   timely_is t = record {
     each = λ reqs cover plan u r i e.
-        let same : reqs (u.lit.0 / 2) ≡ and_depths g (depths_of a.rule g a.rows label roots a.flows) (u.lit.0 / 2) =
-        ap (λ d. d (u.lit.0 / 2)) (plan_once supply g label roots t reqs (and_depths g (depths_of a.rule g a.rows label roots a.flows)) cover (cut_at a.cuts) plan a.chosen).0 in
+        let same : reqs (u.lit.0 / 2) ≡ and_depths g (depths_of a.rule g a.rows label roots a.flows) (u.lit.0 / 2) = grind (arith, plan_once) in
         let d = depth_from g (depths_of a.rule g a.rows label roots a.flows) (u.lit.0 / 2) r (sym same ∙ e) in
         let and : IsAnd g (u.lit.0 / 2) = node_of a.rule g a.rows label roots a.flows (cut_at a.cuts) a.plan (u.lit.0 / 2) r (sym same ∙ e) in
         to_tables g a.serving.k roots a.cuts made (a.plan.least a.serving.k a.serving.served).is a.tables (a.plan.timely (u.lit.0 / 2) r and d.1) u.lit.0 refl and (a.tables.only u i).0;
@@ -106,11 +96,7 @@ too_much_told supply g label roots cuts h lits Memory l = tt
 pub are_picked : (supply : Supply) (g : Aig) (label : ℕ → ℕ) (roots : List ℕ) (cuts : List (Option (List ℕ))) → HasPlan supply g label roots cuts → AreRoots g roots → (r : Result Made PickErr)
     → IfOk r (λ made. made ≡ tables_of g roots cuts) → IfOk r (λ made. IsWithin g (once_by supply g made.luts) made.luts)
     → IfErr r (OrMemory refusal_of (λ _. IsPast g (once_by supply g (tables_of g roots cuts).luts) (tables_of g roots cuts).luts)) → ArePicked supply g label roots r
-are_picked supply g label roots cuts h lits (Ok made) e light past = record {
-  ok = subst (IsMade supply g label roots) (sym e) (tables_made supply g label roots cuts h lits);
-  light = light_is supply g made.luts light;
-  err = tt;
-}
+are_picked supply g label roots cuts h lits (Ok made) e light past = search (rules, tables_made, light_is)
 are_picked supply g label roots cuts h lits (Err e) ok light past = record { ok = tt; light = tt; err = too_much_told supply g label roots cuts h lits e past }
 
 pub template_is : (supply : Supply) (g : Aig) (label : ℕ → ℕ) (roots : RootsValue) (made : Made) (outputs next : List Lit) (depth : ℕ) → AreRoots g (roots_of roots) → IsMade supply g label (roots_of roots) made

@@ -1,5 +1,5 @@
 -- The work of LUTs as it is counted is their work: that of each by itself, and the nodes that are counted once.
-use Rattle.cover_pick.proofs.Common.{◌≡◌, ℕ, ◌+◌, ◌*◌, ◌/◌, ◌^◌, ◌<◌, ◌≤◌, Bool, false, List, [], ◌∷◌, length, refl, sym, ap, ◌∙◌, subst, inl, inr, arith, replicate, length-replicate, false≢true, get_or-replicate, get_or_past, cases_lt, Aig, first_and, node_count, AreNormal, In, Lut, MOST_WORK, MOST_LEAVES, Path, here, left, right, IsTableWork, IsOwnWork, AreShared, IsWork, mark_of, once_in, IsBelowMet, MeetsCone, HasBelowMet, IsPast, AreCountable, CountOnce, AreMet, IsOwnWorkTo, AscendByLit, SearchValue, stamp_at}
+use Rattle.cover_pick.proofs.Common.{◌≡◌, ℕ, ◌+◌, ◌*◌, ◌/◌, ◌^◌, ◌<◌, ◌≤◌, Bool, false, List, [], ◌∷◌, length, refl, sym, ap, ◌∙◌, subst, inl, inr, arith, replicate, length-replicate, false≢true, get_or-replicate, get_or_past, cases_lt, Aig, first_and, node_count, AreNormal, In, Lut, MOST_WORK, MOST_LEAVES, Path, here, left, right, IsTableWork, IsOwnWork, AreShared, IsWork, mark_of, once_in, IsBelowMet, MeetsCone, HasBelowMet, IsPast, AreCountable, CountOnce, AreMet, IsOwnWorkTo, AscendByLit, SearchValue, stamp_at, rules}
 use Rattle.cover_pick.proofs.OwnLemmas.{path_on, marked_or_not, works_there, shared_there}
 
 -- bits of a LUT and nodes of a cone are few
@@ -7,10 +7,7 @@ pub work_small : (bits size count : ℕ) → bits ≤ 2 ^ MOST_LEAVES → size �
 work_small bits size count b s l = grind arith
 
 clear : (n m : ℕ) → mark_of (replicate n false) m ≡ false
-clear n m = elim (cases_lt m n) [
-  | inl l ↦ get_or-replicate n m false false l
-  | inr l ↦ get_or_past (replicate n false) m false (omega (arith, l, length-replicate n false))
-]
+clear n m = search (rules, cases_lt, get_or-replicate, get_or_past, length-replicate)
 
 -- no marks are of nodes that can be counted once
 pub none_once : (g : Aig) (ts : List Lut) → CountOnce g ts []
@@ -20,14 +17,7 @@ pub met_start : (g : Aig) (once : List Bool) (ts : List Lut) → AreMet g once t
 met_start g once ts = record { size = length-replicate (node_count g) false; only = λ m e. absurd (false≢true (sym (clear (node_count g) m) ∙ e)); all = λ t i. inl i }
 
 met_step : (g : Aig) (once : List Bool) (ts later : List Lut) (t : Lut) (old new : List Bool) → In ts t → MeetsCone g once t.leaves (t.lit.0 / 2) old new → AreMet g once ts (t ∷ later) old → AreMet g once ts later new
-met_step g once ts later t old new among m a = record {
-  size = m.size;
-  only = λ n e. elim (m.only n e) [ inl o ↦ a.only n o | inr r ↦ (r.0, t, among, r.1) ];
-  all = λ u j. elim (a.all u j) [
-    | inl i ↦ elim i [ inl e ↦ inr (subst (λ (v : Lut). (n : ℕ) → Path g v.leaves n (v.lit.0 / 2) → once_in once n → IsBelowMet g new n) (sym e) m.all) | inr k ↦ inl k ]
-    | inr f ↦ inr (λ n p o. let b = f n p o in record { top = b.top; is_met = m.kept b.top b.is_met; path = b.path })
-  ];
-}
+met_step g once ts later t old new among m a = search rules
 
 own_start : (g : Aig) (once : ℕ → Type 0) (ts : List Lut) → IsOwnWorkTo g once ts ts 0
 own_start g once ts = record { more = λ rest is. let e : rest ≡ 0 + rest = omega arith in subst (λ w. IsOwnWork g once ts w) e is }

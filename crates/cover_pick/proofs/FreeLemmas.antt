@@ -1,5 +1,5 @@
 -- The free nodes: how they are marked, and that they can be counted once.
-use Rattle.cover_pick.proofs.Common.{◌≡◌, ℕ, zero, suc, ◌+◌, ◌-◌, ◌/◌, ◌<◌, ◌≤◌, Bool, true, false, List, [], ◌∷◌, length, replicate, slice_set, slice_get, slice_get_within, get_or-replicate, get_or_past, length-set, length-replicate, refl, sym, ap, ◌∙◌, subst, inl, inr, ◌⊎◌, arith, cases_lt, cases_eq, Option, Some, None, none-some, In, Pair, Aig, first_and, node_count, pair_of, IsNode, IsNormal, IsSource, Regular, Parameter, AreNormal, node_normal, source_below, Lut, CanBeLeaf, IsFree, free_constant, free_parameter, free_product, mark_of, AreFree, AreFreeTo, HasFreeParts, is_constant, is_parameter, has_fan_ins, unmarked, all_unmarked, once_in, CountOnce}
+use Rattle.cover_pick.proofs.Common.{◌≡◌, ℕ, zero, suc, ◌+◌, ◌-◌, ◌/◌, ◌<◌, ◌≤◌, Bool, true, false, List, [], ◌∷◌, length, replicate, slice_set, slice_get, slice_get_within, get_or-replicate, get_or_past, length-set, length-replicate, refl, sym, ap, ◌∙◌, subst, inl, inr, ◌⊎◌, arith, cases_lt, cases_eq, Option, Some, None, none-some, In, Pair, Aig, first_and, node_count, pair_of, IsNode, IsNormal, IsSource, Regular, Parameter, AreNormal, node_normal, source_below, Lut, CanBeLeaf, IsFree, free_constant, free_parameter, free_product, mark_of, AreFree, AreFreeTo, HasFreeParts, is_constant, is_parameter, has_fan_ins, unmarked, all_unmarked, once_in, CountOnce, rules}
 use Rattle.std.proofs.lemmas.Bool.{true≢false}
 use Rattle.aig_core.proofs.NodeLemmas.{same_pair}
 use Rattle.list_laws.proofs.Members.{in_or}
@@ -45,9 +45,7 @@ free_has_parts g luts marks n all falls (free_product p out is fx fy) = let f = 
 pub parts_marked : (g : Aig) (marks : List Bool) (n : ℕ) (p : Pair) → IsNode g p n → HasFreeParts g marks n → (mark_of marks (p.x.0 / 2) ≡ true) × (mark_of marks (p.y.0 / 2) ≡ true)
 parts_marked g marks n p is (is_constant z) = absurd (node_not_constant g n p z is)
 parts_marked g marks n p is (is_parameter s) = absurd (node_not_parameter g n p s is)
-parts_marked g marks n p is (has_fan_ins q at ex ey) =
-    let same : q ≡ p = same_pair g q p n at is in
-    (subst (λ (r : Pair). mark_of marks (r.x.0 / 2) ≡ true) same ex, subst (λ (r : Pair). mark_of marks (r.y.0 / 2) ≡ true) same ey)
+parts_marked g marks n p is (has_fan_ins q at ex ey) = grind arith
 
 pub no_parts : (g : Aig) (marks : List Bool) (n : ℕ) → 1 ≤ n → slice_get g.kinds (n - 1) ≡ Some Regular → HasFreeParts g marks n → ⊥
 no_parts g marks n l at (is_constant z) = omega arith
@@ -74,8 +72,7 @@ unmarked_were marks (m ∷ ms) n inside e =
 unmarked_apart : (marks : List Bool) (ms : List ℕ) (n : ℕ) → ((k : ℕ) → In ms k → k < length marks) → mark_of (unmarked marks ms) n ≡ true → In ms n → ⊥
 unmarked_apart marks [] n inside e i = i
 unmarked_apart marks (m ∷ ms) n inside e (inl q) =
-    let h : mark_of (slice_set marks m false) n ≡ true = unmarked_were (slice_set marks m false) ms n (inside_set marks m false ms inside) e in
-    true≢false (sym h ∙ ap (mark_of (slice_set marks m false)) q ∙ mark_here marks m false (inside m (inl refl)))
+    true≢false (sym (unmarked_were (slice_set marks m false) ms n (inside_set marks m false ms inside) e) ∙ ap (mark_of (slice_set marks m false)) q ∙ mark_here marks m false (inside m (inl refl)))
 unmarked_apart marks (m ∷ ms) n inside e (inr i) = unmarked_apart (slice_set marks m false) ms n (inside_set marks m false ms inside) e i
 
 -- and the leaves of tables
@@ -92,8 +89,7 @@ all_were marks (t ∷ ts) n inside e = unmarked_were marks t.leaves n (λ k i. i
 
 pub all_apart : (marks : List Bool) (ts : List Lut) (n : ℕ) → ((u : Lut) (k : ℕ) → In ts u → In u.leaves k → k < length marks) → mark_of (all_unmarked marks ts) n ≡ true → (u : Lut) → In ts u → In u.leaves n → ⊥
 all_apart marks [] n inside e u j i = j
-all_apart marks (t ∷ ts) n inside e u (inl q) i =
-    unmarked_apart marks t.leaves n (λ k h. inside t k (inl refl) h) (all_were (unmarked marks t.leaves) ts n (leaves_later marks t ts inside) e) (subst (λ (x : Lut). In x.leaves n) q i)
+all_apart marks (t ∷ ts) n inside e u (inl q) i = grind (arith, unmarked_apart, all_were, leaves_later)
 all_apart marks (t ∷ ts) n inside e u (inr j) i = all_apart (unmarked marks t.leaves) ts n (leaves_later marks t ts inside) e u j i
 
 -- the others keep theirs
@@ -107,17 +103,7 @@ all_keep marks (t ∷ ts) n e out = all_keep (unmarked marks t.leaves) ts n (unm
 
 -- the free nodes up to one
 pub free_start : (g : Aig) (luts : List Lut) (marks : List Bool) → ((u : Lut) (k : ℕ) → In luts u → In u.leaves k → CanBeLeaf g k) → marks ≡ all_unmarked (replicate (node_count g) true) luts → AreFreeTo g luts marks 0
-free_start g luts marks are same =
-    let inside : (u : Lut) (k : ℕ) → In luts u → In u.leaves k → k < node_count g = (λ u k j i. leaf_inside g k (are u k j i)) in
-    let long : length (replicate (node_count g) true) ≡ node_count g = length-replicate (node_count g) true in
-    record {
-      barred = record { each = λ n e. all_apart (replicate (node_count g) true) luts n (λ u k j i. omega (arith, long, inside u k j i)) (ap (λ (ms : List Bool). mark_of ms n) (sym same) ∙ e) };
-      below = λ n l e. absurd (omega arith);
-      all = λ n l f.
-          ap (λ (ms : List Bool). mark_of ms n) same
-          ∙ all_keep (replicate (node_count g) true) luts n (get_or-replicate (node_count g) n true false l) (λ u j i. free_apart g luts u n j (λ k h. are u k j h) f i);
-      long = ap length same ∙ length-all_unmarked (replicate (node_count g) true) luts ∙ long;
-    }
+free_start g luts marks are same = grind (arith, leaf_inside, length-replicate, all_apart, all_keep, get_or-replicate, free_apart, length-all_unmarked)
 
 pub free_step : (g : Aig) (luts : List Lut) (marks : List Bool) (n : ℕ) (b : Bool) → AreNormal (first_and g) g.pairs → n < node_count g → (b ≡ true → mark_of marks n ≡ true) → (b ≡ true → HasFreeParts g marks n) → (mark_of marks n ≡ true → HasFreeParts g marks n → b ≡ true) → AreFreeTo g luts marks n
     → AreFreeTo g luts (slice_set marks n b) (n + 1)
@@ -157,34 +143,18 @@ free_step g luts marks n b normal inside own parts whole have = record {
 
 -- all nodes
 pub free_end : (g : Aig) (luts : List Lut) (marks : List Bool) (n : ℕ) → node_count g ≤ n → AreFreeTo g luts marks n → AreFree g luts marks
-free_end g luts marks n all have = record {
-  each = λ m e. elim (cases_lt m n) [
-    | inl l ↦ have.below m l e
-    | inr past ↦ absurd (true≢false (sym e ∙ get_or_past marks m false (omega (arith, have.long))))
-  ];
-}
+free_end g luts marks n all have = search (rules, cases_lt, true≢false, get_or_past)
 
 -- the fan-ins of a free AND node are free
 pub free_falls : (g : Aig) (luts : List Lut) (n : ℕ) (p : Pair) → IsNode g p n → IsFree g luts n → IsFree g luts (p.x.0 / 2) × IsFree g luts (p.y.0 / 2)
 free_falls g luts n p is (free_constant z) = absurd (node_not_constant g n p z is)
 free_falls g luts n p is (free_parameter s) = absurd (node_not_parameter g n p s is)
-free_falls g luts n p is (free_product q out at fx fy) =
-    let same : q ≡ p = same_pair g q p n at is in
-    (subst (λ (r : Pair). IsFree g luts (r.x.0 / 2)) same fx, subst (λ (r : Pair). IsFree g luts (r.y.0 / 2)) same fy)
+free_falls g luts n p is (free_product q out at fx fy) = grind arith
 
 -- so the marks of the free nodes are of nodes that can be counted once
 pub free_once : (g : Aig) (luts : List Lut) (marks : List Bool) → AreNormal (first_and g) g.pairs → ((u : Lut) (k : ℕ) → In luts u → In u.leaves k → CanBeLeaf g k) → AreFree g luts marks → ((n : ℕ) → n < node_count g → IsFree g luts n → mark_of marks n ≡ true)
     → CountOnce g luts marks
-free_once g luts marks normal are only all = record {
-  closed = record {
-    each = λ n p e is.
-        let f = free_falls g luts n p is (only.each n e) in
-        let norm : IsNormal n p = node_normal g n p normal is in
-        let inside : n < node_count g = omega (arith, is.above, slice_get_within g.pairs (n - first_and g) p is.is) in
-        (all (p.x.0 / 2) (omega (arith, norm.ordered, norm.below)) f.0, all (p.y.0 / 2) (omega (arith, norm.below)) f.1);
-  };
-  barred = record { each = λ n e t j i. free_apart g luts t n j (λ k h. are t k j h) (only.each n e) i };
-}
+free_once g luts marks normal are only all = search (rules, free_falls, node_normal, slice_get_within, free_apart)
 
 free_below : (g : Aig) (luts : List Lut) (n : ℕ) → IsFree g luts n → n < node_count g
 free_below g luts n (free_constant z) = omega arith

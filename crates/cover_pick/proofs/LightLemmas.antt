@@ -1,5 +1,5 @@
 -- The LUTs of the needed literals, whose work is counted by either rule.
-use Rattle.cover_pick.proofs.Common.{◌≡◌, ℕ, ◌*◌, ◌/◌, ◌%◌, ◌<◌, List, [], Option, Some, sym, ◌∙◌, ap, subst, inl, inr, ◌⊎◌, arith, cases_eq, cases_lt, same_Some, false≢true, Aig, first_and, node_count, IsSource, Regular, AreNormal, AreRoots, In, MOST_WORK, PickErr, Work, Memory, OrMemory, refusal_of, Lut, CanBeLeaf, IsMarked, tables_of, AreMade, Supply, IsLight, once_by, IsFree, AreFree, mark_of, once_in, IsWithin, IsPast, AreCountable, CountOnce, subst₂, Bool, true}
+use Rattle.cover_pick.proofs.Common.{◌≡◌, ℕ, ◌*◌, ◌/◌, ◌%◌, ◌<◌, List, [], Option, Some, sym, ◌∙◌, ap, subst, inl, inr, ◌⊎◌, arith, cases_eq, cases_lt, same_Some, false≢true, Aig, first_and, node_count, IsSource, Regular, AreNormal, AreRoots, In, MOST_WORK, PickErr, Work, Memory, OrMemory, refusal_of, Lut, CanBeLeaf, IsMarked, tables_of, AreMade, Supply, IsLight, once_by, IsFree, AreFree, mark_of, once_in, IsWithin, IsPast, AreCountable, CountOnce, subst₂, Bool, true, rules}
 use Rattle.cover_pick.specs.Marks.{leaves_of, source_leaves}
 use Rattle.cover_pick.proofs.BitsLemmas.{bits_worked}
 use Rattle.cover_pick.proofs.TableLemmas.{tables_needed}
@@ -10,16 +10,7 @@ use Rattle.cover_pick.proofs.OwnLemmas.{work_there, work_by}
 
 -- the leaves of any LUT are regular sources and AND nodes, where those of the cuts are
 lut_leaves : (g : Aig) (cuts : List (Option (List ℕ))) (l m : ℕ) (c : List ℕ) → l < 2 * node_count g → ((d : List ℕ) (k : ℕ) → In cuts (Some d) → In d k → CanBeLeaf g k) → leaves_of g cuts l ≡ Some c → In c m → CanBeLeaf g m
-lut_leaves g cuts l m c b are e i = elim (cases_eq (l / 2) 0) [
-  | inl z ↦ absurd (subst (λ d. In d m) (sym (same_Some [] c (sym (leaves_zero g cuts l z) ∙ e))) i)
-  | inr d ↦ elim (cases_lt (l / 2) (first_and g)) [
-    | inl s ↦ elim (kind_there g (l / 2) d s) [
-      | inl r ↦ (let h = regular_leaves l c (sym (ap (λ o. source_leaves o (l / 2) (l % 2)) r.is) ∙ (sym (leaves_source g cuts l d s) ∙ e)) in elim (subst (λ d. In d m) h.1 i) [ inl q ↦ inl (subst (λ k. IsSource g Regular k) (sym q) r) | inr x ↦ absurd x ])
-      | inr r ↦ absurd (subst (λ d. In d m) (sym (same_Some [] c (sym (ap (λ o. source_leaves o (l / 2) (l % 2)) r.is) ∙ (sym (leaves_source g cuts l d s) ∙ e)))) i)
-    ]
-    | inr s ↦ are c m (cut_in cuts (l / 2) c (sym (leaves_and g cuts l (s, omega arith)) ∙ e)) i
-  ]
-]
+lut_leaves g cuts l m c b are e i = search (rules, cases_eq, same_Some, leaves_zero, cases_lt, kind_there, regular_leaves, leaves_source, cut_in, leaves_and)
 
 module _ (g : Aig) (roots : List ℕ) (cuts : List (Option (List ℕ))) (are : (c : List ℕ) (m : ℕ) → In cuts (Some c) → In c m → CanBeLeaf g m) (lits : AreRoots g roots) where
   made_are : AreMade g cuts (IsMarked roots cuts) (2 * node_count g) (tables_of g roots cuts)
@@ -75,9 +66,7 @@ module _ (g : Aig) (ts of us : List Lut) (free marks : List Bool) (of_is : of �
   within_free w = within_by g ts (once_in free) (IsFree g ts) to_free (free_marked g ts free all_marked) (subst₂ (λ (ms : List Bool) (vs : List Lut). IsWithin g (once_in ms) vs) marks_are us_is w)
 
   pub past_free : (e : PickErr) → OrMemory refusal_of (λ _. IsPast g (once_in marks) us) e → OrMemory refusal_of (λ _. IsPast g (IsFree g ts) ts) e
-  past_free e w =
-      past_by g ts (once_in free) (IsFree g ts) to_free (free_marked g ts free all_marked) e
-      (subst₂ (λ (ms : List Bool) (vs : List Lut). OrMemory refusal_of (λ _. IsPast g (once_in ms) vs) e) marks_are us_is w)
+  past_free e w = grind (arith, past_by, to_free, free_marked, subst₂)
 
 pub light_is : (supply : Supply) (g : Aig) (ts : List Lut) → IsWithin g (once_by supply g ts) ts → IsLight supply g ts
 light_is supply g ts w = record { work = w.work; is = w.is; light = w.within }

@@ -90,18 +90,10 @@ module _ (supply : Supply) (g : Aig) (label : ℕ → ℕ) (roots : List ℕ) (m
 
   node_has : (n : ℕ) (c : List ℕ) → cut_at a.cuts n ≡ Some c → HasNode made.luts n c
   node_has n c e =
-      let and : IsAnd g n = (plan.is.cuts n c e).0 in
-      let q = cut_needed_of n c (need (depths_of a.rule g a.rows label roots a.flows) n) and.0 e refl in
-      let and_l : IsAnd g (q.0 / 2) = subst (λ i. IsAnd g i) (sym q.1) and in
+      let q = cut_needed_of n c (need (depths_of a.rule g a.rows label roots a.flows) n) ((plan.is.cuts n c e).0).0 e refl in
+      let and_l : IsAnd g (q.0 / 2) = subst (λ i. IsAnd g i) (sym q.1) ((plan.is.cuts n c e).0) in
       let h : HasTable made.luts q.0 c = a.tables.all q.0 c (let b : q.0 / 2 < node_count g = and_l.1 in omega arith) q.2 (leaves_and g a.cuts q.0 and_l ∙ subst (λ i. cut_at a.cuts i ≡ Some c) (sym q.1) e) in
       record { table = h.by; in' = h.in'; node = ap (λ i. i / 2) h.lit_is ∙ q.1; leaves = h.leaves_are }
 
   pub least_is : IsLeast g k roots made.luts (target g label roots)
-  least_is = record {
-    cover = cut_at a.cuts;
-    is = plan.is;
-    tables = λ t i and. sym (leaves_and g a.cuts t.lit.0 and) ∙ (a.tables.only t i).1;
-    only = node_has;
-    within = plan.within;
-    least = plan.least;
-  }
+  least_is = search (rules, leaves_and, node_has)

@@ -77,8 +77,7 @@ module _ (g : Aig) (normal : AreNormal (first_and g) g.pairs) where
   in_cones : (ts : List Lut) → ((t : Lut) → In ts t → t.lit.0 < 2 * node_count g) → (m : ℕ) → InCones ts m ⊎ (InCones ts m → ⊥)
   in_cones [] inside m = inr (λ r. r.1)
   in_cones (t ∷ ts) inside m =
-      let b : t.lit.0 < 2 * node_count g = inside t (inl refl) in
-      let cone : IsCone g t.leaves (t.lit.0 / 2) (cone_of g t.leaves (t.lit.0 / 2)) = cone_is g t.leaves (t.lit.0 / 2) normal (omega arith) in
+      let cone : IsCone g t.leaves (t.lit.0 / 2) (cone_of g t.leaves (t.lit.0 / 2)) = cone_is g t.leaves (t.lit.0 / 2) normal (omega (arith, inside t (inl refl))) in
       elim (in_or (cone_of g t.leaves (t.lit.0 / 2)) m) [
         | inl i ↦ inl (t, inl refl, cone.only m i)
         | inr off ↦ elim (in_cones ts (λ u j. inside u (inr j)) m) [

@@ -1,5 +1,5 @@
 -- The rounds that are made are rounds by their own words, and the flows that are found are those of the first plan of the least cost.
-use Rattle.cover_pick.proofs.Common.{◌≡◌, ℕ, ◌/◌, ◌<◌, ◌≤◌, cond, ltb, Bool, true, false, List, [], ◌∷◌, ◌++◌, length, Option, refl, sym, ap, ◌∙◌, subst, inl, inr, arith, ltb-true, ltb-false, Aig, first_and, node_count, AreNormal, In, In-append, choose, choose_one, Rule, LeastCost, Scope, AnyHeight, LeastHeight, flow_at, flows_by, IsPlanBy, uses, cost_of, count_at, AreLeaves, AreUsed, PlanValue, AreRounds, NoneBelow, IsFirst, plan_of, AreFlows, cut_at, IsPlanned, plan_by, next_flows, cost_by, cheaper_flows, three_rounds, six_rounds, AreSixRounds, IsServing, label_at, lits_of, cheaper_cuts, AreCutsBy, CanChoose, flows_over, three_over}
+use Rattle.cover_pick.proofs.Common.{◌≡◌, ℕ, ◌/◌, ◌<◌, ◌≤◌, cond, ltb, Bool, true, false, List, [], ◌∷◌, ◌++◌, length, Option, refl, sym, ap, ◌∙◌, subst, inl, inr, arith, ltb-true, ltb-false, Aig, first_and, node_count, AreNormal, In, In-append, choose, choose_one, Rule, LeastCost, Scope, AnyHeight, LeastHeight, flow_at, flows_by, IsPlanBy, uses, cost_of, count_at, AreLeaves, AreUsed, PlanValue, AreRounds, NoneBelow, IsFirst, plan_of, AreFlows, cut_at, IsPlanned, plan_by, next_flows, cost_by, cheaper_flows, three_rounds, six_rounds, AreSixRounds, IsServing, label_at, lits_of, cheaper_cuts, AreCutsBy, CanChoose, flows_over, three_over, rules}
 use Rattle.cover_pick.specs.declared.choices.Choices.{Choices}
 use Rattle.cover_pick.proofs.UsesLemmas.{flows_same, flows_fit, uses_same, cost_same}
 use Rattle.cover_pick.proofs.RuleLemmas.{plan_all, plan_is}
@@ -49,21 +49,15 @@ module _ (g : Aig) (rows : List (List (List ℕ))) (label : ℕ → ℕ) (roots 
 
   first_three : (scope : Scope) (flows : List ℕ) → IsFirst g (plan_by g rows label roots (three_rounds g rows label roots scope flows)) (three scope flows)
   first_three scope flows =
-      let a : PlanValue = plan_by g rows label roots flows in
-      let b : PlanValue = plan_by g rows label roots (next_flows g rows label roots scope flows) in
-      let c : PlanValue = plan_by g rows label roots (next_flows g rows label roots scope (next_flows g rows label roots scope flows)) in
-      first_cheaper (cheaper_flows g rows label roots flows (next_flows g rows label roots scope flows)) (next_flows g rows label roots scope (next_flows g rows label roots scope flows)) (a ∷ b ∷ []) (c ∷ [])
-      (first_cheaper flows (next_flows g rows label roots scope flows) (a ∷ []) (b ∷ []) (first_alone g a) (first_alone g b)) (first_alone g c)
+      first_cheaper (cheaper_flows g rows label roots flows (next_flows g rows label roots scope flows)) (next_flows g rows label roots scope (next_flows g rows label roots scope flows)) (_ ∷ _ ∷ []) (_ ∷ [])
+      (first_cheaper flows (next_flows g rows label roots scope flows) (_ ∷ []) (_ ∷ []) (first_alone g _) (first_alone g _)) (first_alone g _)
 
   -- six rounds, and the first of them of the least cost
   abbrev pub six : (ℕ → ℕ) → List PlanValue
   six counts = three AnyHeight (flows_by g rows label AnyHeight counts) ++ three LeastHeight (flows_by g rows label LeastHeight counts)
 
   pub first_six : (counts : ℕ → ℕ) → IsFirst g (plan_by g rows label roots (six_rounds g rows label roots counts)) (six counts)
-  first_six counts =
-      let any : List ℕ = flows_by g rows label AnyHeight counts in
-      let low : List ℕ = flows_by g rows label LeastHeight counts in
-      first_cheaper (three_rounds g rows label roots AnyHeight any) (three_rounds g rows label roots LeastHeight low) (three AnyHeight any) (three LeastHeight low) (first_three AnyHeight any) (first_three LeastHeight low)
+  first_six counts = search (rules, first_cheaper, three, first_three)
 
   module _ (inside : (l : ℕ) → In roots l → l / 2 < node_count g) (serving : IsServing LeastCost g label rows) (normal : AreNormal (first_and g) g.pairs) where
     planned_by : (flows : List ℕ) → AreFlows g flows → IsPlanBy LeastCost g rows label roots (flow_at flows) (plan_by g rows label roots flows).reqs (plan_by g rows label roots flows).cover
@@ -95,16 +89,10 @@ module _ (g : Aig) (rows : List (List (List ℕ))) (label : ℕ → ℕ) (roots 
   cheaper_fit a b x y = choose_one (λ fs. AreFlows g fs) (ltb (cost_by g rows label roots b) (cost_by g rows label roots a)) b a y x
 
   three_fit : (scope : Scope) (counts : ℕ → ℕ) → AreFlows g (three_rounds g rows label roots scope (flows_by g rows label scope counts))
-  three_fit scope counts =
-      let first : List ℕ = flows_by g rows label scope counts in
-      let second : List ℕ = next_flows g rows label roots scope first in
-      cheaper_fit (cheaper_flows g rows label roots first second) (next_flows g rows label roots scope second)
-      (cheaper_fit first second (flows_fit g scope label rows counts) (flows_fit g scope label rows (uses g (plan_of LeastCost g rows label roots first))))
-      (flows_fit g scope label rows (uses g (plan_of LeastCost g rows label roots second)))
+  three_fit scope counts = search (rules, cheaper_fit, flows_fit)
 
   pub six_fit : (counts : ℕ → ℕ) → AreFlows g (six_rounds g rows label roots counts)
-  six_fit counts =
-      cheaper_fit (three_rounds g rows label roots AnyHeight (flows_by g rows label AnyHeight counts)) (three_rounds g rows label roots LeastHeight (flows_by g rows label LeastHeight counts)) (three_fit AnyHeight counts) (three_fit LeastHeight counts)
+  six_fit counts = search (rules, cheaper_fit, three_fit)
 
   -- where a round uses what the one before it does, the rounds from it on are the same
   cheaper_self : (flows : List ℕ) → cheaper_flows g rows label roots flows flows ≡ flows
@@ -128,8 +116,7 @@ module _ (g : Aig) (rows : List (List (List ℕ))) (label : ℕ → ℕ) (roots 
   -- the flows over the counted uses of a cover
   used_flows : (scope : Scope) (flows counts : List ℕ) (cover : ℕ → Option (List ℕ)) → IsPlanned LeastCost g rows label roots flows cover → AreUsed g cover (node_count g) counts
       → flows_by g rows label scope (count_at counts) ≡ next_flows g rows label roots scope flows
-  used_flows scope flows counts cover p u =
-      flows_same g scope label rows (count_at counts) (uses g (plan_of LeastCost g rows label roots flows)) (node_count g) (λ n l. u.each n l ∙ uses_same cover (plan_of LeastCost g rows label roots flows) n (node_count g) p.chosen)
+  used_flows scope flows counts cover p u = grind (arith, flows_same, uses_same)
 
   -- the cheaper of two covers is that of the cheaper flows
   cheaper_planned : (a b : List ℕ) (first second best : List (Option (List ℕ))) → IsPlanned LeastCost g rows label roots a (cut_at first) → IsPlanned LeastCost g rows label roots b (cut_at second)
@@ -138,16 +125,13 @@ module _ (g : Aig) (rows : List (List (List ℕ))) (label : ℕ → ℕ) (roots 
       let x : cost_of g (cut_at first) ≡ cost_by g rows label roots a = cost_same (cut_at first) (plan_of LeastCost g rows label roots a) (node_count g) p.chosen in
       let y : cost_of g (cut_at second) ≡ cost_by g rows label roots b = cost_same (cut_at second) (plan_of LeastCost g rows label roots b) (node_count g) q.chosen in
       let same : ltb (cost_of g (cut_at second)) (cost_of g (cut_at first)) ≡ ltb (cost_by g rows label roots b) (cost_by g rows label roots a) = ap (λ v. ltb v (cost_of g (cut_at first))) y ∙ ap (λ v. ltb (cost_by g rows label roots b) v) x in
-      let is : best ≡ cond (ltb (cost_by g rows label roots b) (cost_by g rows label roots a)) second first = e ∙ ap (λ t. cond t second first) same in
-      subst (λ c. IsPlanned LeastCost g rows label roots (cheaper_flows g rows label roots a b) (cut_at c)) (sym is)
-      (both_if (λ fs c. IsPlanned LeastCost g rows label roots fs (cut_at c)) (ltb (cost_by g rows label roots b) (cost_by g rows label roots a)) b a second first q p)
+      grind (arith, both_if, ltb)
 
 pub leaves_there : (rule : Rule) (g : Aig) (rows : List (List (List ℕ))) (label : ℕ → ℕ) (roots flows : List ℕ) (cover : ℕ → Option (List ℕ)) → IsServing rule g label rows → IsPlanned rule g rows label roots flows cover → AreLeaves g cover
 leaves_there rule g rows label roots flows cover t p =
-    let is = (p.least t.k t.served).is in
     record {
-      inside = λ n m c e i. let both = is.cuts n c e in let a : n < node_count g = both.0.1 in let b : m < n = (both.1.below m i).0 in omega arith;
-      ascending = λ n c e. (is.cuts n c e).1.ascending;
+      inside = λ n m c e i. let both = ((p.least t.k t.served).is).cuts n c e in let a : n < node_count g = both.0.1 in let b : m < n = (both.1.below m i).0 in omega arith;
+      ascending = λ n c e. (((p.least t.k t.served).is).cuts n c e).1.ascending;
     }
 
 module _ (c : Choices) where

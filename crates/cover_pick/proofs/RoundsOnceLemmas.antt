@@ -127,9 +127,8 @@ module _ (g : Aig) (rows : List (List (List ℕ))) (label : ℕ → ℕ) (roots 
   -- plans by the same counts are the same
   round_once : (flow : ℕ → ℕ) (p q : PlanValue) → IsPlanBy LeastCost g rows label roots flow p.reqs p.cover → IsPlanBy LeastCost g rows label roots flow q.reqs q.cover → p ≡ q
   round_once flow p q a b =
-      let reqs : p.reqs ≡ q.reqs = fun_ext (depths_once LeastCost g rows label roots flow k t p.reqs q.reqs p.cover q.cover a b) in
       let cover : p.cover ≡ q.cover = fun_ext (cuts_once LeastCost g rows label roots flow k t p.reqs q.reqs p.cover q.cover a b) in
-      λ i. record { reqs = reqs i; cover = cover i }
+      λ i. record { reqs = (fun_ext (depths_once LeastCost g rows label roots flow k t p.reqs q.reqs p.cover q.cover a b)) i; cover = cover i }
 
   rounds_once : (scope : Scope) (counts : ℕ → ℕ) (ps qs : List PlanValue) → length ps ≡ length qs → AreRounds g rows label roots scope counts ps → AreRounds g rows label roots scope counts qs → ps ≡ qs
   rounds_once scope counts [] [] l a b = refl
@@ -140,10 +139,7 @@ module _ (g : Aig) (rows : List (List (List ℕ))) (label : ℕ → ℕ) (roots 
 
   -- six rounds from the same counts on are the same
   pub six_once : (counts : ℕ → ℕ) (ps qs : List PlanValue) → AreSixRounds g rows label roots counts ps → AreSixRounds g rows label roots counts qs → ps ≡ qs
-  six_once counts ps qs p q =
-      let any : p.any ≡ q.any = rounds_once AnyHeight counts p.any q.any (p.any_three ∙ sym q.any_three) p.any_rounds q.any_rounds in
-      let low : p.low ≡ q.low = rounds_once LeastHeight counts p.low q.low (p.low_three ∙ sym q.low_three) p.low_rounds q.low_rounds in
-      p.are ∙ (ap₂ (λ (xs ys : List PlanValue). xs ++ ys) any low ∙ sym q.are)
+  six_once counts ps qs p q = grind (arith, rounds_once, ap₂)
 
 module _ (g : Aig) (k : ℕ) (lows : ℕ → List ℕ) (label : ℕ → ℕ) (roots : List ℕ) (one : HaveOneMaking g k label lows) where
   -- a graph has one set for each node, so it has one making for the same counts and favoured nodes

@@ -44,7 +44,6 @@ module _ (rule : Rule) (g : Aig) (rows : List (List (List ℕ))) (label : ℕ �
   pub found_at : IsServing rule g label rows → (n r : ℕ) → IsAnd g n → label n ≤ r → Found rule label flows (state_of n) (row_at rows n) r
   found_at serving n r and l =
       let m = serving.served.serving.low n and in
-      let low : height label m.0 ≡ label n = m.2 in
       found_there rule label flows (state_of n) (row_at rows n) r m.0 m.1 (omega arith)
 
   -- the choice is one of the cuts, low enough, wherever the label is
@@ -145,13 +144,7 @@ module _ (rule : Rule) (g : Aig) (rows : List (List (List ℕ))) (label : ℕ �
   -- The cuts at the best places are the plan.
   pub places_plan : (places : List (Option ℕ)) → AreBestPlaces g rows (found_of rule g rows label roots flows) (depths_of rule g rows label roots flows) (first_and g) places
       → (n : ℕ) → n < node_count g → cut_at (cuts_of rows places) n ≡ plan_of rule g rows label roots flows n
-  places_plan places best n l =
-      let depths : List (Option ℕ) = depths_of rule g rows label roots flows in
-      let choice : ℕ → ℕ → List ℕ = choice_of rule g rows label roots flows in
-      cut_is rows places n ∙ elim (cases_lt n (first_and g)) [
-        | inl s ↦ ap (λ p. cut_of (row_at rows n) p) (best.below n s) ∙ sym (cover_source g choice depths n s)
-        | inr a ↦ best.best n a l ∙ (best_chosen n (need depths n) (a, l) refl ∙ sym (cover_at g choice depths n (need depths n) a refl))
-      ]
+  places_plan places best n l = grind (arith, cut_is, cases_lt, cover_source, best_chosen, cover_at)
 
   plan_least : (k : ℕ) → IsServed g k label rows → IsLeastCover g k roots (plan_of rule g rows label roots flows) (target g label roots)
   plan_least k served =

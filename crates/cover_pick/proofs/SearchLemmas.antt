@@ -1,5 +1,5 @@
 -- A search reaches exactly the own nodes of its top, each once, and meets the nodes that are counted once at which it stops.
-use Rattle.cover_pick.proofs.Common.{◌≡◌, ℕ, ◌+◌, ◌/◌, ◌<◌, ◌≤◌, Bool, true, false, cond, eqb, List, [], ◌∷◌, ◌++◌, length, Some, refl, sym, ap, ◌∙◌, subst, inl, inr, ◌⊎◌, arith, get_or-set_same, get_or-set_other, slice_set, length-append, length-set, get_or-append, same_Some, cases_lt, cases_eq, false≢true, eqb-true, eqb-false, IsNode, Aig, first_and, node_count, IsAnd, pair_of, IsNormal, AreNormal, Pair, In, In-get_or, In-left, In-push, In-pushed, choose, is_stop, IsInner, Path, here, left, right, SearchValue, stamp_at, reach, mark_of, once_in, AreClosed, IsBelowMet, MeetsCone, HasOwn}
+use Rattle.cover_pick.proofs.Common.{◌≡◌, ℕ, ◌+◌, ◌/◌, ◌<◌, ◌≤◌, Bool, true, false, cond, eqb, List, [], ◌∷◌, ◌++◌, length, Some, refl, sym, ap, ◌∙◌, subst, inl, inr, ◌⊎◌, arith, get_or-set_same, get_or-set_other, slice_set, length-append, length-set, get_or-append, same_Some, cases_lt, cases_eq, false≢true, eqb-true, eqb-false, IsNode, Aig, first_and, node_count, IsAnd, pair_of, IsNormal, AreNormal, Pair, In, In-get_or, In-left, In-push, In-pushed, choose, is_stop, IsInner, Path, here, left, right, SearchValue, stamp_at, reach, mark_of, once_in, AreClosed, IsBelowMet, MeetsCone, HasOwn, rules}
 use Rattle.std.specs.List.{IsDistinct}
 use Rattle.std.proofs.lemmas.Map.Steps.{length-le_from_distinct_below}
 use Rattle.list_laws.proofs.Members.{In-place}
@@ -35,27 +35,12 @@ pub Meets-refl : (g : Aig) (once : List Bool) (c : List ℕ) (top : ℕ) (met : 
 Meets-refl g once c top met = record { only = λ m h. inl h; kept = λ m h. h }
 
 pub Meets-trans : (g : Aig) (once : List Bool) (c : List ℕ) (top : ℕ) (old mid new : List Bool) → Meets g once c top old mid → Meets g once c top mid new → Meets g once c top old new
-Meets-trans g once c top old mid new a b = record {
-  only = λ m h. elim (b.only m h) [ inl o ↦ a.only m o | inr r ↦ inr r ];
-  kept = λ m h. b.kept m (a.kept m h);
-}
+Meets-trans g once c top old mid new a b = search rules
 
 pub reached_none : (g : Aig) (once : List Bool) (c : List ℕ) (top stamp : ℕ) (stamps : List ℕ) (met : List Bool) → length stamps ≡ node_count g → ((m : ℕ) → stamp_at stamps m < stamp) → length met ≡ node_count g
     → IsReached g once c top stamp (record { stamps = stamps; reached = []; met = met }) 0
 unfolding IsDistinct
-reached_none g once c top stamp stamps met e fresh f = record {
-  size = e;
-  most = λ m. let l : stamp_at stamps m < stamp = fresh m in omega arith;
-  stamped = λ m i. absurd i;
-  known = λ m q. absurd (let l : stamp_at stamps m < stamp = fresh m in omega arith);
-  apart = tt;
-  inside = λ m i. absurd i;
-  own = λ m i. absurd i;
-  path = λ m i. absurd i;
-  within = omega arith;
-  closed = λ j p l. absurd (omega arith);
-  met_size = f;
-}
+reached_none g once c top stamp stamps met e fresh f = search rules
 
 -- what a step keeps: the facts of the search, what was reached and met, and that the node is taken
 pub record Keeps (g : Aig) (once : List Bool) (c : List ℕ) (top stamp : ℕ) (old new : SearchValue) (i n : ℕ) : Type 0 where
@@ -75,11 +60,9 @@ module _ (g : Aig) (once : List Bool) (c : List ℕ) (top stamp : ℕ) where
   new_reached : (s : SearchValue) (i n : ℕ) → IsReached g once c top stamp s i → n < node_count g → is_stop g c n ≡ false → mark_of once n ≡ false → (stamp_at s.stamps n ≡ stamp → ⊥) → Path g c n top
       → Keeps g once c top stamp s (record { stamps = slice_set s.stamps n stamp; reached = s.reached ++ n ∷ []; met = s.met }) i n
   new_reached s i n w l free off fresh p =
-      let size : length s.stamps ≡ node_count g = w.size in
       let same : stamp_at (slice_set s.stamps n stamp) n ≡ stamp = get_or-set_same s.stamps n stamp 0 (omega arith) in
       let place : (j : ℕ) → j < length s.reached → stamp_at (s.reached ++ n ∷ []) j ≡ stamp_at s.reached j = (λ j b. get_or-append s.reached (n ∷ []) 0 j b) in
       let longer : length (s.reached ++ n ∷ []) ≡ length s.reached + 1 = length-append s.reached (n ∷ []) in
-      let w_in : i ≤ length s.reached = w.within in
       let new : SearchValue = record { stamps = slice_set s.stamps n stamp; reached = s.reached ++ n ∷ []; met = s.met } in
       let more : (k : ℕ) → Taken g c s k → Taken g c new k = (λ k t. taken_more g c s new k (λ m j. In-left s.reached (n ∷ []) m j) (λ m h. h) t) in
       record {
@@ -161,18 +144,12 @@ module _ (g : Aig) (once : List Bool) (c : List ℕ) (top stamp : ℕ) where
   fan_ins_keep s i p w l at normal start =
       let m : ℕ = stamp_at s.reached i in
       let here_in : In s.reached m = In-get_or s.reached i 0 l in
-      let both = w.inside m here_in in
-      let m_in : m < node_count g = both.1 in
-      let own : IsInner g c m = stop_inner g c m m_in both.0 in
+      let own : IsInner g c m = stop_inner g c m (w.inside m here_in).1 (w.inside m here_in).0 in
       let node : IsNode g p m = record { above = own.and.0; is = at } in
-      let y_below : p.y.0 / 2 < m = normal.below in
-      let x_below : p.x.0 / 2 < p.y.0 / 2 = normal.ordered in
       let a = reach_keeps s i (p.x.0 / 2) w (omega arith) (λ t. path_on g c (left p own node (here (stop_inner g c (p.x.0 / 2) (omega arith) t) refl)) (w.path m here_in)) in
       let mid : SearchValue = reach g once c stamp s (p.x.0 / 2) in
       let b = reach_keeps mid i (p.y.0 / 2) a.is (omega arith) (λ t. path_on g c (right p own node (here (stop_inner g c (p.y.0 / 2) (omega arith) t) refl)) (w.path m here_in)) in
       let new : SearchValue = reach g once c stamp mid (p.y.0 / 2) in
-      let longer_a : length s.reached ≤ length mid.reached = a.longer in
-      let longer_b : length mid.reached ≤ length new.reached = b.longer in
       let place : (j : ℕ) → j < length s.reached → stamp_at new.reached j ≡ stamp_at s.reached j = (λ j q. b.places j (omega arith) ∙ a.places j q) in
       let x_taken : Taken g c new (p.x.0 / 2) = taken_more g c mid new (p.x.0 / 2) b.old' b.meets.kept a.taken in (
         record {
@@ -230,10 +207,9 @@ pub search_start : (g : Aig) (once : List Bool) (c : List ℕ) (top stamp : ℕ)
     → new ≡ reach g once c stamp (record { stamps = stamps; reached = []; met = met }) top → Found g once c top stamp new.met new 0 × Meets g once c top met new.met
 search_start g once c top stamp stamps met new e fresh f l q =
     let old : SearchValue = record { stamps = stamps; reached = []; met = met } in
-    let next : SearchValue = reach g once c stamp old top in
     let k = reach_keeps g once c top stamp old 0 top (reached_none g once c top stamp stamps met e fresh f) l (λ t. here (stop_inner g c top l t) refl) in
     subst (λ (s : SearchValue). Found g once c top stamp s.met s 0 × Meets g once c top met s.met) (sym q)
-    (record { is = k.is; start = k.taken; few = reached_few g once c top stamp next 0 k.is; meets = Meets-refl g once c top next.met }, k.meets)
+    (record { is = k.is; start = k.taken; few = reached_few g once c top stamp (reach g once c stamp old top) 0 k.is; meets = Meets-refl g once c top (reach g once c stamp old top).met }, k.meets)
 
 pub search_step : (g : Aig) (once : List Bool) (c : List ℕ) (top stamp : ℕ) (before : List Bool) (s new : SearchValue) (i n : ℕ) (p : Pair) → Found g once c top stamp before s i → i < length s.reached → n ≡ stamp_at s.reached i → pair_of g n ≡ Some p → IsNormal n p
     → new ≡ reach g once c stamp (reach g once c stamp s (p.x.0 / 2)) (p.y.0 / 2) → Found g once c top stamp before new (i + 1)
@@ -271,9 +247,7 @@ module _ (g : Aig) (once : List Bool) (c : List ℕ) (top stamp : ℕ) (before f
       record {
         nodes = own.0;
         are = own.1;
-        is = e ∙ length_same s.reached own.0 f.is.apart (distinct_descending own.0 own.1.descending)
-            (λ n j. own.1.all n (f.is.path n j) (λ o. false≢true (sym (f.is.own n j) ∙ o)))
-            (λ n j. own_taken n (own.1.only n j) (λ o. own.1.apart n j o));
+        is = grind (arith, length_same, distinct_descending, false≢true, own_taken);
       }
 
   pub reached_meets : MeetsCone g once c top before s.met

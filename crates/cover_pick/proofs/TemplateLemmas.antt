@@ -28,8 +28,7 @@ module _ (g : Aig) (k : ℕ) (roots : List ℕ) (cuts : List (Option (List ℕ))
 
   leaf_and : (n m : ℕ) (c : List ℕ) → cut_at cuts n ≡ Some c → In c m → (m < first_and g) ⊎ IsAnd g m
   leaf_and n m c e i =
-      let both = is.cuts n c e in
-      let a : n < node_count g = both.0.1 in let b : m < n = (both.1.below m i).0 in
+      let a : n < node_count g = (is.cuts n c e).0.1 in let b : m < n = ((is.cuts n c e).1.below m i).0 in
       elim (cases_lt m (first_and g)) [ inl l ↦ inl l | inr l ↦ inr (l, omega arith) ]
 
   -- a node's depth under the chosen cuts is the depth of its tables
@@ -48,12 +47,7 @@ module _ (g : Aig) (k : ℕ) (roots : List ℕ) (cuts : List (Option (List ℕ))
 
 -- the depth of the tables is the target
 pub tables_within : (supply : Supply) (g : Aig) (label : ℕ → ℕ) (roots : List ℕ) (made : Made) → IsMade supply g label roots made → TablesWithin g roots made.luts (target g label roots)
-tables_within supply g label roots made a =
-    let p = a.plan.least a.serving.k a.serving.served in
-    record {
-      complemented = p.within.complemented;
-      nodes = λ l i and. to_tables g a.serving.k roots a.cuts made p.is a.tables (p.within.nodes l i and) l refl and (root i);
-    }
+tables_within supply g label roots made a = grind (arith, to_tables)
 
 pub tables_exact : (supply : Supply) (g : Aig) (label : ℕ → ℕ) (roots : List ℕ) (made : Made) → IsMade supply g label roots made → (d : ℕ) → TablesWithin g roots made.luts d → target g label roots ≤ d
 tables_exact supply g label roots made a d w =

@@ -1,5 +1,5 @@
 -- The chosen template is there, whether it is found or not; and as there is one, each template maps the graph with the least depth.
-use Rattle.cover_pick.proofs.Common.{◌≡◌, ℕ, zero, suc, ◌+◌, ◌<◌, List, [], ◌∷◌, length, Option, refl, ap, sym, ◌∙◌, subst, arith, Bool, false, cases_lt, Aig, first_and, node_count, AreNormal, RootsValue, roots_of, AreRoots, Supply, Rows, Sets, IsSupplied, HasPlan, HaveOneMaking, Rule, FewestLeaves, LeastCost, IsServing, IsServed, AreServing, AreSets, AreFlows, IsMapping, IsLeast, Made, IsMade, tables_of, cut_at, plan_of, IsPlanned, six_rounds, PlanValue, IsFirst, IsLeastOfMakings, fan_out, uses, has_cut, cost_of, target, TemplateValue, IsTemplate, ◌/◌, ◌^◌, ◌≤◌, inl, inr, ◌⊎◌, Result, Ok, Err, IfOk, Lit, In, Lut, PickErr, Work, Memory, AscendByLit, HaveBases, bits_of, IsWork, IsLight, once_by, TablesWithin, AreChosen, IsTooMuch}
+use Rattle.cover_pick.proofs.Common.{◌≡◌, ℕ, zero, suc, ◌+◌, ◌<◌, List, [], ◌∷◌, length, Option, refl, ap, sym, ◌∙◌, subst, arith, Bool, false, cases_lt, Aig, first_and, node_count, AreNormal, RootsValue, roots_of, AreRoots, Supply, Rows, Sets, IsSupplied, HasPlan, HaveOneMaking, Rule, FewestLeaves, LeastCost, IsServing, IsServed, AreServing, AreSets, AreFlows, IsMapping, IsLeast, Made, IsMade, tables_of, cut_at, plan_of, IsPlanned, six_rounds, PlanValue, IsFirst, IsLeastOfMakings, fan_out, uses, has_cut, cost_of, target, TemplateValue, IsTemplate, ◌/◌, ◌^◌, ◌≤◌, inl, inr, ◌⊎◌, Result, Ok, Err, IfOk, Lit, In, Lut, PickErr, Work, Memory, AscendByLit, HaveBases, bits_of, IsWork, IsLight, once_by, TablesWithin, AreChosen, IsTooMuch, rules}
 use Rattle.cover_pick.proofs.ChosenLemmas.{template_is, tables_made}
 use Rattle.cover_pick.proofs.MappingLemmas.{mapping_is, least_is}
 use Rattle.cover_pick.proofs.UsesLemmas.{no_flows_fit}
@@ -22,8 +22,7 @@ Matches xs ys = (t : Lut) → In xs t → HasTable ys t.lit.0 t.leaves
 heads_of : (x y : Lut) (xs ys : List Lut) (p : ℕ) → AscendByLit (x ∷ xs) → AscendByLit (y ∷ ys) → HaveBases p (x ∷ xs) → HaveBases p (y ∷ ys) → (h : HasTable (y ∷ ys) x.lit.0 x.leaves) → (k : HasTable (x ∷ xs) y.lit.0 y.leaves)
     → In (y ∷ ys) h.by → In (x ∷ xs) k.by → x ≡ y
 heads_of x y xs ys p ax ay bx by h k (inl e) j = lut_same x y (sym h.lit_is ∙ ap (λ (t : Lut). t.lit.0) e) (sym h.leaves_are ∙ ap (λ (t : Lut). t.leaves) e) (bx.0 ∙ sym by.0)
-heads_of x y xs ys p ax ay bx by h k (inr i) (inl e) = grind arith
-heads_of x y xs ys p ax ay bx by h k (inr i) (inr j) = grind arith
+heads_of x y xs ys p ax ay bx by h k (inr i) j = grind arith
 
 -- and the others match again
 tail_matches : (x y : Lut) (xs ys : List Lut) → x ≡ y → AscendByLit (x ∷ xs) → Matches (x ∷ xs) (y ∷ ys) → Matches xs ys
@@ -69,8 +68,7 @@ template_once supply g label roots table t u x y =
 pub light_or_too_much : (supply : Supply) (g : Aig) (label : ℕ → ℕ) (roots : RootsValue) → IsSupplied supply g label → (t : TemplateValue) → IsTemplate supply g label roots t → IsLight supply g t.luts → IsTooMuch supply g label (roots_of roots) → ⊥
 light_or_too_much supply g label roots table t is light much =
     let e : t.luts ≡ much.luts = chosen_once supply g label (roots_of roots) table t.luts much.luts t.bits much.bits is.chosen much.chosen in
-    let same : light.work ≡ much.work = work_once g (once_by supply g much.luts) much.luts light.work much.work (subst (λ ts. IsWork g (once_by supply g ts) ts light.work) e light.is) much.is in
-    omega (arith, light.light, much.past)
+    omega (arith, work_once g (once_by supply g much.luts) much.luts light.work much.work (subst (λ ts. IsWork g (once_by supply g ts) ts light.work) e light.is) much.is, light.light, much.past)
 
 -- An answer that is a template within the limit, or an error, is an error where the work is too much.
 pub too_much_answer : (supply : Supply) (g : Aig) (label : ℕ → ℕ) (roots : RootsValue) → IsSupplied supply g label → (r : Result TemplateValue PickErr) → IfOk r (λ t. IsTemplate supply g label roots t) → IfOk r (λ t. IsLight supply g t.luts)

@@ -21,9 +21,8 @@ read_twice m (p ∷ ps) =
     omega (arith, sum_by-cons (times_read m) p ps, read_twice m ps)
 
 take_short : (i : ℕ) (ps : List Pair) → length (take i ps) ≤ length ps
-take_short zero ps = omega arith
-take_short (suc i) [] = omega arith
 take_short (suc i) (p ∷ ps) = let r : length (take i ps) ≤ length ps = take_short i ps in omega arith
+take_short i ps = omega arith
 
 module _ (g : Aig) where
   pub counts_small : (n : ℕ) (counts : List ℕ) → AreCounted g n counts → (m : ℕ) → count_at counts m ≤ 2 * length g.pairs

@@ -44,6 +44,4 @@ same_within (x ∷ xs) [] h k w v = absurd (w x (inl refl))
 same_within (x ∷ xs) (y ∷ ys) h k w v =
     let le : y ≤ x = head_least y ys x k (w x (inl refl)) in
     let ge : x ≤ y = head_least x xs y h (v y (inl refl)) in
-    let e : x ≡ y = omega arith in
-    let t : xs ≡ ys = same_within xs ys h.1 k.1 (rest_within x xs y ys h.0 le w) (rest_within y ys x xs k.0 ge v) in
-    ap (λ m. m ∷ xs) e ∙ ap (λ l. y ∷ l) t
+    ap (λ m. m ∷ xs) (omega arith) ∙ ap (λ l. y ∷ l) (same_within xs ys h.1 k.1 (rest_within x xs y ys h.0 le w) (rest_within y ys x xs k.0 ge v))

@@ -54,15 +54,7 @@ record IsWithout (c : List ℕ) (x : ℕ) (d : List ℕ) : Type 0 where
 
 without : (c : List ℕ) (x : ℕ) → IsAscending c → In c x → (d : List ℕ) × IsWithout c x d
 without [] x up i = elim i [ ]
-without (y ∷ ys) x up (inl e) = (
-  ys,
-  record {
-    ascending = up.1;
-    within = λ n j. inr j;
-    others = λ n j other. elim j [ inl q ↦ absurd (other (q ∙ sym e)) | inr k ↦ k ];
-    shorter = omega arith;
-  },
-)
+without (y ∷ ys) x up (inl e) = grind arith
 without (y ∷ ys) x up (inr i) =
     let r = without ys x up.1 i in (
       y ∷ r.0,

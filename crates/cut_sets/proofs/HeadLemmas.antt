@@ -64,8 +64,4 @@ flat_union leaves a b rest n k s t e r q few up f g =
 
 -- where one is left, the union is longer than what was taken
 pub joined_over : (leaves full rest more : List ℕ) (n k x : ℕ) → n ≡ k → n ≤ length leaves → take n leaves ++ rest ≡ full → rest ≡ x ∷ more → k < length full
-joined_over leaves full rest more n k x q l e r =
-    let a : length (take n leaves ++ rest) ≡ length (take n leaves) + length rest = length-append (take n leaves) rest in
-    let b : length (take n leaves) ≡ n = length-take-le n leaves l in
-    let c : length rest ≡ suc (length more) = ap length r in
-    let d : length (take n leaves ++ rest) ≡ length full = ap length e in omega arith
+joined_over leaves full rest more n k x q l e r = omega (arith, length-append (take n leaves) rest, length-take-le n leaves l, ap length r, ap length e)

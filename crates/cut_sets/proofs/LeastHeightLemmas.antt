@@ -71,5 +71,4 @@ pub label_rises : (g : Aig) → AreNormal (first_and g) g.pairs → (k : ℕ) (l
 label_rises g normal k label are m n f inside l =
     let and : IsAnd g n = (fan_in_above g m n f, inside) in
     let best = are.met n and in
-    let a : label m ≤ height label best.0 = fan_in_low g normal k label m n best.0 f best.1 inside (are.sources m) (λ d. are.least m d) l in
-    let e : label n ≡ height label best.0 = best.2 in omega arith
+    omega (arith, fan_in_low g normal k label m n best.0 f best.1 inside (are.sources m) (λ d. are.least m d) l, best.2)

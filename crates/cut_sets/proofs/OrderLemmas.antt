@@ -1,15 +1,12 @@
 -- The order of lists: it is transitive, no list is before itself, and of two lists one is before the other or they are equal.
-use Rattle.std.proofs.Common.{◌≡◌, ℕ, ◌<◌, ◌≤◌, Bool, true, false, cond, ltb, eqb, List, [], ◌∷◌, length, refl, sym, ap, ◌∙◌, subst, inl, inr, ◌⊎◌, arith}
+use Rattle.std.proofs.Common.{◌≡◌, ℕ, ◌<◌, ◌≤◌, Bool, true, false, cond, ltb, eqb, List, [], ◌∷◌, length, refl, sym, ap, ◌∙◌, subst, inl, inr, ◌⊎◌, arith, rules}
 use Rattle.std.proofs.lemmas.Bool.{ltb-true, ltb-false, eqb-true, eqb-false, false≢true}
 use Rattle.list_laws.specs.Members.{In}
 use Rattle.list_laws.proofs.Choice.{choose}
 use Rattle.cut_sets.specs.Sets.{lex, before, IsOrdered}
 
 lex_at : (P : Bool → Type 0) (x y : ℕ) (xs ys : List ℕ) → (x < y → P true) → (x ≡ y → P (lex xs ys)) → (y < x → P false) → P (lex (x ∷ xs) (y ∷ ys))
-lex_at P x y xs ys less same more =
-    choose P (ltb x y) true (cond (eqb x y) (lex xs ys) false) (λ a. less (ltb-true x y a))
-    (λ a. choose P (eqb x y) (lex xs ys) false (λ e. same (eqb-true x y e))
-    (λ e. let past : y ≤ x = ltb-false x y a in let apart : x ≡ y → ⊥ = eqb-false x y e in more (omega arith)))
+lex_at P x y xs ys less same more = grind arith
 
 lex_head : (x y : ℕ) (xs ys : List ℕ) → x < y → lex (x ∷ xs) (y ∷ ys) ≡ true
 lex_head x y xs ys h = lex_at (λ b. b ≡ true) x y xs ys (λ a. refl) (λ e. absurd (omega arith)) (λ a. absurd (omega arith))
@@ -29,10 +26,7 @@ lex_trans (x ∷ xs) (y ∷ ys) (z ∷ zs) h0 k0 =
 lex_trans a b c h k = absurd (false≢true h)
 
 before_at : (P : Bool → Type 0) (a b : List ℕ) → (length a < length b → P true) → (length a ≡ length b → P (lex a b)) → (length b < length a → P false) → P (before a b)
-before_at P a b less same more =
-    choose P (ltb (length a) (length b)) true (cond (eqb (length a) (length b)) (lex a b) false) (λ c. less (ltb-true (length a) (length b) c))
-    (λ c. choose P (eqb (length a) (length b)) (lex a b) false (λ e. same (eqb-true (length a) (length b) e))
-    (λ e. let past : length b ≤ length a = ltb-false (length a) (length b) c in let apart : length a ≡ length b → ⊥ = eqb-false (length a) (length b) e in more (omega arith)))
+before_at P a b less same more = grind arith
 
 pub before_shorter : (a b : List ℕ) → length a < length b → before a b ≡ true
 before_shorter a b h = before_at (λ t. t ≡ true) a b (λ _. refl) (λ e. absurd (omega arith)) (λ l. absurd (omega arith))
@@ -46,30 +40,20 @@ lex_none [] [] l h k = refl
 lex_none (x ∷ xs) (y ∷ ys) l h0 k0 =
     lex_at (λ b. b ≡ false → lex (y ∷ ys) (x ∷ xs) ≡ false → x ∷ xs ≡ y ∷ ys) x y xs ys (λ a h k. absurd (false≢true (sym h)))
     (λ e h k. (
-    let t : lex ys xs ≡ false = lex_at (λ b. b ≡ false → lex ys xs ≡ false) y x ys xs (λ a. absurd (omega arith)) (λ q m. m) (λ a. absurd (omega arith)) k in
-    ap (λ m. m ∷ xs) e ∙ ap (λ m. y ∷ m) (lex_none xs ys (omega arith) h t)))
+    ap (λ m. m ∷ xs) e ∙ ap (λ m. y ∷ m) (lex_none xs ys (omega arith) h (lex_at (λ b. b ≡ false → lex ys xs ≡ false) y x ys xs (λ a. absurd (omega arith)) (λ q m. m) (λ a. absurd (omega arith)) k))))
     (λ a h k. absurd (false≢true (sym k ∙ lex_head y x ys xs a))) h0 k0
 lex_none a b l h k = absurd (omega arith)
 
 -- and so are two lists
 pub before_none : (a b : List ℕ) → before a b ≡ false → before b a ≡ false → a ≡ b
-before_none a b h0 k0 =
-    before_at (λ t. t ≡ false → before b a ≡ false → a ≡ b) a b (λ l h. absurd (false≢true (sym h)))
-    (λ e h k. lex_none a b e h (before_at (λ t. t ≡ false → lex b a ≡ false) b a (λ l. absurd (omega arith)) (λ q m. m) (λ l. absurd (omega arith)) k))
-    (λ l h k. absurd (false≢true (sym k ∙ before_shorter b a l))) h0 k0
+before_none a b h0 k0 = grind (arith, before_at, false≢true, lex_none, before_shorter)
 
 -- what is before another is no longer
 pub before_length : (a b : List ℕ) → before a b ≡ true → length a ≤ length b
 before_length a b h0 = before_at (λ t. t ≡ true → length a ≤ length b) a b (λ l h. omega arith) (λ e h. omega arith) (λ l h. absurd (false≢true h)) h0
 
 pub before_trans : (a b c : List ℕ) → before a b ≡ true → before b c ≡ true → before a c ≡ true
-before_trans a b c h0 k0 =
-    before_at (λ t. t ≡ true → before b c ≡ true → before a c ≡ true) a b
-    (λ l h. before_at (λ t. t ≡ true → before a c ≡ true) b c
-    (λ m k. before_shorter a c (omega arith)) (λ m k. before_shorter a c (omega arith)) (λ m k. absurd (false≢true k)))
-    (λ l h. before_at (λ t. t ≡ true → before a c ≡ true) b c
-    (λ m k. before_shorter a c (omega arith)) (λ m k. before_lex a c (l ∙ m) (lex_trans a b c h k)) (λ m k. absurd (false≢true k)))
-    (λ l h k. absurd (false≢true h)) h0 k0
+before_trans a b c h0 k0 = grind (arith, before_at, before_shorter, false≢true, before_lex, lex_trans)
 
 -- no list is before itself
 pub lex-same : (a : List ℕ) → lex a a ≡ false
@@ -90,10 +74,7 @@ same_head c cs d ds (inr h) (inl e) = sym e
 same_head c cs d ds (inr h) (inr k) = absurd (false≢true (sym (before-same c) ∙ before_trans c d c k h))
 
 tail_in : (c : List ℕ) (cs : List (List ℕ)) (d : List ℕ) (ds : List (List ℕ)) → c ≡ d → IsOrdered (c ∷ cs) → ((e : List ℕ) → In (c ∷ cs) e → In (d ∷ ds) e) → (e : List ℕ) → In cs e → In ds e
-tail_in c cs d ds q o w e i = elim (w e (inr i)) [
-  | inl p ↦ absurd (false≢true (sym (before-same c) ∙ subst (λ m. before c m ≡ true) (p ∙ sym q) (o.0 e i)))
-  | inr j ↦ j
-]
+tail_in c cs d ds q o w e i = search (rules, false≢true, before-same)
 
 -- ordered lists with the same elements are equal
 pub same_ordered : (cs ds : List (List ℕ)) → IsOrdered cs → IsOrdered ds → ((e : List ℕ) → In cs e → In ds e) → ((e : List ℕ) → In ds e → In cs e) → cs ≡ ds
@@ -102,5 +83,4 @@ same_ordered [] (d ∷ ds) o p w v = absurd (v d (inl refl))
 same_ordered (c ∷ cs) [] o p w v = absurd (w c (inl refl))
 same_ordered (c ∷ cs) (d ∷ ds) o p w v =
     let q : c ≡ d = same_head c cs d ds (behind_head c d ds p (w c (inl refl))) (behind_head d c cs o (v d (inl refl))) in
-    let t : cs ≡ ds = same_ordered cs ds o.1 p.1 (tail_in c cs d ds q o w) (tail_in d ds c cs (sym q) p v) in
-    ap (λ m. m ∷ cs) q ∙ ap (λ s. d ∷ s) t
+    ap (λ m. m ∷ cs) q ∙ ap (λ s. d ∷ s) (same_ordered cs ds o.1 p.1 (tail_in c cs d ds q o w) (tail_in d ds c cs (sym q) p v))

@@ -35,10 +35,7 @@ pub record Meets (c xs : List ℕ) : Type 0 where
 -- on the way up from a node that is blocked only where the list so far has one of the set
 climb_meets : (g : Aig) (c all : List ℕ) (m : ℕ) (ms : List ℕ) (n : ℕ) → (Blocks g c m → Meets c all) → ((x : ℕ) → In ms x → In all x) → Climbs g m ms n → Blocks g c n → Meets c all
 climb_meets g c all m [] n from part e b = from (subst (λ l. Blocks g c l) (sym e) b)
-climb_meets g c all m (x ∷ xs) n from part climbs b =
-    climb_meets g c all x xs n
-    (λ bx. elim (blocked_below g c climbs.0 bx) [ inl i ↦ record { at = x; in_set = i; in_list = part x (inl refl) } | inr bm ↦ from bm ])
-    (λ y i. part y (inr i)) climbs.1 b
+climb_meets g c all m (x ∷ xs) n from part climbs b = grind (arith, blocked_below, climb_meets g c all x xs n (λ bx. elim (blocked_below g c climbs.0 bx) [ inl i ↦ record { at = x; in_set = i; in_list = part x (inl refl) } | inr bm ↦ from bm ]) (λ y i. part y (inr i)) climbs.1 b)
 
 -- A set that blocks a node has a node of each path to it.
 pub path_meets : (g : Aig) (c : List ℕ) (n : ℕ) (p : List ℕ) → IsPath g n p → Blocks g c n → Meets c p

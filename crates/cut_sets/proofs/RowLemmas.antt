@@ -1,5 +1,5 @@
 -- Rows of cuts in a few lists: reading a cut, and putting one more cut or row at the end.
-use Rattle.cut_sets.proofs.Common.{◌≡◌, ℕ, suc, ◌+◌, ◌-◌, ◌*◌, ◌<◌, ◌≤◌, List, [], ◌∷◌, ◌++◌, length, get_or, map, take, drop, slice_range, sum_by, refl, sym, ap, ◌∙◌, subst, inl, inr, arith, cases_lt, length-append, length-map, length-drop, length-take-le, get_or-take, get_or-drop, get_or-map, map-append, take_all, sum_by_push, In, In-append, In-get_or, signature_of, parts_from, parts_of, RisesTo, StartsTo, IsShort, AreFlatCuts, AreFlatRows, MOST_LEAVES, MOST_CUTS}
+use Rattle.cut_sets.proofs.Common.{◌≡◌, ℕ, suc, ◌+◌, ◌-◌, ◌*◌, ◌<◌, ◌≤◌, List, [], ◌∷◌, ◌++◌, length, get_or, map, take, drop, slice_range, sum_by, refl, sym, ap, ◌∙◌, subst, inl, inr, arith, cases_lt, length-append, length-map, length-drop, length-take-le, get_or-take, get_or-drop, get_or-map, map-append, take_all, sum_by_push, In, In-append, In-get_or, signature_of, parts_from, parts_of, RisesTo, StartsTo, IsShort, AreFlatCuts, AreFlatRows, MOST_LEAVES, MOST_CUTS, rules}
 use Rattle.cut_sets.proofs.SpanLemmas.{rises_le, parts_of-count, parts_of-at, parts_of-past, parts_of-push, starts_push, starts-bounds}
 
 slice_length : {A : Type 0} (items : List A) (a b : ℕ) → b ≤ length items → length (slice_range items a b) ≡ b - a
@@ -11,11 +11,8 @@ few_from : (most start : ℕ) (ends items : List ℕ) → RisesTo (length items)
 few_from most start [] items r few = let e : start ≡ length items = r in omega arith
 few_from most start (e ∷ ends) items r few =
     let l : e ≤ length items = rises_le (length items) e ends r.1 in
-    let s : length (slice_range items start e) ≡ e - start = slice_length items start e l in
-    let h : length (slice_range items start e) ≤ most = few (slice_range items start e) (inl refl) in
-    let rest : length items ≤ e + most * length (parts_from e ends items) = few_from most e ends items r.1 (λ c i. few c (inr i)) in
     let m : most * suc (length (parts_from e ends items)) ≡ most + most * length (parts_from e ends items) = omega arith in
-    omega arith
+    omega (arith, slice_length items start e l, few (slice_range items start e) (inl refl), few_from most e ends items r.1 (λ c i. few c (inr i)))
 
 pub few_leaves : (leaves starts signatures : List ℕ) → AreFlatCuts leaves starts signatures → length leaves ≤ MOST_LEAVES * length (parts_of starts leaves)
 few_leaves leaves [] signatures flat = absurd flat.starts_to
@@ -34,10 +31,9 @@ pub flat_push : (leaves starts signatures cut : List ℕ) (b s : ℕ) → AreFla
     → AreFlatCuts (leaves ++ cut) (starts ++ b ∷ []) (signatures ++ s ∷ [])
 flat_push leaves starts signatures cut b s flat short e f =
     let p : parts_of (starts ++ b ∷ []) (leaves ++ cut) ≡ parts_of starts leaves ++ cut ∷ [] = pushed_parts leaves starts signatures cut b flat e in
-    let l : length leaves ≤ b = omega (arith, length-append leaves cut) in
     record {
       first = first_push starts (length leaves) b flat.starts_to flat.first;
-      starts_to = subst (λ n. StartsTo n (starts ++ b ∷ [])) e (starts_push (length leaves) starts b flat.starts_to l);
+      starts_to = subst (λ n. StartsTo n (starts ++ b ∷ [])) e (starts_push (length leaves) starts b flat.starts_to (omega (arith, length-append leaves cut)));
       short = λ c i. elim (In-append (parts_of starts leaves) (cut ∷ []) c (subst (λ (t : List (List ℕ)). In t c) p i)) [
         | inl j ↦ flat.short c j
         | inr j ↦ elim j [ inl q ↦ subst IsShort (sym q) short | inr z ↦ absurd z ]
@@ -59,7 +55,6 @@ pub record IsSpan (leaves starts signatures : List ℕ) (place : ℕ) : Type 0 w
 pub span_at : (leaves starts signatures : List ℕ) (place : ℕ) → AreFlatCuts leaves starts signatures → place + 1 < length starts → IsSpan leaves starts signatures place
 span_at leaves starts signatures place flat l =
     let bounds = starts-bounds (length leaves) starts place flat.starts_to l in
-    let ordered : get_or starts place 0 ≤ get_or starts (place + 1) 0 = bounds.0 in
     let end : get_or starts (place + 1) 0 ≤ length leaves = bounds.1 in
     let at : get_or (parts_of starts leaves) place [] ≡ slice_range leaves (get_or starts place 0) (get_or starts (place + 1) 0) = parts_of-at starts leaves place l in
     let count : length (parts_of starts leaves) + 1 ≡ length starts = parts_of-count (length leaves) starts leaves flat.starts_to in
@@ -70,7 +65,7 @@ span_at leaves starts signatures place flat l =
     let rest : length (drop (get_or starts place 0) leaves) ≡ length leaves - get_or starts place 0 = length-drop (get_or starts place 0) leaves in
     let all : take (length leaves - get_or starts place 0) (drop (get_or starts place 0) leaves) ≡ drop (get_or starts place 0) leaves = take_all (length leaves - get_or starts place 0) (drop (get_or starts place 0) leaves) (omega arith) in
     record {
-      ordered = ordered;
+      ordered = bounds.0;
       inside = end;
       few = omega (arith, short.few);
       long = omega (arith, ap length all);
@@ -83,31 +78,15 @@ span_at leaves starts signatures place flat l =
 -- one more row
 pub row_push : (leaves starts signatures rows : List ℕ) (leaves' starts' signatures' : List ℕ) (cuts : List (List ℕ)) (b : ℕ) → AreFlatRows leaves starts signatures rows → AreFlatCuts leaves' starts' signatures'
     → parts_of starts' leaves' ≡ parts_of starts leaves ++ cuts → b ≡ length signatures' → length (parts_of starts leaves) + length cuts ≤ MOST_CUTS → AreFlatRows leaves' starts' signatures' (rows ++ b ∷ [])
-row_push leaves starts signatures rows leaves' starts' signatures' cuts b flat new p e most =
-    let n : length (parts_of starts' leaves') ≡ length (parts_of starts leaves) + length cuts = ap length p ∙ length-append (parts_of starts leaves) cuts in
-    let s : length signatures' ≡ length (parts_of starts' leaves') = ap length new.signed ∙ length-map (parts_of starts' leaves') signature_of in
-    let q : b ≡ length (parts_of starts leaves) + length cuts = omega arith in
-    let v : parts_of (rows ++ b ∷ []) (parts_of starts' leaves') ≡ parts_of rows (parts_of starts leaves) ++ cuts ∷ [] = ap (λ (t : List (List ℕ)). parts_of (rows ++ b ∷ []) t) p ∙ parts_of-push rows (parts_of starts leaves) cuts b flat.rows_to q in
-    record {
-      cuts = new;
-      rows_to = subst (λ m. StartsTo m (rows ++ b ∷ [])) (e ∙ s) (starts_push (length (parts_of starts leaves)) rows b flat.rows_to (omega arith));
-      sum = ap (λ (t : List (List (List ℕ))). sum_by length t) v ∙ (sum_by_push length (parts_of rows (parts_of starts leaves)) cuts ∙ (ap (λ m. m + length cuts) flat.sum ∙ sym n));
-      most = omega arith;
-    }
+row_push leaves starts signatures rows leaves' starts' signatures' cuts b flat new p e most = grind (arith, length-append, length-map, parts_of-push, starts_push, sum_by, sum_by_push)
 
 pub row_view : (leaves starts signatures rows : List ℕ) (leaves' starts' signatures' : List ℕ) (cuts : List (List ℕ)) (b : ℕ) → AreFlatRows leaves starts signatures rows → AreFlatCuts leaves' starts' signatures'
     → parts_of starts' leaves' ≡ parts_of starts leaves ++ cuts → b ≡ length signatures' → parts_of (rows ++ b ∷ []) (parts_of starts' leaves') ≡ parts_of rows (parts_of starts leaves) ++ cuts ∷ []
-row_view leaves starts signatures rows leaves' starts' signatures' cuts b flat new p e =
-    let n : length (parts_of starts' leaves') ≡ length (parts_of starts leaves) + length cuts = ap length p ∙ length-append (parts_of starts leaves) cuts in
-    let s : length signatures' ≡ length (parts_of starts' leaves') = ap length new.signed ∙ length-map (parts_of starts' leaves') signature_of in
-    ap (λ (t : List (List ℕ)). parts_of (rows ++ b ∷ []) t) p ∙ parts_of-push rows (parts_of starts leaves) cuts b flat.rows_to (omega arith)
+row_view leaves starts signatures rows leaves' starts' signatures' cuts b flat new p e = grind (arith, length-append, length-map, parts_of-push)
 
 -- a node that has a cut has a row
 pub row_inside : (rows : List ℕ) (cuts : List (List ℕ)) (n i : ℕ) → i < length (get_or (parts_of rows cuts) n []) → n + 1 < length rows
-row_inside rows cuts n i l = elim (cases_lt (n + 1) (length rows)) [
-  | inl h ↦ h
-  | inr h ↦ (let e : length (get_or (parts_of rows cuts) n []) ≡ 0 = ap length (parts_of-past rows cuts n h) in absurd (omega arith))
-]
+row_inside rows cuts n i l = search (rules, cases_lt, parts_of-past)
 
 pub row_length : (rows : List ℕ) (cuts : List (List ℕ)) (n : ℕ) → StartsTo (length cuts) rows → n + 1 < length rows → length (get_or (parts_of rows cuts) n []) ≡ get_or rows (n + 1) 0 - get_or rows n 0
 row_length rows cuts n s l = ap length (parts_of-at rows cuts n l) ∙ slice_length cuts (get_or rows n 0) (get_or rows (n + 1) 0) (starts-bounds (length cuts) rows n s l).1
@@ -119,18 +98,7 @@ pub record IsCutAt (rows : List ℕ) (cuts : List (List ℕ)) (n i : ℕ) : Type
   pub is : get_or cuts (get_or rows n 0 + i) [] ≡ get_or (get_or (parts_of rows cuts) n []) i []
 
 pub cut_at : (rows : List ℕ) (cuts : List (List ℕ)) (n i : ℕ) → StartsTo (length cuts) rows → i < length (get_or (parts_of rows cuts) n []) → IsCutAt rows cuts n i
-cut_at rows cuts n i s l =
-    let r : n + 1 < length rows = row_inside rows cuts n i l in
-    let h = starts-bounds (length cuts) rows n s r in
-    let e : length (get_or (parts_of rows cuts) n []) ≡ get_or rows (n + 1) 0 - get_or rows n 0 = row_length rows cuts n s r in
-    let a : i < get_or rows (n + 1) 0 - get_or rows n 0 = omega arith in
-    let order : get_or rows n 0 ≤ get_or rows (n + 1) 0 = h.0 in
-    let end : get_or rows (n + 1) 0 ≤ length cuts = h.1 in
-    record {
-      row = r;
-      inside = omega arith;
-      is = sym (ap (λ (t : List (List ℕ)). get_or t i []) (parts_of-at rows cuts n r) ∙ (get_or-take (get_or rows (n + 1) 0 - get_or rows n 0) (drop (get_or rows n 0) cuts) i [] a ∙ get_or-drop (get_or rows n 0) cuts i []));
-    }
+cut_at rows cuts n i s l = grind (arith, row_inside, starts-bounds, row_length, parts_of-at, get_or-take, get_or-drop)
 
 -- what reading a cut comes to: the places are inside, and what lies there is the cut with its signature
 pub record IsRead (leaves starts signatures rows : List ℕ) (row : List (List ℕ)) (n i : ℕ) : Type 0 where
@@ -144,8 +112,7 @@ pub record IsRead (leaves starts signatures rows : List ℕ) (row : List (List �
 pub cut_read : (leaves starts signatures rows : List ℕ) (view : List (List (List ℕ))) (n i : ℕ) → AreFlatRows leaves starts signatures rows → parts_of rows (parts_of starts leaves) ≡ view → i < length (get_or view n [])
     → IsRead leaves starts signatures rows (get_or view n []) n i
 cut_read leaves starts signatures rows view n i flat e l0 =
-    let l : i < length (get_or (parts_of rows (parts_of starts leaves)) n []) = subst (λ (t : List (List (List ℕ))). i < length (get_or t n [])) (sym e) l0 in
-    let at : IsCutAt rows (parts_of starts leaves) n i = cut_at rows (parts_of starts leaves) n i flat.rows_to l in
+    let at : IsCutAt rows (parts_of starts leaves) n i = cut_at rows (parts_of starts leaves) n i flat.rows_to (subst (λ (t : List (List (List ℕ))). i < length (get_or t n [])) (sym e) l0) in
     let is : get_or (parts_of starts leaves) (get_or rows n 0 + i) [] ≡ get_or (get_or view n []) i [] = at.is ∙ ap (λ (t : List (List (List ℕ))). get_or (get_or t n []) i []) e in
     let count : length (parts_of starts leaves) + 1 ≡ length starts = parts_of-count (length leaves) starts leaves flat.cuts.starts_to in
     let many : length signatures ≡ length (parts_of starts leaves) = ap length flat.cuts.signed ∙ length-map (parts_of starts leaves) signature_of in

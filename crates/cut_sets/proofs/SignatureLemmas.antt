@@ -57,18 +57,15 @@ ones_more : (j s : ℕ) → count_ones (bit_or (2 ^ j) s) ≤ 1 + count_ones s
 ones_more zero s =
     let a : count_ones (bit_or 1 s) ≡ bit_or 1 s % 2 + count_ones (bit_or 1 s / 2) = ones_step (bit_or 1 s) in
     let b : count_ones s ≡ s % 2 + count_ones (s / 2) = ones_step s in
-    let h : bit_or 1 s / 2 ≡ bit_or 0 (s / 2) = or_shr 1 s 1 in
     let z : bit_or 0 (s / 2) ≡ s / 2 = same_from_bits (bit_or 0 (s / 2)) (s / 2)
     (λ i. let o : bit_at (bit_or 0 (s / 2)) i ≡ max (bit_at 0 i) (bit_at (s / 2) i) = bit_at_or 0 (s / 2) i in let n : bit_at 0 i ≡ 0 = bit_at-zero i in omega arith) in
-    let e : count_ones (bit_or 1 s / 2) ≡ count_ones (s / 2) = ap count_ones (h ∙ z) in omega arith
+    let e : count_ones (bit_or 1 s / 2) ≡ count_ones (s / 2) = ap count_ones ((or_shr 1 s 1) ∙ z) in omega arith
 ones_more (suc j) s =
     let t : bit_or (2 ^ suc j) s % 2 ≡ max (2 ^ suc j % 2) (s % 2) = sym (bit_at_lowest (bit_or (2 ^ suc j) s)) ∙ bit_at_or (2 ^ suc j) s 0 ∙ ap (λ m. max m (bit_at s 0)) (bit_at_lowest (2 ^ suc j)) ∙ ap (λ m. max (2 ^ suc j % 2) m) (bit_at_lowest s) in
-    let p : 2 ^ suc j ≡ 2 * 2 ^ j = pow-succ' 2 j in
-    let q : 2 ^ suc j / 2 ≡ 2 ^ j = omega arith in
     let a : count_ones (bit_or (2 ^ suc j) s) ≡ bit_or (2 ^ suc j) s % 2 + count_ones (bit_or (2 ^ suc j) s / 2) = ones_step (bit_or (2 ^ suc j) s) in
     let b : count_ones s ≡ s % 2 + count_ones (s / 2) = ones_step s in
     let h : bit_or (2 ^ suc j) s / 2 ≡ bit_or (2 ^ suc j / 2) (s / 2) = or_shr (2 ^ suc j) s 1 in
-    let e : count_ones (bit_or (2 ^ suc j) s / 2) ≡ count_ones (bit_or (2 ^ j) (s / 2)) = ap count_ones (h ∙ ap (λ m. bit_or m (s / 2)) q) in
+    let e : count_ones (bit_or (2 ^ suc j) s / 2) ≡ count_ones (bit_or (2 ^ j) (s / 2)) = ap count_ones (h ∙ ap (λ m. bit_or m (s / 2)) (omega arith)) in
     let r : count_ones (bit_or (2 ^ j) (s / 2)) ≤ 1 + count_ones (s / 2) = ones_more j (s / 2) in omega arith
 
 -- a list has at least as many elements as its signature has bits

@@ -19,7 +19,7 @@ pub use Rattle.list_laws.proofs.Members.{In-append, In-get, In-get_or, In-left, 
 pub use Rattle.list_laws.proofs.Places.{take_get}
 pub use Rattle.list_laws.specs.Members.{In}
 pub use Rattle.list_laws.specs.Order.{IsAscending, IsDescending}
-pub use Rattle.flow_label.specs.Known.{IsLive, AreKnownTo}
+pub use Rattle.flow_label.specs.Value.{IsLive, AreKnownTo}
 pub use Rattle.flow_label.specs.Scratch.{HasRoom}
 pub use Rattle.flow_cert.specs.Steps.{IsStepOf, IsDownTo, AreShowing, AreSteps, IsWanted, AreDoneTo}
 pub use Rattle.flow_cert.specs.Marks.{HasTaken, AreTaken, AreMarkedTo, AreMarked, mark, FitStep}

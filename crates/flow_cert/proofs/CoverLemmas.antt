@@ -1,5 +1,5 @@
 -- A cut of the label's height for every AND node is a cover, in which each node has its label as its depth.
-use Rattle.flow_cert.proofs.Common.{◌≡◌, ℕ, zero, suc, ◌+◌, ◌-◌, ◌/◌, ◌^◌, ◌<◌, ◌≤◌, List, [], ◌∷◌, Option, Some, None, IsSome, refl, subst, inl, inr, ◌⊎◌, arith, cases_lt, none-some, same_Some, Aig, first_and, node_count, IsAnd, In, IsCut, height, AreLeastHeights}
+use Rattle.flow_cert.proofs.Common.{◌≡◌, ℕ, zero, suc, ◌+◌, ◌-◌, ◌/◌, ◌^◌, ◌<◌, ◌≤◌, List, [], ◌∷◌, Option, Some, None, IsSome, refl, subst, inl, inr, ◌⊎◌, arith, cases_lt, none-some, same_Some, Aig, first_and, node_count, IsAnd, In, IsCut, height, AreLeastHeights, rules}
 use Rattle.cut_sets.specs.Covers.{IsCover, HasDepth, source, free, table, IsLeastDepth}
 use Rattle.cut_sets.proofs.HeightLemmas.{height_le, height_member}
 use Rattle.cut_sets.proofs.LeastHeightLemmas.{least_depths}
@@ -7,10 +7,7 @@ use Rattle.flow_cert.specs.Target.{IsTarget, nothing, node, complemented}
 use Rattle.flow_cert.proofs.TargetLemmas.{first_in}
 
 and_or_not : (g : Aig) (n : ℕ) → IsAnd g n ⊎ (IsAnd g n → ⊥)
-and_or_not g n = elim (cases_lt n (first_and g)) [
-  | inl s ↦ inr (λ and. let l : first_and g ≤ n = and.0 in absurd (omega arith))
-  | inr a ↦ elim (cases_lt n (node_count g)) [ inl b ↦ inl (a, b) | inr p ↦ inr (λ and. let l : n < node_count g = and.1 in absurd (omega arith)) ]
-]
+and_or_not g n = search (rules, cases_lt)
 
 -- a cut of the label's height, where the node is an AND node
 abbrev pick : (g : Aig) (k : ℕ) (label : ℕ → ℕ) → AreLeastHeights g k label → (n : ℕ) → IsAnd g n ⊎ (IsAnd g n → ⊥) → Option (List ℕ)
@@ -43,11 +40,7 @@ module _ (g : Aig) (k : ℕ) (label : ℕ → ℕ) (are : AreLeastHeights g k la
   cover_is n c e = picked n (and_or_not g n) c e
 
   low_is : (roots : List ℕ) → IsCover g k roots low_cover
-  low_is roots = record {
-    cuts = λ n c e. let p = cover_is n c e in (p.and, p.cut);
-    roots_in = λ l i and. pick_some (l / 2) (and_or_not g (l / 2)) and;
-    leaves_in = λ n m c e i and. pick_some m (and_or_not g m) and;
-  }
+  low_is roots = search (rules, cover_is, pick_some, and_or_not)
 
   -- an empty cut is free, and another one is a table
   by_cut : (n d : ℕ) (c : List ℕ) → low_cover n ≡ Some c → height label c ≤ d → ((m e : ℕ) → In c m → label m ≤ e → HasDepth g low_cover m e) → HasDepth g low_cover n d
@@ -62,7 +55,6 @@ module _ (g : Aig) (k : ℕ) (label : ℕ → ℕ) (are : AreLeastHeights g k la
     | inl s ↦ source s
     | inr a ↦ (let c = has_pick n (and_or_not g n) (a, top) in
         let p = cover_is n c.0 c.1 in
-        let e : label n ≡ height label c.0 = p.met in
         by_cut n d c.0 c.1 (omega arith) (λ m x i le'. let b : m < n = (p.cut.below m i).0 in depth_below f m x (omega arith) (omega arith) le'))
   ]
 
@@ -90,7 +82,6 @@ module _ (g : Aig) (k : ℕ) (label : ℕ → ℕ) (are : AreLeastHeights g k la
       | inr p ↦ (let z : label n ≡ 0 = are.past n p in omega arith)
       | inl b ↦ (
           let c = are.met n (a, b) in
-          let e : label n ≡ height label c.0 = c.2 in
           let h : height label c.0 ≤ suc (n - 1) = height_le label c.0 (n - 1) (λ m i. let q : m < n = (c.1.below m i).0 in let r : label m ≤ m = label_below f m (omega arith) in omega arith) in
           omega arith)
     ]
@@ -101,7 +92,4 @@ module _ (g : Aig) (k : ℕ) (label : ℕ → ℕ) (are : AreLeastHeights g k la
 
   -- so it fits a word of 32 bits
   pub label_small : node_count g ≤ 2 ^ 30 → (n : ℕ) → label n < 2 ^ 32
-  label_small few n = elim (cases_lt n (node_count g)) [
-    | inl b ↦ (let l : label n ≤ n = label_low n in omega arith)
-    | inr p ↦ (let z : label n ≡ 0 = are.past n p in omega arith)
-  ]
+  label_small few n = search (rules, cases_lt, label_low)

@@ -1,5 +1,5 @@
 -- What labels that are least heights tell of the nodes.
-use Rattle.flow_cert.proofs.Common.{◌≡◌, ℕ, ◌+◌, ◌/◌, ◌<◌, ◌≤◌, List, [], ◌∷◌, ◌++◌, length, map, reverse, Some, refl, sym, ap, ◌∙◌, subst, inl, inr, eqb, eqb-false, arith, cases_lt, choose, reverse-append, slice_get, In, In-map, Aig, first_and, node_count, IsAnd, IsNode, AreNormal, Pair, fan_ins, Blocks, IsCut, height, AreLeastHeights, IsFanIn, first, second, ArePathsTo, IsLive, AreKnownTo, PathValue, path_count, IsDownTo, AreShowing}
+use Rattle.flow_cert.proofs.Common.{◌≡◌, ℕ, ◌+◌, ◌/◌, ◌<◌, ◌≤◌, List, [], ◌∷◌, ◌++◌, length, map, reverse, Some, refl, sym, ap, ◌∙◌, subst, inl, inr, eqb, eqb-false, arith, cases_lt, choose, reverse-append, slice_get, In, In-map, Aig, first_and, node_count, IsAnd, IsNode, AreNormal, Pair, fan_ins, Blocks, IsCut, height, AreLeastHeights, IsFanIn, first, second, ArePathsTo, IsLive, AreKnownTo, PathValue, path_count, IsDownTo, AreShowing, rules}
 use Rattle.std.proofs.lemmas.List.{length-map}
 use Rattle.std.proofs.lemmas.Option.{slice_get-map}
 use Rattle.std.specs.Option.{option_map}
@@ -10,10 +10,7 @@ use Rattle.flow_cert.proofs.GraphLemmas.{fan_in_below, free_or_live}
 module _ (g : Aig) (k : ℕ) (label : ℕ → ℕ) (are : AreLeastHeights g k label) where
   -- only AND nodes have a label above 0
   pub high_and : (n : ℕ) → 1 ≤ label n → IsAnd g n
-  high_and n l = elim (cases_lt n (first_and g)) [
-    | inl s ↦ absurd (let z : label n ≡ 0 = are.sources n s in omega arith)
-    | inr a ↦ elim (cases_lt n (node_count g)) [ inl b ↦ (a, b) | inr p ↦ absurd (let z : label n ≡ 0 = are.past n p in omega arith) ]
-  ]
+  high_and n l = search (rules, cases_lt)
 
   module _ (normal : AreNormal (first_and g) g.pairs) where
     -- the search for paths may use them

@@ -1,5 +1,5 @@
 -- The steps of the needed nodes, from above.
-use Rattle.flow_cert.proofs.Common.{◌≡◌, ℕ, ◌+◌, ◌<◌, ◌≤◌, Bool, true, false, List, [], ◌∷◌, ◌++◌, length, map, reverse, refl, sym, ap, ◌∙◌, subst, inl, inr, arith, cases_eq, reverse-append, map-append, slice_get_within, Aig, first_and, node_count, AreNormal, In, IsAscending, IsDescending, In-left, In-right, In-push, In-map, from_map, StepValue, AreLeastHeights, IsStepOf, IsShared, HasStep, mark, AreMarked, FitStep, IsWanted, AreDoneTo, AreSteps}
+use Rattle.flow_cert.proofs.Common.{◌≡◌, ℕ, ◌+◌, ◌<◌, ◌≤◌, Bool, true, false, List, [], ◌∷◌, ◌++◌, length, map, reverse, refl, sym, ap, ◌∙◌, subst, inl, inr, arith, cases_eq, reverse-append, map-append, slice_get_within, Aig, first_and, node_count, AreNormal, In, IsAscending, IsDescending, In-left, In-right, In-push, In-map, from_map, StepValue, AreLeastHeights, IsStepOf, IsShared, HasStep, mark, AreMarked, FitStep, IsWanted, AreDoneTo, AreSteps, rules}
 use Rattle.list_laws.proofs.Reversed.{reversed_in, in_reversed}
 use Rattle.flow_cert.proofs.GraphLemmas.{path_below}
 use Rattle.flow_cert.proofs.LabelLemmas.{high_and, count_one}
@@ -7,9 +7,7 @@ use Rattle.flow_cert.specs.Steps as steps
 
 -- the numbers of a step's nodes are in range
 pub step_fits : (g : Aig) (k : ℕ) (label : ℕ → ℕ) (s : StepValue) (n : ℕ) → AreNormal (first_and g) g.pairs → n ≡ node_count g → IsStepOf g k label s → FitStep s n
-step_fits g k label s n normal e of = record {
-  each = λ p m i j. let l : m ≤ s.node = path_below g s.node p.nodes m normal (of.justified.paths p i) j in let b : s.node < node_count g = of.and.1 in (l, omega arith);
-}
+step_fits g k label s n normal e of = search (rules, path_below)
 
 -- a shared node has a label of 1 at least
 shared_high : (g : Aig) (k : ℕ) (label : ℕ → ℕ) (s : StepValue) (m : ℕ) → IsStepOf g k label s → IsShared s m → s.claim ≤ label m + 1
@@ -17,13 +15,7 @@ shared_high g k label s m of h = of.justified.apart h.i h.j m h.p h.q h.order h.
 
 -- a step with two paths claims 2 at least
 shared_two : (g : Aig) (k : ℕ) (label : ℕ → ℕ) (s : StepValue) (m : ℕ) → IsStepOf g k label s → IsShared s m → 2 ≤ s.claim
-shared_two g k label s m of h = elim (cases_eq s.claim 1) [
-  | inl e ↦ absurd (
-      let c : length s.paths ≡ 1 = of.justified.count ∙ count_one k s.claim e in
-      let j : h.j < length s.paths = slice_get_within s.paths h.j h.q h.second in
-      let o : h.i < h.j = h.order in omega arith)
-  | inr ne ↦ (let p : 1 ≤ s.claim = of.positive in omega (arith, ne))
-]
+shared_two g k label s m of h = search (rules, cases_eq, count_one, slice_get_within)
 
 want_more : (begin : ℕ) (ss ts : List StepValue) (m : ℕ) → ((t : StepValue) → In ss t → In ts t) → IsWanted begin ss m → IsWanted begin ts m
 want_more begin ss ts m part (steps.first e) = steps.first e
@@ -46,20 +38,7 @@ descending_push (t ∷ ts) s down above = (
 module _ (g : Aig) (k : ℕ) (label : ℕ → ℕ) (least : AreLeastHeights g k label) (begin n : ℕ) (marks : List Bool) (ss : List StepValue) (d : AreDoneTo g k label begin (n + 1) marks ss) where
   -- a node that is not marked
   pub done_skip : mark marks n ≡ false → AreDoneTo g k label begin n marks ss
-  done_skip off = record {
-    size = d.size;
-    descending = d.descending;
-    above = λ s i. let l : n + 1 ≤ s.node = d.above s i in omega arith;
-    each = d.each;
-    why = d.why;
-    marked = d.marked;
-    have = λ m l h. elim (cases_eq m n) [
-      | inl e ↦ absurd (let f : true ≡ false = sym h ∙ (ap (mark marks) e ∙ off) in cc)
-      | inr ne ↦ d.have m (omega (arith, ne)) h
-    ];
-    shares = d.shares;
-    begun = d.begun;
-  }
+  done_skip off = search (rules, cases_eq)
 
   -- a node that is marked, with its step
   pub done_push : (s : StepValue) (marks' : List Bool) → mark marks n ≡ true → IsStepOf g k label s → s.node ≡ n → AreMarked s marks marks' → AreDoneTo g k label begin n marks' (ss ++ s ∷ [])

@@ -3,7 +3,7 @@ ghost use Rattle.std.specs.Prelude.{◌≡◌, ℕ, ◌<◌, ◌≤◌, IfOk};
 ghost use Rattle.aig_core.specs.Aig.{IsAnd};
 ghost use Rattle.cut_sets.specs.Labels.{label_at, AreLeastHeights};
 ghost use Rattle.cut_sets.specs.Paths.{IsPath, IsFanIn};
-ghost use Rattle.flow_label.specs.Known.{IsLive};
+ghost use Rattle.flow_label.specs.Value.{IsLive};
 
 use aig_core::Graph;
 use cut_sets::NodeLabels;

@@ -1,5 +1,5 @@
 -- What blocks a node: the ends do, and so does what a blocked search has met and not passed, which is no more than there are paths.
-use Rattle.flow_label.proofs.Common.{◌≡◌, ℕ, zero, suc, cond, ltb, choose, take, slice_get-get_or, ◌+◌, ◌<◌, ◌≤◌, Bool, true, false, List, [], ◌∷◌, ◌++◌, length, get_or, map, refl, sym, ap, ◌∙◌, subst, inl, inr, eqb, arith, length-append, eqb-true, eqb-false, cases_lt, cases_Bool, source_below, Regular, IsAnd, In, Within, IsAscending, Blocks, member, AreApart, joined_apart, apart_short, In-append, In-map, In-place, from_map, union, ascending_of, unmarked, IsLowCut, FlowNet, IsInner, IsUpper, IsEnd, IsNet, AreEnds, IsChoice, HasChosen, IsLinked, IsHandedOn, AreMet, ArePassed, SiteValue, net_of, owner_in, AreLinks, IsBlocked, label_at}
+use Rattle.flow_label.proofs.Common.{◌≡◌, ℕ, zero, suc, cond, ltb, choose, take, slice_get-get_or, ◌+◌, ◌<◌, ◌≤◌, Bool, true, false, List, [], ◌∷◌, ◌++◌, length, get_or, map, refl, sym, ap, ◌∙◌, subst, inl, inr, eqb, arith, length-append, eqb-true, eqb-false, cases_lt, cases_Bool, source_below, Regular, IsAnd, In, Within, IsAscending, Blocks, member, AreApart, joined_apart, apart_short, In-append, In-map, In-place, from_map, union, ascending_of, unmarked, IsLowCut, FlowNet, IsInner, IsUpper, IsEnd, IsNet, AreEnds, IsChoice, HasChosen, IsLinked, IsHandedOn, AreMet, ArePassed, SiteValue, net_of, owner_in, AreLinks, IsBlocked, label_at, rules}
 use Rattle.std.proofs.Common.{append-nil, drop, not}
 use Rattle.std.proofs.lemmas.Bool.{not-true}
 use Rattle.std.proofs.lemmas.List.{length-map}
@@ -18,18 +18,12 @@ use Rattle.flow_label.proofs.LinkLemmas.{inner_pos}
 -- numbers that have different images
 pub mapped_apart : (f back : ℕ → ℕ) (us : List ℕ) → AreApart us → ((u : ℕ) → In us u → back (f u) ≡ u) → AreApart (map f us)
 mapped_apart f back [] d is = tt
-mapped_apart f back (u ∷ us) d is = (
-  (λ i. let r = from_map f us (f u) i in d.0 (subst (λ x. In us x) (sym (is r.0 (inr r.1)) ∙ (ap back (sym r.2) ∙ is u (inl refl))) r.1)),
-  mapped_apart f back us d.1 (λ v i. is v (inr i)),
-)
+mapped_apart f back (u ∷ us) d is = grind (arith, from_map, mapped_apart f back us d.1 (λ v i. is v (inr i)))
 
 module _ (net : FlowNet) (is : IsNet net) (c : List ℕ) (by_ends : (u : ℕ) → IsEnd net u → Blocks net.graph c u) where
   upper_and : (v : ℕ) → IsUpper net v → IsAnd net.graph v
   upper_and v (inl e) = subst (λ x. IsAnd net.graph x) (sym e) is.and
-  upper_and v (inr u) = elim (is.readers.met v u.0).live [
-    | inl s ↦ (let h : 2 ≤ net.height = is.high in let d : net.height ≤ net.label v + 1 = u.1 in let z : net.label v ≡ 0 = is.known.sources v (source_below net.graph Regular v s) in absurd (omega arith))
-    | inr a ↦ a.0
-  ]
+  upper_and v (inr u) = search (rules, source_below)
 
   upper_below : (v : ℕ) → IsUpper net v → v ≤ net.node
   upper_below v (inl e) = omega arith
@@ -103,8 +97,7 @@ module _ (net : FlowNet) (is : IsNet net) (owner chosen : ℕ → ℕ) (count : 
   passed_handed : (a : ℕ) → In passed a → IsInner net a × ((m : ℕ) → IsChoice net a m → In queue m)
   passed_handed a i =
       let r = from_map owner (filter other queue) a i in
-      let f = In-filter other queue r.0 r.1 in
-      elim (handed r.0 f.0) [ inl e ↦ absurd (not_own r.0 f.1 e) | inr h ↦ subst (λ x. IsInner net x × ((m : ℕ) → IsChoice net x m → In queue m)) (sym r.2) h ]
+      elim (handed r.0 (In-filter other queue r.0 r.1).0) [ inl e ↦ absurd (not_own r.0 (In-filter other queue r.0 r.1).1 e) | inr h ↦ subst (λ x. IsInner net x × ((m : ℕ) → IsChoice net x m → In queue m)) (sym r.2) h ]
 
   passed_met : Within passed queue
   passed_met a i = (passed_handed a i).1 a (inl refl)
@@ -113,14 +106,12 @@ module _ (net : FlowNet) (is : IsNet net) (owner chosen : ℕ → ℕ) (count : 
   passed_mark : (a : ℕ) → In passed a → 0 < get_or marks a 0
   passed_mark a i =
       let r = from_map owner (filter other queue) a i in
-      let f = In-filter other queue r.0 r.1 in
-      let p = In-place queue r.0 f.0 in
-      let at : owner (get_or queue p.0 0) ≡ a = ap owner p.2 ∙ sym r.2 in
+      let p = In-place queue r.0 (In-filter other queue r.0 r.1).0 in
       elim (passes.all p.0 p.1) [
         | inl b ↦ absurd b
         | inr q ↦ elim q [
-          | inl e ↦ absurd (not_own r.0 f.1 (sym (ap owner p.2) ∙ e))
-          | inr m ↦ subst (λ x. 0 < get_or marks x 0) at m
+          | inl e ↦ absurd (not_own r.0 (In-filter other queue r.0 r.1).1 (sym (ap owner p.2) ∙ e))
+          | inr m ↦ subst (λ x. 0 < get_or marks x 0) (ap owner p.2 ∙ sym r.2) m
         ]
       ]
 
@@ -147,9 +138,8 @@ module _ (net : FlowNet) (is : IsNet net) (owner chosen : ℕ → ℕ) (count : 
   barrier_few =
       let both : AreApart (barrier ++ passed) = joined_apart barrier passed (ascending_apart barrier barrier_ascending) passed_apart (λ m i j. (barrier_in m i).1 j) in
       let part : Within (barrier ++ passed) queue = (λ m i. elim (In-append barrier passed m i) [ inl j ↦ (barrier_in m j).0 | inr j ↦ passed_met m j ]) in
-      let c : length (filter own queue) + length (filter other queue) ≡ length queue = length-filter_both own other (λ u. refl) queue in
       let e : length (filter own queue) ≤ length k.ends = apart_short (filter own queue) k.ends (filtered_apart own queue met.once) (λ u i. let f = In-filter own queue u i in k.all_ends u (not_zero u f.0) (eqb-true (owner u) net.node f.1)) in
-      omega (arith, apart_short (barrier ++ passed) queue both part, length-append barrier passed, length-map (filter other queue) owner, k.count_ends)
+      omega (arith, length-filter_both own other (λ u. refl) queue, apart_short (barrier ++ passed) queue both part, length-append barrier passed, length-map (filter other queue) owner, k.count_ends)
 
   fresh_mark : (m : ℕ) → get_or marks m 0 ≡ 0 → fresh m ≡ true
   fresh_mark m z = elim (cases_Bool (fresh m)) [ inl t ↦ t | inr f ↦ absurd (eqb-false (get_or marks m 0) 0 f z) ]
@@ -160,7 +150,6 @@ module _ (net : FlowNet) (is : IsNet net) (owner chosen : ℕ → ℕ) (count : 
   met_blocked (suc b) m l i = elim (cases_lt 0 (get_or marks m 0)) [
     | inr f ↦ member (union_left (unmarked marks queue) [] m (in_filter fresh queue m i (fresh_mark m (omega arith))))
     | inl t ↦ (let p = passed_handed m (mark_passed m t) in
-        let top : m < net.node = p.0.below in
         blocks_by_live net.graph net.label barrier m net.node is.normal is.known (omega arith) p.0.and
         (λ x f live. let below : x < m = fan_in_below net.graph x m is.normal f in met_blocked b x (omega arith) (p.1 x (inr (f, live)))))
   ]
@@ -179,8 +168,7 @@ module _ (net : FlowNet) (is : IsNet net) (owner chosen : ℕ → ℕ) (count : 
 
 -- what a blocked search of a site has found
 pub blocked_few : (site : SiteValue) (owners starts queue backs marks : List ℕ) → IsNet (net_of site) → AreLinks site owners starts → IsBlocked site owners queue backs marks → length (ascending_of (unmarked marks queue)) ≤ length starts
-blocked_few site owners starts queue backs marks is links b =
-    barrier_few (net_of site) is (owner_in site owners) links.chosen (length starts) links.routed.linked queue backs marks b.met b.ends b.handed b.passed_are
+blocked_few site owners starts queue backs marks is links b = search (rules, barrier_few)
 
 pub blocked_cut : (site : SiteValue) (owners starts queue backs marks : List ℕ) (k : ℕ) → IsNet (net_of site) → AreLinks site owners starts → IsBlocked site owners queue backs marks → length starts ≤ k
     → IsLowCut site.graph k site.node site.height (label_at site.labels) (ascending_of (unmarked marks queue))
@@ -190,9 +178,7 @@ blocked_cut site owners starts queue backs marks k is links b few =
 -- a list is no shorter with more elements
 put_longer : (x : ℕ) (ys : List ℕ) → length ys ≤ length (put x ys)
 put_longer x [] = omega arith
-put_longer x (y ∷ ys) =
-    choose (λ zs. suc (length ys) ≤ length zs) (ltb x y) (x ∷ y ∷ ys) (cond (eqb x y) (y ∷ ys) (y ∷ put x ys)) (λ _. omega arith)
-    (λ _. choose (λ zs. suc (length ys) ≤ length zs) (eqb x y) (y ∷ ys) (y ∷ put x ys) (λ _. omega arith) (λ _. let l : length ys ≤ length (put x ys) = put_longer x ys in omega arith))
+put_longer x (y ∷ ys) = grind (arith, ltb, cond, eqb, put_longer x ys)
 
 union_longer : (xs ys : List ℕ) → length ys ≤ length (union xs ys)
 union_longer [] ys = omega arith
@@ -201,16 +187,13 @@ union_longer (x ∷ xs) ys = let a : length ys ≤ length (put x ys) = put_longe
 -- one more node of a cut
 pub cut_more : (nodes cut larger one : List ℕ) (i : ℕ) → i < length nodes → one ≡ get_or nodes i 0 ∷ [] → larger ≡ union one cut → union (drop i nodes) cut ≡ ascending_of nodes → union (drop (i + 1) nodes) larger ≡ ascending_of nodes
 cut_more nodes cut larger one i l o u rest =
-    let d : drop i nodes ≡ get_or nodes i 0 ∷ drop (i + 1) nodes = drop_get nodes i (get_or nodes i 0) (slice_get-get_or nodes i 0 l) in
-    ap (λ x. union (drop (i + 1) nodes) x) (u ∙ ap (λ x. union x cut) o) ∙ (ap (λ x. union x cut) (sym d) ∙ rest)
+    ap (λ x. union (drop (i + 1) nodes) x) (u ∙ ap (λ x. union x cut) o) ∙ (ap (λ x. union x cut) (sym (drop_get nodes i (get_or nodes i 0) (slice_get-get_or nodes i 0 l))) ∙ rest)
 
 -- with it the cut is too large
 pub cut_over : (nodes cut one : List ℕ) (i k : ℕ) → i < length nodes → one ≡ get_or nodes i 0 ∷ [] → k < length (union one cut) → union (drop i nodes) cut ≡ ascending_of nodes → k < length (ascending_of nodes)
 cut_over nodes cut one i k l o over rest =
     let e : union (drop (i + 1) nodes) (union one cut) ≡ ascending_of nodes = cut_more nodes cut (union one cut) one i l o refl rest in
-    let g : length (union one cut) ≤ length (union (drop (i + 1) nodes) (union one cut)) = union_longer (drop (i + 1) nodes) (union one cut) in
-    let n : length (union (drop (i + 1) nodes) (union one cut)) ≡ length (ascending_of nodes) = ap length e in
-    omega arith
+    omega (arith, union_longer (drop (i + 1) nodes) (union one cut), ap length e)
 
 -- all nodes are in the cut
 pub cut_all : (nodes cut : List ℕ) (i : ℕ) → length nodes ≤ i → union (drop i nodes) cut ≡ ascending_of nodes → cut ≡ ascending_of nodes

@@ -13,7 +13,6 @@ module _ (net : FlowNet) (is : IsNet net) (p : ℕ) (at : net.height ≡ p + 1) 
   upper_deep (suc b) v l (inr u) =
       let m = is.readers.met v u.0 in
       let up : v < net.reader v = fan_in_below net.graph v (net.reader v) is.normal m.reads in
-      let high : net.height ≤ net.label v + 1 = u.1 in
       down (net.reader v) (upper_deep b (net.reader v) (omega arith) m.upper) m.reads m.live (omega arith)
 
   deep_upper : {v : ℕ} → IsDeep net.graph net.label net.node p v → IsUpper net v
@@ -23,7 +22,6 @@ module _ (net : FlowNet) (is : IsNet net) (p : ℕ) (at : net.height ≡ p + 1) 
   end_of : (u : ℕ) → IsEnd net u → IsEndOf net.graph net.label net.node p u
   end_of u e =
       let m = is.readers.met u e.met in
-      let low : net.label u + 1 < net.height = e.low in
       record { reader = net.reader u; deep = upper_deep net.node (net.reader u) (omega arith) m.upper; reads = m.reads; live = m.live; low = omega arith }
 
   is_end : (u : ℕ) → IsEndOf net.graph net.label net.node p u → IsEnd net u

@@ -36,9 +36,7 @@ module _ (site : SiteValue) (owners starts : List ℕ) (links : AreLinks site ow
   pub search_smaller : (queue backs queue' backs' : List ℕ) (stack left stack' : ℕ) → AreMet (net_of site) (owner_in site owners) queue backs → AreMet (net_of site) (owner_in site owners) queue' backs' → ((u : ℕ) → In queue u → In queue' u)
       → left + 1 ≡ stack → stack' + length queue ≡ left + length queue' → 2 * (site.node - length queue') + stack' < 2 * (site.node - length queue) + stack
   search_smaller queue backs queue' backs' stack left stack' was met kept less more =
-      let a : length queue ≤ length queue' = apart_short queue queue' was.once kept in
-      let b : length queue' ≤ site.node = met_short (net_of site) (owner_in site owners) queue' backs' met in
-      omega arith
+      omega (arith, apart_short queue queue' was.once kept, met_short (net_of site) (owner_in site owners) queue' backs' met)
 
 -- all ends were met, and all that was met was handed on
 pub blocked : (site : SiteValue) (owners seen queue backs passed ends : List ℕ) (n : ℕ) → IsSearching (net_of site) (owner_in site owners) seen queue backs passed [] → AreEnds (net_of site) ends → ((j : ℕ) → j < n → In queue (get_or ends j 0)) → length ends ≤ n

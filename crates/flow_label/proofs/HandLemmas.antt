@@ -79,10 +79,7 @@ module _ (site : SiteValue) (owners starts : List ℕ) (links : AreLinks site ow
   found_last queue queue' backs' l = record { met = l.met; some = l.some; free = l.free }
 
   pub queue_small : (queue backs : List ℕ) → AreMet (net_of site) (owner_in site owners) queue backs → IsNet (net_of site) → node_count site.graph ≤ 2 ^ 30 → length queue < 2 ^ 30
-  queue_small queue backs met is small =
-      let l : length queue ≤ site.node = met_short (net_of site) (owner_in site owners) queue backs met in
-      let n : site.node < node_count site.graph = is.and.1 in
-      omega arith
+  queue_small queue backs met is small = omega (arith, met_short (net_of site) (owner_in site owners) queue backs met, is.and.1)
 
   -- One place is handed on: a, the owner of the node there, is another one than the node.
   module _ (is : IsNet (net_of site)) (small : node_count site.graph ≤ 2 ^ 30) (seen queue backs passed stack : List ℕ) (place u a : ℕ) (k : IsSearching (net_of site) (owner_in site owners) seen queue backs passed (place ∷ stack))

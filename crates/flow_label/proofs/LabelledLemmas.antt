@@ -1,5 +1,5 @@
 -- Labels and low cuts, node by node, are least heights in the end.
-use Rattle.flow_label.proofs.Common.{◌≡◌, ℕ, ◌+◌, ◌<◌, ◌≤◌, List, [], ◌∷◌, ◌++◌, length, get_or, refl, sym, ◌∙◌, subst, inl, inr, ◌⊎◌, arith, cases_lt, length-append, get_or_push, get_or_past, get_or-append, Aig, first_and, node_count, IsAnd, In, height, label_at}
+use Rattle.flow_label.proofs.Common.{◌≡◌, ℕ, ◌+◌, ◌<◌, ◌≤◌, List, [], ◌∷◌, ◌++◌, length, get_or, refl, sym, ◌∙◌, subst, inl, inr, ◌⊎◌, arith, cases_lt, length-append, get_or_push, get_or_past, get_or-append, Aig, first_and, node_count, IsAnd, In, height, label_at, rules}
 use Rattle.std.proofs.lemmas.Bool.{cases_order}
 use Rattle.cut_sets.specs.Labels.{AreLeastHeights}
 use Rattle.cut_sets.proofs.HeightLemmas.{height_same, height_bound}
@@ -30,11 +30,7 @@ module _ (g : Aig) (k n : ℕ) (labels : List ℕ) (cuts : List (List ℕ)) (x :
 
   -- a label and a cut over the labels before are so over those with one more
   labelled_more : (m y : ℕ) (d : List ℕ) → m ≤ n → IsLabelled g k m (label_at labels) y d → IsLabelled g k m (label_at (labels ++ x ∷ [])) y d
-  labelled_more m y d l is = record {
-    cut = is.cut;
-    met = height_old d (λ i j. let b : i < m = (is.cut.below i j).0 in omega arith) ∙ is.met;
-    least = λ e cut. let a : y ≤ height (label_at labels) e = is.least e cut in let q : height (label_at (labels ++ x ∷ [])) e ≡ height (label_at labels) e = height_old e (λ i j. let b : i < m = (cut.below i j).0 in omega arith) in omega arith;
-  }
+  labelled_more m y d l is = search (rules, height_old)
 
   low_push : (m : ℕ) → (m ≡ n) ⊎ ((m < n) ⊎ (n < m)) → label_at (labels ++ x ∷ []) m ≤ m
   low_push m (inl q) = let a : label_at (labels ++ x ∷ []) m ≡ x = label_new m (sym q) in omega arith

@@ -133,18 +133,10 @@ abbrev with_value : (ℕ → ℕ) → ℕ → ℕ → ℕ → ℕ
 with_value f at v m = cond (eqb m at) v (f m)
 
 value_updated : (f : ℕ → ℕ) (at v : ℕ) → IsUpdated f (with_value f at v) at v
-value_updated f at v = record {
-  there = choose (λ x. x ≡ v) (eqb at at) v (f at) (λ _. refl) (λ e. absurd (eqb-false at at e refl));
-  elsewhere = λ m ne. choose (λ x. x ≡ f m) (eqb m at) v (f m) (λ e. absurd (ne (eqb-true m at e))) (λ _. refl);
-}
+value_updated f at v = search (rules, eqb, eqb-false, eqb-true)
 
 pub owner_set : (s : SiteValue) (owners : List ℕ) (i v : ℕ) → i < length owners → 0 < v → IsUpdated (owner_in s owners) (owner_in s (set owners i v)) i v
-owner_set s owners i v l pos = record {
-  there = choose (λ x. x ≡ v) (eqb (get_or (set owners i v) i 0) 0) (first_owner s i) (get_or (set owners i v) i 0)
-      (λ e. let a : get_or (set owners i v) i 0 ≡ 0 = eqb-true (get_or (set owners i v) i 0) 0 e in let b : get_or (set owners i v) i 0 ≡ v = get_or-set_same owners i v 0 l in absurd (omega arith))
-      (λ _. get_or-set_same owners i v 0 l);
-  elsewhere = λ m ne. ap (λ x. cond (eqb x 0) (first_owner s m) x) (get_or-set_other owners i m v 0 ne);
-}
+owner_set s owners i v l pos = search (rules, eqb, eqb-true, get_or-set_same, cond, get_or-set_other)
 
 -- In the middle of it: before the place j the owners are as they were, and the node at j is loose.
 pub record IsTurning (net : FlowNet) (count : ℕ) (before : ℕ → ℕ) (queue : List ℕ) (from : ℕ) (owner : ℕ → ℕ) (j : ℕ) : Type 0 where
@@ -178,20 +170,16 @@ module _ (net : FlowNet) (count : ℕ) (before : ℕ → ℕ) (queue backs : Lis
       → IsTurning net count before queue from owner' (get_or backs j 0 - 1)
   turned owner owner' j k pos new_owner =
       let n : IsNext owner j = next_turn owner j k pos in
-      let u : ℕ = get_or queue j 0 in
-      let w : ℕ = get_or queue (get_or backs j 0 - 1) 0 in
       let a : ℕ = owner (get_or queue (get_or backs j 0 - 1) 0) in
-      let lt : get_or backs j 0 - 1 < j = n.back in
-      let len : j < length queue = k.place in
       let a_pos : 0 < a = inner_pos net a n.inner in
-      let apart : (b : ℕ) → b < j → get_or queue b 0 ≡ u → ⊥ = (λ b l e. once_places queue b j s.once l len e) in
+      let apart : (b : ℕ) → b < j → get_or queue b 0 ≡ _ → ⊥ = (λ b l e. once_places queue b j s.once l k.place e) in
       record {
-        chosen = with_value k.chosen a u;
-        linked = hand_on net owner k.chosen owner' (with_value k.chosen a u) count u w a k.linked refl n.inner n.choice (apart (get_or backs j 0 - 1) lt) new_owner (value_updated k.chosen a u);
+        chosen = with_value k.chosen a _;
+        linked = hand_on net owner k.chosen owner' (with_value k.chosen a _) count _ _ a k.linked refl n.inner n.choice (apart (get_or backs j 0 - 1) n.back) new_owner (value_updated k.chosen a _);
         place = omega arith;
         same = λ b l. new_owner.elsewhere (get_or queue b 0) (apart b (omega arith)) ∙ k.same b (omega arith);
-        kept = λ x p. owned_kept owner owner' u a x a_pos new_owner (k.kept x p);
-        begun = inr (begun_at owner owner' u a (get_or queue from 0) a_pos new_owner (elim k.begun [ inl e ↦ inl (ap (λ b. get_or queue b 0) (sym e)) | inr p ↦ inr p ]));
+        kept = λ x p. owned_kept owner owner' _ a x a_pos new_owner (k.kept x p);
+        begun = inr (begun_at owner owner' _ a (get_or queue from 0) a_pos new_owner (elim k.begun [ inl e ↦ inl (ap (λ b. get_or queue b 0) (sym e)) | inr p ↦ inr p ]));
       }
 
   -- the first step: the node without an owner

@@ -1,5 +1,5 @@
 -- The low cuts, node by node, are those of the definition in the end.
-use Rattle.flow_label.proofs.Common.{◌≡◌, ℕ, ◌+◌, ◌<◌, ◌≤◌, List, [], ◌∷◌, ◌++◌, length, refl, sym, ◌∙◌, subst, inl, inr, ◌⊎◌, arith, cases_lt, length-append, get_or_push, get_or_past, get_or-append, Aig, AreNormal, first_and, node_count, IsAnd, first, label_at}
+use Rattle.flow_label.proofs.Common.{◌≡◌, ℕ, ◌+◌, ◌<◌, ◌≤◌, List, [], ◌∷◌, ◌++◌, length, refl, sym, ◌∙◌, subst, inl, inr, ◌⊎◌, arith, cases_lt, length-append, get_or_push, get_or_past, get_or-append, Aig, AreNormal, first_and, node_count, IsAnd, first, label_at, rules}
 use Rattle.std.proofs.lemmas.Bool.{cases_order}
 use Rattle.flow_label.specs.Labelled.{AreLabelledTo}
 use Rattle.flow_label.specs.LowCuts.{by_walk, by_search, by_join, by_flow, IsLowWith, by_fan_ins, by_lower, HasLowWith, AreLowsTo}
@@ -61,7 +61,4 @@ low_of g k label lows n p c (by_lower e s (by_flow w (by_search m i))) = nearest
 
 -- all nodes
 pub lows_are : (g : Aig) (k : ℕ) (v : FlowValue) → AreLowsTo g k (node_count g) v → AreLowsOf g k (label_of v) (low_cut_of v)
-lows_are g k v w = record {
-  none = w.none;
-  each = λ n and. let is = w.each n and.1 and in record { greatest = is.greatest; is = is.is; low = low_of g k (label_of v) (low_cut_of v) n is.greatest (low_cut_of v n) is.low };
-}
+lows_are g k v w = search (rules, low_of)

@@ -3,7 +3,7 @@
 -- Let d be any low cut. Of the inner nodes, those that d blocks and does not have choose only nodes that d blocks. So what d does not block of
 -- the other inner nodes and of the starts is owned by these others, each by a different one. Therefore d has no fewer leaves than there are
 -- paths. If it has as few, the others own nothing that d blocks, and so d blocks all that the search has met.
-use Rattle.flow_label.proofs.Common.{◌≡◌, ℕ, zero, suc, ◌+◌, ◌-◌, ◌<◌, ◌≤◌, Bool, true, false, List, [], ◌∷◌, ◌++◌, length, get_or, map, refl, sym, subst, inl, inr, ◌⊎◌, arith, length-append, cases_lt, cases_eq, eqb, first_and, node_count, In, Blocks, AreApart, joined_apart, apart_short, In-append, In-place, In-get_or, from_map, ascending_of, unmarked, IsLowCut, FlowNet, IsInner, IsUpper, IsEnd, IsNet, IsFanIn, IsChoice, HasChosen, IsLinked, AreStarts, AreMet, SiteValue, net_of, owner_in, AreLinks, IsBlocked, label_at}
+use Rattle.flow_label.proofs.Common.{◌≡◌, ℕ, zero, suc, ◌+◌, ◌-◌, ◌<◌, ◌≤◌, Bool, true, false, List, [], ◌∷◌, ◌++◌, length, get_or, map, refl, sym, subst, inl, inr, ◌⊎◌, arith, length-append, cases_lt, cases_eq, eqb, first_and, node_count, In, Blocks, AreApart, joined_apart, apart_short, In-append, In-place, In-get_or, from_map, ascending_of, unmarked, IsLowCut, FlowNet, IsInner, IsUpper, IsEnd, IsNet, IsFanIn, IsChoice, HasChosen, IsLinked, AreStarts, AreMet, SiteValue, net_of, owner_in, AreLinks, IsBlocked, label_at, rules}
 use Rattle.std.proofs.Common.{not}
 use Rattle.std.proofs.lemmas.Bool.{not-true}
 use Rattle.std.proofs.lemmas.List.{length-map}
@@ -37,22 +37,7 @@ yes_is (inl p) q = refl
 yes_is (inr n) q = absurd (n q)
 
 decide_inner : (net : FlowNet) (a : ℕ) → IsInner net a ⊎ (IsInner net a → ⊥)
-decide_inner net a = elim (cases_lt a (first_and net.graph)) [
-  | inl s ↦ inr (λ i. let f : first_and net.graph ≤ a = i.and.0 in absurd (omega arith))
-  | inr f ↦ elim (cases_lt a (node_count net.graph)) [
-    | inr p ↦ inr (λ i. let q : a < node_count net.graph = i.and.1 in absurd (omega arith))
-    | inl q ↦ elim (cases_lt a net.node) [
-      | inr t ↦ inr (λ i. let b : a < net.node = i.below in absurd (omega arith))
-      | inl b ↦ elim (cases_lt (net.label a + 1) net.height) [
-        | inr h ↦ inr (λ i. let l : net.label a + 1 < net.height = i.low in absurd (omega arith))
-        | inl l ↦ elim (cases_lt 0 (net.label a)) [
-          | inl v ↦ inl (record { and = (f, q); below = b; low = l; live = v })
-          | inr z ↦ inr (λ i. let v : 1 ≤ net.label a = i.live in absurd (omega arith))
-        ]
-      ]
-    ]
-  ]
-]
+decide_inner net a = search (rules, cases_lt)
 
 module _ (net : FlowNet) (is : IsNet net) (owner chosen : ℕ → ℕ) (count : ℕ) (k : IsLinked net 0 owner chosen count) (starts : List ℕ) (begin : AreStarts net owner starts) (size : length starts ≡ count)
     (most : ℕ) (d : List ℕ) (is_low : IsLowCut net.graph most net.node net.height net.label d) where
@@ -69,8 +54,7 @@ module _ (net : FlowNet) (is : IsNet net) (owner chosen : ℕ → ℕ) (count : 
   upper_blocked zero v l (inr u) = let b : v < net.node = (is.readers.met v u.0).below in absurd (omega arith)
   upper_blocked (suc b) v l (inr u) =
       let m = is.readers.met v u.0 in
-      let up : v < net.reader v = fan_in_below net.graph v (net.reader v) is.normal m.reads in
-      read_blocked v (net.reader v) m.reads m.upper (upper_blocked b (net.reader v) (omega arith) m.upper)
+      read_blocked v (net.reader v) m.reads m.upper (upper_blocked b (net.reader v) (omega (arith, fan_in_below net.graph v (net.reader v) is.normal m.reads)) m.upper)
 
   end_blocked : (u : ℕ) → IsEnd net u → Blocks net.graph d u
   end_blocked u e = let m = is.readers.met u e.met in read_blocked u (net.reader u) m.reads m.upper (upper_blocked net.node (net.reader u) (omega arith) m.upper)
@@ -155,7 +139,6 @@ module _ (net : FlowNet) (is : IsNet net) (owner chosen : ℕ → ℕ) (count : 
   loose_owned : (m : ℕ) → In loose m → HasChosen net chosen (owner m) m × IsRest (owner m)
   loose_owned m i =
       let l = loose_is m i in
-      let pos : 0 < m = l.1 in
       elim (k.owned m (λ e. let z : m ≡ 0 = e in absurd (omega arith)) l.2) [
         | inl e ↦ absurd (l.0 (end_blocked m e.1))
         | inr h ↦ (
@@ -176,10 +159,9 @@ module _ (net : FlowNet) (is : IsNet net) (owner chosen : ℕ → ℕ) (count : 
   -- d has as many leaves as there are paths, and more where it has fewer of the others than own something
   enough : (more : ℕ) → length loose + more ≤ length rest → count + more ≤ length d
   enough more l =
-      let c : length covered ≤ length d = apart_short covered d (both_apart held) covered_in in
       let a : length (filter held rest) + length (filter free rest) ≡ length rest = length-filter_both held free (λ u. refl) rest in
       let b : length (filter held starts) + length (filter free starts) ≡ length starts = length-filter_both held free (λ u. refl) starts in
-      omega (arith, length-append (filter held rest) (filter held starts), length-append (filter free rest) (filter free starts), size)
+      omega (arith, apart_short covered d (both_apart held) covered_in, length-append (filter held rest) (filter held starts), length-append (filter free rest) (filter free starts), size)
 
   -- no low cut has fewer leaves than there are paths
   pub paths_few : count ≤ length d

@@ -1,5 +1,5 @@
 -- Two least low cuts nearest to the node are the same.
-use Rattle.flow_label.proofs.Common.{◌≡◌, ℕ, ◌/◌, ◌<◌, ◌≤◌, Bool, true, List, [], ◌∷◌, length, refl, sym, subst, inl, inr, eqb, arith, cases_eq, cases_Bool, ap, eqb-true, eqb-false, Aig, AreNormal, first_and, In, IsAscending, Blocks, member, constant, parameter, fan_ins, apart_short, choose}
+use Rattle.flow_label.proofs.Common.{◌≡◌, ℕ, ◌/◌, ◌<◌, ◌≤◌, Bool, true, List, [], ◌∷◌, length, refl, sym, subst, inl, inr, eqb, arith, cases_eq, cases_Bool, ap, eqb-true, eqb-false, Aig, AreNormal, first_and, In, IsAscending, Blocks, member, constant, parameter, fan_ins, apart_short, choose, rules}
 use Rattle.std.proofs.Common.{not}
 use Rattle.std.proofs.lemmas.Bool.{not-true}
 use Rattle.std.specs.Prelude.{filter}
@@ -26,8 +26,7 @@ from_others c m x i = let f = In-filter (λ x. not (eqb x m)) c x i in (f.0, eqb
 filtered_ascending : (test : ℕ → Bool) (xs : List ℕ) → IsAscending xs → IsAscending (filter test xs)
 filtered_ascending test [] a = tt
 filtered_ascending test (x ∷ xs) a =
-    let rest : IsAscending (filter test xs) = filtered_ascending test xs a.1 in
-    choose (λ l. IsAscending l) (test x) (x ∷ filter test xs) (filter test xs) (λ t. ((λ n i. a.0 n (In-filter test xs n i).0), rest)) (λ u. rest)
+    choose (λ l. IsAscending l) (test x) (x ∷ filter test xs) (filter test xs) (λ t. ((λ n i. a.0 n (In-filter test xs n i).0), (filtered_ascending test xs a.1))) (λ u. (filtered_ascending test xs a.1))
 
 -- it is shorter
 others_shorter : (c : List ℕ) (m : ℕ) → IsAscending c → In c m → length (others m c) < length c
@@ -45,22 +44,15 @@ module _ (g : Aig) (normal : AreNormal (first_and g) g.pairs) where
   below_blocked c m (parameter s) l = parameter s
   below_blocked c m {w} (fan_ins p is x y) l =
       let n = node_normal g w p normal is in
-      let a : p.x.0 / 2 < p.y.0 / 2 = n.ordered in
-      let b : p.y.0 / 2 < w = n.below in
       fan_ins p is (below_blocked c m x (omega arith)) (below_blocked c m y (omega arith))
 
   -- what another list blocks up to m, where it does not have m and c blocks all that it has
   through_blocked : (c d : List ℕ) (m : ℕ) → ((x : ℕ) → In d x → Blocks g c x) → (In d m → ⊥) → {w : ℕ} → Blocks g d w → w ≤ m → Blocks g (others m c) w
-  through_blocked c d m each out {w} (member i) l = elim (cases_eq w m) [
-    | inl e ↦ absurd (out (subst (λ x. In d x) e i))
-    | inr ne ↦ below_blocked c m (each w i) (omega arith)
-  ]
+  through_blocked c d m each out {w} (member i) l = search (rules, cases_eq, below_blocked)
   through_blocked c d m each out (constant e) l = constant e
   through_blocked c d m each out (parameter s) l = parameter s
   through_blocked c d m each out {w} (fan_ins p is x y) l =
       let n = node_normal g w p normal is in
-      let a : p.x.0 / 2 < p.y.0 / 2 = n.ordered in
-      let b : p.y.0 / 2 < w = n.below in
       fan_ins p is (through_blocked c d m each out x (omega arith)) (through_blocked c d m each out y (omega arith))
 
   -- a leaf that the others block is not needed
@@ -77,16 +69,7 @@ module _ (g : Aig) (normal : AreNormal (first_and g) g.pairs) where
     | inr out ↦ absurd (
         let blocked : Blocks g (others m c) m = through_blocked c d m (λ x j. b.nearest c x a.cut (a.least d b.cut) j) out (a.nearest d m b.cut (b.least c a.cut) i) (omega arith) in
         let shorter : length (others m c) < length c = others_shorter c m a.cut.cut.ascending i in
-        let few : length c ≤ k = a.cut.cut.few in
-        let l : length c ≤ length (others m c) = a.least (others m c) (record {
-          cut = record {
-            ascending = filtered_ascending (λ x. not (eqb x m)) c a.cut.cut.ascending;
-            few = omega arith;
-            below = λ x j. a.cut.cut.below x (from_others c m x j).0;
-            blocks = without_blocked c m blocked a.cut.cut.blocks;
-          };
-          low = λ x j. a.cut.low x (from_others c m x j).0;
-        }) in
+        let l : length c ≤ length (others m c) = grind (arith, others, filtered_ascending, eqb, from_others, without_blocked) in
         (let no : ⊥ = omega arith in no))
   ]
 

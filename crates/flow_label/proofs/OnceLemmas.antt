@@ -34,6 +34,4 @@ numbers_apart (suc n) = ((λ i. let l : n < n = numbers_below n n i in absurd (o
 
 -- numbers below n are at most n
 pub once_few : (xs : List ℕ) (n : ℕ) → AreApart xs → ((x : ℕ) → In xs x → x < n) → length xs ≤ n
-once_few xs n s below =
-    let l : length xs ≤ length (numbers n) = apart_short xs (numbers n) s (λ x i. in_numbers n x (below x i)) in
-    let e : length (numbers n) ≡ n = length_numbers n in omega arith
+once_few xs n s below = omega (arith, apart_short xs (numbers n) s (λ x i. in_numbers n x (below x i)), length_numbers n)

@@ -1,5 +1,5 @@
 -- The cuts that come from the fan-ins of a node alone.
-use Rattle.flow_label.proofs.Common.{◌≡◌, ℕ, suc, ◌+◌, ◌-◌, ◌/◌, ◌<◌, ◌≤◌, List, [], ◌∷◌, length, refl, sym, ap, ◌∙◌, subst, inl, inr, arith, cases_lt, max, Aig, first_and, node_count, IsAnd, IsNode, IsSource, AreNormal, Regular, Pair, In, IsAscending, Blocks, CanBeLeaf, IsCut, fan_ins, member, IsFanIn, first, second, IsLive, AreKnownTo, IsLowCut, IsHigh, union, height}
+use Rattle.flow_label.proofs.Common.{◌≡◌, ℕ, suc, ◌+◌, ◌-◌, ◌/◌, ◌<◌, ◌≤◌, List, [], ◌∷◌, length, refl, sym, ap, ◌∙◌, subst, inl, inr, arith, cases_lt, max, Aig, first_and, node_count, IsAnd, IsNode, IsSource, AreNormal, Regular, Pair, In, IsAscending, Blocks, CanBeLeaf, IsCut, fan_ins, member, IsFanIn, first, second, IsLive, AreKnownTo, IsLowCut, IsHigh, union, height, rules}
 use Rattle.aig_core.proofs.NodeLemmas.{same_pair}
 use Rattle.cut_sets.proofs.BlockLemmas.{Blocks-within, regular_blocked}
 use Rattle.cut_sets.proofs.HeightLemmas.{height_le, height_member, height_none}
@@ -21,9 +21,7 @@ known_to g k n v normal top w = record {
       let is = w.each u l and in
       let a : label_of v m ≤ height (label_of v) (low_cut_of v u) = fan_in_low g normal k (label_of v) m u (low_cut_of v u) f is.cut (omega arith) (w.sources m) (λ d m_and cut. (w.each m (omega arith) m_and).least d cut) below in
       let e : height (label_of v) (low_cut_of v u) ≡ label_of v u = is.met in omega arith;
-  free = λ m l and z.
-      let is = w.each m l and in
-      subst (λ c. Blocks g c m) (height_none (label_of v) (low_cut_of v m) (is.met ∙ z)) is.cut.blocks;
+  free = λ m l and z. grind (arith, height_none);
 }
 
 put_length : (x : ℕ) (c : List ℕ) → length (put x c) ≤ suc (length c)
@@ -73,30 +71,16 @@ module _ (g : Aig) (k n : ℕ) (v : FlowValue) (normal : AreNormal (first_and g)
     below = λ x i. elim i [ inl q ↦ subst (λ y. (y < n) × CanBeLeaf g y × (label_of v y + 1 < h)) (sym q) (below, live_leaf g (label_of v) m l, small) | inr b ↦ absurd b ];
     blocks = member (inl refl);
   })
-  own_is h m c below small (free never e) = rw e (record {
-    ascending = tt;
-    below = λ x i. absurd i;
-    blocks = elim (free_or_live g (label_of v) [] m n known below (let t : n < node_count g = and.1 in omega arith)) [ inl b ↦ b | inr l ↦ absurd (never l) ];
-  })
+  own_is h m c below small (free never e) = grind (arith, free_or_live, known)
 
   -- a node with a label is an AND node
   labelled_and : (m : ℕ) → m < n → 1 ≤ label_of v m → IsAnd g m
-  labelled_and m below some = elim (cases_lt m (first_and g)) [
-    | inl s ↦ absurd (let z : label_of v m ≡ 0 = w.sources m s in omega arith)
-    | inr a ↦ (a, (let t : n < node_count g = and.1 in let q : m < node_count g = omega arith in q))
-  ]
+  labelled_and m below some = search (rules, cases_lt)
 
   -- the low part of a fan-in
   low_is : (p m : ℕ) (c : List ℕ) → m < n → 1 ≤ p → label_of v m ≤ p → IsLowPart g (label_of v) (low_cut_of v) p m c → IsPart g n (p + 1) (label_of v) m c
   low_is p m c below some top (own l o) = own_is (p + 1) m c below (omega arith) o
-  low_is p m c below some top (low l e) =
-      let is = w.each m below (labelled_and m below (omega arith)) in
-      let met : height (label_of v) (low_cut_of v m) ≡ label_of v m = is.met in
-      rw e (record {
-        ascending = is.cut.ascending;
-        below = λ x i. let q = is.cut.below x i in let r : x < m = q.0 in let s : label_of v x + 1 ≤ height (label_of v) (low_cut_of v m) = height_member (label_of v) (low_cut_of v m) x i in ((let b : x < n = omega arith in b), q.1, (let b : label_of v x + 1 < p + 1 = omega arith in b));
-        blocks = is.cut.blocks;
-      })
+  low_is p m c below some top (low l e) = grind (arith, labelled_and, height_member)
 
   -- no cut of the node is lower than the label of a fan-in
   cut_high : (m : ℕ) (d : List ℕ) → IsFanIn g m n → IsCut g k n d → label_of v m ≤ height (label_of v) d

@@ -7,9 +7,7 @@ use Rattle.flow_label.proofs.NearestLemmas.{blocked_nearest}
 -- where each cut is high, there is no low cut
 pub low_high : (g : Aig) (k n h : ℕ) (label : ℕ → ℕ) (c : List ℕ) → 2 ≤ h → IsHigh g k n h label → IsLowCut g k n h label c → ⊥
 low_high g k n h label c two high low =
-    let a : h ≤ height label c = high.high c low.cut in
-    let b : height label c ≤ suc (h - 2) = height_le label c (h - 2) (λ m i. let l : label m + 1 < h = low.low m i in omega arith) in
-    absurd (omega arith)
+    absurd (omega (arith, high.high c low.cut, height_le label c (h - 2) (λ m i. let l : label m + 1 < h = low.low m i in omega arith)))
 
 -- what a blocked search has met and not passed is the nearest least low cut
 pub barrier_nearest : (site : SiteValue) (owners starts kept : List ℕ) (k : ℕ) → IsNet (net_of site) → AreLinks site owners starts → length starts ≤ k → IsBarrier site owners kept

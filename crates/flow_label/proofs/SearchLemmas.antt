@@ -1,5 +1,5 @@
 -- The search, step by step.
-use Rattle.flow_label.proofs.Common.{◌≡◌, ℕ, ◌+◌, ◌-◌, ◌<◌, ◌≤◌, Bool, true, false, List, [], ◌∷◌, ◌++◌, length, get_or, set, refl, sym, ap, ◌∙◌, subst, inl, inr, ◌⊎◌, arith, length-append, get_or-set_other, get_or-set_same, length-set, cases_eq, cases_lt, get_or_push, get_or-append, node_count, In, In-append, In-get_or, In-left, In-right, In-push, IsLive, IsFanIn, pushed_apart, FlowNet, IsLow, IsInner, IsEnd, IsNet, IsChoice, IsLinked, ComesFrom, IsHandedOn, AreMet, IsSearching, Extends, zeros, length-replicate}
+use Rattle.flow_label.proofs.Common.{◌≡◌, ℕ, ◌+◌, ◌-◌, ◌<◌, ◌≤◌, Bool, true, false, List, [], ◌∷◌, ◌++◌, length, get_or, set, refl, sym, ap, ◌∙◌, subst, inl, inr, ◌⊎◌, arith, length-append, get_or-set_other, get_or-set_same, length-set, cases_eq, cases_lt, get_or_push, get_or-append, node_count, In, In-append, In-get_or, In-left, In-right, In-push, IsLive, IsFanIn, pushed_apart, FlowNet, IsLow, IsInner, IsEnd, IsNet, IsChoice, IsLinked, ComesFrom, IsHandedOn, AreMet, IsSearching, Extends, zeros, length-replicate, rules}
 use Rattle.std.proofs.lemmas.Bool.{false≢true}
 use Rattle.flow_label.specs.Search.{HasMet, free, old, end, new}
 use Rattle.flow_label.proofs.GraphLemmas.{fan_in_below, live_inside, live_pos}
@@ -23,11 +23,7 @@ extends_push queue m = record {
 }
 
 pub extends_twice : (a b c : List ℕ) → Extends a b → Extends b c → Extends a c
-extends_twice a b c e f = record {
-  kept = λ x i. f.kept x (e.kept x i);
-  same = λ j l. f.same j (let g : length a ≤ length b = e.longer in omega arith) ∙ e.same j l;
-  longer = (let g : length a ≤ length b = e.longer in let h : length b ≤ length c = f.longer in omega arith);
-}
+extends_twice a b c e f = search rules
 
 -- a search meets no more nodes than there are
 pub met_short : (net : FlowNet) (owner : ℕ → ℕ) (queue backs : List ℕ) → AreMet net owner queue backs → length queue ≤ net.node
@@ -47,31 +43,24 @@ module _ (net : FlowNet) (owner : ℕ → ℕ) where
   -- a choice of the owner of a place comes from there
   pub comes_choice : (queue : List ℕ) (place a m : ℕ) → place < length queue → owner (get_or queue place 0) ≡ a → IsInner net a → IsChoice net a m → ComesFrom net owner (queue ++ m ∷ []) (place + 1) (length queue)
   comes_choice queue place a m inside is inner choice =
-      let at : get_or (queue ++ m ∷ []) (length queue) 0 ≡ m = get_or_push queue m 0 (length queue) refl in
       let before : get_or (queue ++ m ∷ []) (place + 1 - 1) 0 ≡ get_or queue place 0 = ap (λ i. get_or (queue ++ m ∷ []) i 0) (let q : place + 1 - 1 ≡ place = omega arith in q) ∙ get_or-append queue (m ∷ []) 0 place inside in
       let owns : owner (get_or (queue ++ m ∷ []) (place + 1 - 1) 0) ≡ a = ap owner before ∙ is in
       record {
         end = λ z. absurd (omega arith);
         earlier = omega arith;
         inner = λ p. subst (λ x. IsInner net x) (sym owns) inner;
-        choice = λ p. subst (λ x. IsChoice net x (get_or (queue ++ m ∷ []) (length queue) 0)) (sym owns) (subst (λ x. IsChoice net a x) (sym at) choice);
+        choice = λ p. subst (λ x. IsChoice net x (get_or (queue ++ m ∷ []) (length queue) 0)) (sym owns) (subst (λ x. IsChoice net a x) (sym (get_or_push queue m 0 (length queue) refl)) choice);
       }
 
   -- an end comes from nowhere
   pub comes_end : (queue : List ℕ) (m : ℕ) → IsEnd net m → ComesFrom net owner (queue ++ m ∷ []) 0 (length queue)
-  comes_end queue m e = record {
-    end = λ z. subst (λ x. IsEnd net x) (sym (get_or_push queue m 0 (length queue) refl)) e;
-    earlier = omega arith;
-    inner = λ p. absurd (omega arith);
-    choice = λ p. absurd (omega arith);
-  }
+  comes_end queue m e = search (rules, get_or_push)
 
   -- one more node that was met
   met_push : (queue backs : List ℕ) (m back : ℕ) → AreMet net owner queue backs → (m < net.node) × IsLive net.graph net.label m × IsLow net m → (In queue m → ⊥) → ComesFrom net owner (queue ++ m ∷ []) back (length queue) → AreMet net owner (queue ++ m ∷ []) (backs ++ back ∷ [])
   met_push queue backs m back k node fresh from =
       let len : length (queue ++ m ∷ []) ≡ length queue + 1 = length-append queue (m ∷ []) in
       let more : length (backs ++ back ∷ []) ≡ length backs + 1 = length-append backs (back ∷ []) in
-      let count : length backs ≡ length queue = k.count in
       record {
         once = pushed_apart queue m k.once fresh;
         nodes = λ u i. elim (In-push queue m u i) [ inl j ↦ k.nodes u j | inr e ↦ subst (λ x. (x < net.node) × IsLive net.graph net.label x × IsLow net x) (sym e) node ];
@@ -166,10 +155,7 @@ module _ (net : FlowNet) (owner : ℕ → ℕ) where
   met_lengths m back b seen queue backs stack seen' queue' backs' stack' (free e never s q c t) f = rw (q, t) refl
   met_lengths m back b seen queue backs stack seen' queue' backs' stack' (old e was s q c t) f = rw (q, t) refl
   met_lengths m back b seen queue backs stack seen' queue' backs' stack' (end e live unseen none s q c t) f = absurd (false≢true (sym f ∙ e))
-  met_lengths m back b seen queue backs stack seen' queue' backs' stack' (new e live unseen some s q c t) f =
-      let l : length (queue ++ m ∷ []) ≡ length queue + 1 = length-append queue (m ∷ []) in
-      let r : length (stack ++ length queue ∷ []) ≡ length stack + 1 = length-append stack (length queue ∷ []) in
-      rw (q, t) (let z : length (stack ++ length queue ∷ []) + length queue ≡ length stack + length (queue ++ m ∷ []) = omega arith in z)
+  met_lengths m back b seen queue backs stack seen' queue' backs' stack' (new e live unseen some s q c t) f = grind (arith, length-append)
 
   pub met_size : (m back : ℕ) (b : Bool) (seen queue backs stack seen' queue' backs' stack' : List ℕ) → HasMet net owner m back seen queue backs stack seen' queue' backs' stack' b → length seen' ≡ length seen
   met_size m back b seen queue backs stack seen' queue' backs' stack' (free e never s q c t) = ap length s
@@ -185,20 +171,7 @@ module _ (net : FlowNet) (owner : ℕ → ℕ) where
 
   -- the same open places in another order
   reopened : (seen queue backs passed open' open2 : List ℕ) → IsSearching net owner seen queue backs passed open' → ((j : ℕ) → In open' j → In open2 j) → ((j : ℕ) → In open2 j → In open' j) → IsSearching net owner seen queue backs passed open2
-  reopened seen queue backs passed open' open2 k to from = record {
-    met = k.met;
-    owned = k.owned;
-    inside = λ j i. k.inside j (from j i);
-    handed = λ j l. elim (k.handed j l) [ inl i ↦ inl (to j i) | inr h ↦ inr h ];
-    passed_are = record {
-      size = k.passed_are.size;
-      only = k.passed_are.only;
-      all = λ j l. elim (k.passed_are.all j l) [ inl i ↦ inl (to j i) | inr h ↦ inr h ];
-    };
-    size = k.size;
-    in_seen = k.in_seen;
-    seen_in = k.seen_in;
-  }
+  reopened seen queue backs passed open' open2 k to from = search rules
 
   -- the place that waits last comes first
   pub popped : (seen queue backs passed waiting stack : List ℕ) (place : ℕ) → IsSearching net owner seen queue backs passed waiting → waiting ≡ stack ++ place ∷ [] → IsSearching net owner seen queue backs passed (place ∷ stack)
@@ -235,7 +208,6 @@ module _ (net : FlowNet) (owner : ℕ → ℕ) where
   pub marked : (place a : ℕ) (stack seen queue backs passed : List ℕ) → IsSearching net owner seen queue backs passed (place ∷ stack) → owner (get_or queue place 0) ≡ a → IsInner net a → IsSearching net owner seen queue backs (set passed a 1) (place ∷ stack)
   marked place a stack seen queue backs passed k is inner =
       let room : a < length passed = (let l : a < node_count net.graph = inner.and.1 in let s : length passed ≡ node_count net.graph = k.passed_are.size in omega arith) in
-      let here : get_or (set passed a 1) a 0 ≡ 1 = get_or-set_same passed a 1 0 room in
       record {
         met = k.met;
         owned = k.owned;
@@ -252,7 +224,7 @@ module _ (net : FlowNet) (owner : ℕ → ℕ) where
             | inr r ↦ elim r [
               | inl e ↦ inr (inl e)
               | inr p ↦ inr (inr (elim (cases_eq (owner (get_or queue j 0)) a) [
-                | inl e ↦ (let z : get_or (set passed a 1) (owner (get_or queue j 0)) 0 ≡ 1 = ap (λ x. get_or (set passed a 1) x 0) e ∙ here in omega arith)
+                | inl e ↦ (let z : get_or (set passed a 1) (owner (get_or queue j 0)) 0 ≡ 1 = ap (λ x. get_or (set passed a 1) x 0) e ∙ (get_or-set_same passed a 1 0 room) in omega arith)
                 | inr ne ↦ (let z : get_or (set passed a 1) (owner (get_or queue j 0)) 0 ≡ get_or passed (owner (get_or queue j 0)) 0 = get_or-set_other passed a (owner (get_or queue j 0)) 1 0 ne in omega arith)
               ]))
             ]
@@ -278,9 +250,8 @@ module _ (net : FlowNet) (owner : ℕ → ℕ) (is : IsNet net) (a : ℕ) (inner
   pub choice_node : (m : ℕ) → IsChoice net a m → IsLive net.graph net.label m → (m < net.node) × IsLive net.graph net.label m × IsLow net m
   choice_node m (inl e) l = ((let b : a < net.node = inner.below in omega arith), l, subst (λ x. IsLow net x) (sym e) inner.low)
   choice_node m (inr f) l =
-      let b : a < net.node = inner.below in
       let c : m < a = fan_in_below net.graph m a is.normal f.0 in
-      let r : net.label m ≤ net.label a = is.known.rising m a b f.0 in
+      let r : net.label m ≤ net.label a = is.known.rising m a inner.below f.0 in
       let q : net.label a + 1 < net.height = inner.low in (omega arith, l, omega arith)
 
   pub own_node : IsLive net.graph net.label a → (a < net.node) × IsLive net.graph net.label a × IsLow net a
@@ -298,17 +269,4 @@ end_live net is m e = (is.readers.met m e.met).live
 
 -- a search that has met nothing
 pub search_begun : (net : FlowNet) (owner : ℕ → ℕ) (a b : ℕ) → a ≡ node_count net.graph → b ≡ node_count net.graph → IsSearching net owner (zeros a) [] [] (zeros b) []
-search_begun net owner a b e f = record {
-  met = record { once = tt; nodes = λ u i. absurd i; count = refl; whence = λ j l. absurd (omega arith) };
-  owned = λ u i. absurd i;
-  inside = λ j i. absurd i;
-  handed = λ j l. absurd (omega arith);
-  passed_are = record {
-    size = length-replicate b 0 ∙ f;
-    only = λ m p. absurd (let z : get_or (zeros b) m 0 ≡ 0 = zero_at b m in omega arith);
-    all = λ j l. absurd (omega arith);
-  };
-  size = length-replicate a 0 ∙ e;
-  in_seen = λ m i. absurd i;
-  seen_in = λ m p. absurd (let z : get_or (zeros a) m 0 ≡ 0 = zero_at a m in omega arith);
-}
+search_begun net owner a b e f = search (rules, length-replicate, zero_at)

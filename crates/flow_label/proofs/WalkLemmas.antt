@@ -164,13 +164,8 @@ module _ (g : Aig) (ls : List ℕ) (n h : ℕ) (normal : AreNormal (first_and g)
       → HasRead g (label_at ls) h (p.y.0 / 2) (get_or uppers place 0) readers1 uppers1 ends1 readers2 uppers2 ends2
       → IsWalked (net_at g ls n h readers2) uppers2 ends2 (place + 1)
   read_both p place readers uppers ends readers1 uppers1 ends1 readers2 uppers2 ends2 size w inside is one two =
-      let v : ℕ = get_or uppers place 0 in
-      let upper : In uppers (get_or uppers place 0) = In-get_or uppers place 0 inside in
-      let a = read_one (p.x.0 / 2) (get_or uppers place 0) readers uppers ends readers1 uppers1 ends1 place size w upper (first p is refl) one in
-      let b = read_one (p.y.0 / 2) (get_or uppers place 0) readers1 uppers1 ends1 readers2 uppers2 ends2 place a.size a.walked (a.uppers_kept (get_or uppers place 0) upper) (second p is refl) two in
-      let longer1 : length uppers ≤ length uppers1 = a.longer in
-      let longer2 : length uppers1 ≤ length uppers2 = b.longer in
-      let same : get_or uppers2 place 0 ≡ get_or uppers place 0 = b.same place (omega arith) ∙ a.same place inside in
+      let a = read_one (p.x.0 / 2) (get_or uppers place 0) readers uppers ends readers1 uppers1 ends1 place size w (In-get_or uppers place 0 inside) (first p is refl) one in
+      let b = read_one (p.y.0 / 2) (get_or uppers place 0) readers1 uppers1 ends1 readers2 uppers2 ends2 place a.size a.walked (a.uppers_kept (get_or uppers place 0) (In-get_or uppers place 0 inside)) (second p is refl) two in
       record {
         met = b.walked.met;
         uppers_are = b.walked.uppers_are;
@@ -179,7 +174,7 @@ module _ (g : Aig) (ls : List ℕ) (n h : ℕ) (normal : AreNormal (first_and g)
         read = λ j x l f c. elim (cases_lt j place) [
           | inl o ↦ b.walked.read j x o f c
           | inr o ↦ (let q : j ≡ place = omega arith in
-              elim (fan_in_cases g x (get_or uppers place 0) p is (subst (λ y. IsFanIn g x y) (ap (λ i. get_or uppers2 i 0) q ∙ same) f)) [
+              elim (fan_in_cases g x (get_or uppers place 0) p is (subst (λ y. IsFanIn g x y) (ap (λ i. get_or uppers2 i 0) q ∙ (b.same place (omega arith) ∙ a.same place inside)) f)) [
                 | inl e ↦ b.kept x (subst (λ y. 0 < get_or readers1 y 0) (sym e) (a.met (subst (λ y. IsLive g (label_at ls) y) e c)))
                 | inr e ↦ subst (λ y. 0 < get_or readers2 y 0) (sym e) (b.met (subst (λ y. IsLive g (label_at ls) y) e c))
               ])

@@ -1,14 +1,12 @@
 -- What public clauses say.
 pub mod Value
 pub mod Stamps
-pub mod Known
 pub mod Scratch
 pub mod Lows
 -- What only bodies are compared with.
 pub mod Net
 pub mod Links
 pub mod Search
-pub mod Outcome
 pub mod Memory
 pub mod Walks
 pub mod Barriers

@@ -8,7 +8,7 @@ use Rattle.aig_core.specs.Aig.{node_count, IsSource}
 use Rattle.aig_core.specs.declared.lit.Kind.TheVariants.{Regular}
 use Rattle.list_laws.specs.Apart.{AreApart}
 use Rattle.list_laws.specs.Members.{In}
-use Rattle.flow_label.specs.Known.{IsLive}
+use Rattle.flow_label.specs.Value.{IsLive}
 use Rattle.cut_sets.specs.Paths.{IsFanIn, IsPath}
 use Rattle.flow_label.specs.Net.{FlowNet, SiteValue, net_of, is_inner, IsInner, IsEnd, IsLow, IsUpper}
 

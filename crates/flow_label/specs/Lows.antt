@@ -8,7 +8,7 @@ use Rattle.cut_sets.specs.Cuts.{Blocks}
 use Rattle.cut_sets.specs.Labels.{AreLeastHeights}
 use Rattle.cut_sets.specs.Paths.{IsFanIn}
 use Rattle.cut_sets.specs.Unions.{union}
-use Rattle.flow_label.specs.Known.{IsLive}
+use Rattle.flow_label.specs.Value.{IsLive}
 use Rattle.flow_label.specs.Barriers.{IsLowCut}
 use Rattle.flow_label.specs.Parts.{IsLowPart, IsGreatest, IsFanInCut}
 

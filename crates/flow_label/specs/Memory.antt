@@ -8,8 +8,7 @@ use Rattle.flow_label.specs.declared.scratch.ConeWalk.{ConeWalk}
 use Rattle.flow_label.specs.declared.search.SearchEnd.{SearchEnd}
 use Rattle.flow_label.specs.Links.{owner_in}
 use Rattle.flow_label.specs.Net.{SiteValue, net_of}
-use Rattle.flow_label.specs.Outcome.{AreAdded}
-use Rattle.flow_label.specs.Search.{HasMet, IsSearching}
+use Rattle.flow_label.specs.Search.{AreAdded, HasMet, IsSearching}
 use Rattle.flow_label.specs.Walks.{HasRead}
 
 -- a node is read, or not, where the walk is down to this height

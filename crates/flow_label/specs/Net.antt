@@ -8,7 +8,7 @@ use Rattle.list_laws.specs.Apart.{AreApart}
 use Rattle.list_laws.specs.Members.{In}
 use Rattle.cut_sets.specs.Labels.{label_at}
 use Rattle.cut_sets.specs.Paths.{IsFanIn}
-use Rattle.flow_label.specs.Known.{IsLive, AreKnownTo}
+use Rattle.flow_label.specs.Value.{IsLive, AreKnownTo}
 
 -- The node, the height, and the readers: for each node that the walk down from it through deep nodes met, the node from which it was met
 -- first, and 0 for the others.

@@ -3,7 +3,7 @@ use Rattle.std.specs.Prelude.{◌≡◌, ℕ, ◌/◌, ◌<◌, ◌≤◌, max, 
 use Rattle.aig_core.specs.Aig.{Aig, IsNode}
 use Rattle.aig_core.specs.declared.lit.Pair.{Pair}
 use Rattle.cut_sets.specs.Unions.{union}
-use Rattle.flow_label.specs.Known.{IsLive}
+use Rattle.flow_label.specs.Value.{IsLive}
 
 -- the low cut at a place, none past the last one
 abbrev pub low_at : List (List ℕ) → ℕ → List ℕ

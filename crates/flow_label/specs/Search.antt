@@ -2,13 +2,15 @@
 --
 -- The queue has the low nodes that the search has met, each once, and the stack has the places of those that wait. A node that an inner
 -- node owns is handed on: the owner would choose another node, so its choices are met too. A node without an owner ends the search.
-use Rattle.std.specs.Prelude.{◌≡◌, ℕ, ◌-◌, ◌<◌, ◌≤◌, Bool, true, false, List, [], ◌∷◌, ◌++◌, length, slice_index, slice_set, ◌⊎◌}
+use Rattle.std.specs.Prelude.{◌≡◌, ℕ, ◌-◌, ◌<◌, ◌≤◌, Bool, true, false, List, [], ◌∷◌, ◌++◌, length, slice_index, slice_set, ◌⊎◌, ◌+◌}
 use Rattle.aig_core.specs.Aig.{node_count}
 use Rattle.list_laws.specs.Apart.{AreApart}
 use Rattle.list_laws.specs.Members.{In}
-use Rattle.flow_label.specs.Known.{IsLive}
+use Rattle.flow_label.specs.Value.{IsLive}
 use Rattle.flow_label.specs.Net.{FlowNet, SiteValue, net_of, IsLow, IsInner, IsEnd}
 use Rattle.flow_label.specs.Links.{IsChoice, owner_in}
+use Rattle.flow_label.specs.declared.search.SearchEnd.{SearchEnd}
+use Rattle.flow_label.specs.declared.search.SearchEnd.TheVariants.{Found, Blocked}
 
 -- where a node of the queue comes from: an end from nowhere (0), another from the place before `back`, whose owner may choose it
 pub record ComesFrom (net : FlowNet) (owner : ℕ → ℕ) (queue : List ℕ) (back j : ℕ) : Type 0 where
@@ -78,3 +80,15 @@ pub record CanTurn (site : SiteValue) (owners queue backs : List ℕ) (j : ℕ) 
   pub back : slice_index backs j - 1 < j
   pub node : slice_index queue j < node_count site.graph
   pub chooser : 0 < owner_in site owners (slice_index queue (slice_index backs j - 1))
+
+-- How a search ends, and how the adding of paths does.
+
+-- what each outcome tells of the search
+abbrev pub IsEnded : SiteValue → List ℕ → List ℕ → List ℕ → List ℕ → SearchEnd → Type 0
+IsEnded site owners queue backs passed Found = IsFound site owners queue backs
+IsEnded site owners queue backs passed Blocked = IsBlocked site owners queue backs passed
+
+-- there are k + 1 paths, or fewer and a blocked search
+abbrev pub AreAdded : SiteValue → ℕ → List ℕ → List ℕ → List ℕ → List ℕ → List ℕ → SearchEnd → Type 0
+AreAdded site k owners starts queue backs passed Found = length starts ≡ k + 1
+AreAdded site k owners starts queue backs passed Blocked = (length starts ≤ k) × IsBlocked site owners queue backs passed

@@ -1,8 +1,10 @@
 -- Labels and low cuts.
-use Rattle.std.specs.Prelude.{◌≡◌, ℕ, List, [], slice_index_or}
-use Rattle.aig_core.specs.Aig.{Aig, IsAnd}
-use Rattle.cut_sets.specs.Cuts.{IsCut}
+use Rattle.std.specs.Prelude.{◌≡◌, ℕ, List, [], slice_index_or, ◌<◌, ◌≤◌, ◌⊎◌}
+use Rattle.aig_core.specs.Aig.{Aig, IsAnd, first_and, IsSource}
+use Rattle.cut_sets.specs.Cuts.{IsCut, Blocks}
 use Rattle.cut_sets.specs.Labels.{height, label_at, AreLeastHeights}
+use Rattle.aig_core.specs.declared.lit.Kind.TheVariants.{Regular}
+use Rattle.cut_sets.specs.Paths.{IsFanIn}
 
 -- what labels by flow are seen as: one label and one low cut a node
 pub record FlowValue : Type 0 where
@@ -24,3 +26,15 @@ pub record AreLowCuts (g : Aig) (k : ℕ) (v : FlowValue) : Type 0 where
 -- a graph has one label for each node
 pub record HasOneLabelling (g : Aig) (k : ℕ) : Type 0 where
   pub once : (f h : ℕ → ℕ) → AreLeastHeights g k f → AreLeastHeights g k h → (n : ℕ) → f n ≡ h n
+
+-- Labels that are known below a node.
+
+-- A regular source is at or below m: it is one, or an AND node with a label of at least 1. Other nodes are free.
+abbrev pub IsLive : Aig → (ℕ → ℕ) → ℕ → Type 0
+IsLive g label m = IsSource g Regular m ⊎ (IsAnd g m × (1 ≤ label m))
+
+-- What a search below n uses of the labels: sources have 0, no label is below that of a fan-in, and a node with label 0 is free.
+pub record AreKnownTo (g : Aig) (n : ℕ) (label : ℕ → ℕ) : Type 0 where
+  pub sources : (m : ℕ) → m < first_and g → label m ≡ 0
+  pub rising : (m v : ℕ) → v < n → IsFanIn g m v → label m ≤ label v
+  pub free : (m : ℕ) → m < n → IsAnd g m → label m ≡ 0 → Blocks g [] m

@@ -3,7 +3,7 @@ use Rattle.std.specs.Prelude.{◌≡◌, ℕ, ◌+◌, ◌<◌, ◌≤◌, List,
 use Rattle.aig_core.specs.Aig.{Aig, IsAnd}
 use Rattle.list_laws.specs.Apart.{AreApart}
 use Rattle.list_laws.specs.Members.{In}
-use Rattle.flow_label.specs.Known.{IsLive}
+use Rattle.flow_label.specs.Value.{IsLive}
 use Rattle.cut_sets.specs.Paths.{IsFanIn}
 use Rattle.flow_label.specs.Net.{FlowNet, IsUpper, IsMet, AreEnds}
 

@@ -2,7 +2,7 @@
 ghost use Rattle.std.specs.Prelude.{◌≡◌, ℕ, ◌<◌, true, false};
 ghost use Rattle.aig_core.specs.Aig.{node_count};
 ghost use Rattle.cut_sets.specs.Labels.{label_at};
-ghost use Rattle.flow_label.specs.Known.{IsLive};
+ghost use Rattle.flow_label.specs.Value.{IsLive};
 
 use aig_core::{Graph, Kind};
 use cut_sets::NodeLabels;

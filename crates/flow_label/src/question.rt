@@ -3,7 +3,7 @@ ghost use Rattle.std.specs.Prelude.{◌≡◌, ℕ, ◌<◌, ◌≤◌, ◌+◌,
 ghost use Rattle.aig_core.specs.Aig.{node_count, IsAnd};
 ghost use Rattle.cut_sets.specs.Labels.{label_at};
 ghost use Rattle.cut_sets.specs.Paths.{ArePathsTo};
-ghost use Rattle.flow_label.specs.Known.{AreKnownTo};
+ghost use Rattle.flow_label.specs.Value.{AreKnownTo};
 ghost use Rattle.flow_label.specs.Barriers.{IsAnswer, IsHigh, IsBarrier};
 ghost use Rattle.flow_label.specs.Links.{AreLinks};
 ghost use Rattle.flow_label.specs.LowCuts.{IsFlowCut};

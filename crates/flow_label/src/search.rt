@@ -5,8 +5,7 @@ ghost use Rattle.list_laws.specs.Members.{In};
 ghost use Rattle.flow_label.specs.Net.{net_of, IsEnd};
 ghost use Rattle.flow_label.specs.Links.{AreLinks};
 ghost use Rattle.flow_label.specs.Memory.{HasMarks, KeepsMarks, Meets, Searches, WaitForAll};
-ghost use Rattle.flow_label.specs.Search.{IsFound};
-ghost use Rattle.flow_label.specs.Outcome.{IsEnded};
+ghost use Rattle.flow_label.specs.Search.{IsFound, IsEnded};
 
 use crate::links::owner;
 use crate::scratch::{Links, PathSearch};

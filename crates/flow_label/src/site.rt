@@ -3,7 +3,7 @@ ghost use Rattle.std.specs.Prelude.{◌≡◌, ◌⊎◌, ℕ, ◌<◌, ◌≤�
 ghost use Rattle.aig_core.specs.Aig.{node_count, IsAnd};
 ghost use Rattle.cut_sets.specs.Labels.{label_at};
 ghost use Rattle.cut_sets.specs.Paths.{IsFanIn};
-ghost use Rattle.flow_label.specs.Known.{IsLive};
+ghost use Rattle.flow_label.specs.Value.{IsLive};
 ghost use Rattle.flow_label.specs.Net.{IsNet, net_at, net_of, is_inner, AreEnds};
 ghost use Rattle.flow_label.specs.Links.{first_owner};
 

@@ -2,7 +2,7 @@
 ghost use Rattle.std.specs.Prelude.{◌≡◌, ℕ, ◌<◌, ◌≤◌, ◌+◌, length, slice_index, OnOk};
 ghost use Rattle.aig_core.specs.Aig.{node_count, IsAnd};
 ghost use Rattle.cut_sets.specs.Labels.{label_at};
-ghost use Rattle.flow_label.specs.Known.{AreKnownTo};
+ghost use Rattle.flow_label.specs.Value.{AreKnownTo};
 ghost use Rattle.flow_label.specs.Net.{net_at, AreReaders, AreEnds};
 ghost use Rattle.flow_label.specs.Memory.{Reads};
 ghost use Rattle.flow_label.specs.Walks.{IsWalked};

@@ -4,4 +4,3 @@ pub mod FitLemmas
 pub mod RoomLemmas
 mod MappingLemmas
 pub mod SourceLemmas
-pub mod TableCountLemmas

@@ -1,6 +1,8 @@
--- There is room for each LUT of a playable circuit.
+-- There is room for each LUT of a playable circuit, and how many LUTs a circuit can have.
 use Rattle.lut_sim.proofs.Common.{◌≡◌, ℕ, suc, ◌+◌, ◌-◌, ◌*◌, ◌/◌, ◌^◌, ◌<◌, ◌≤◌, Bool, true, List, [], ◌∷◌, length, get_or, slice_set, take, refl, sym, ap, ◌∙◌, subst, inl, inr, arith, ◌&&◌, ◌||◌, leb, ltb, ◌++◌, append-nil, append_assoc, length-set, or_cases, and_parts, leb-true, take_more_set, take_all, In, Lut, TemplateValue, AscendByLit, bits_of, Shape, last_source, is_regular, IsPlayable, HasRoom, IsTableInRoom, filled}
 use Rattle.cover_pick.proofs.BitsLemmas.{base_within}
+use Rattle.std.proofs.lemmas.List.Sums.{sum_by-cons}
+use Rattle.std.proofs.Math.Nat.{one-le-pow}
 
 -- a test on two sides that are both within a bound
 either_within : (a b c d : Bool) (m n : ℕ) → (b ≡ true → m ≤ n) → (d ≡ true → m ≤ n) → ((a && b) || (c && d)) ≡ true → m ≤ n
@@ -51,3 +53,12 @@ filled-all bits (b ∷ bs) i e =
 -- a list that is written over from its start
 pub filled-from_start : (bits bs : List Bool) → length bits ≡ length bs → filled bits 0 bs ≡ bs
 filled-from_start bits bs e = filled-all bits bs 0 (omega arith)
+
+-- each table has a bit
+tables_fit : (ts : List Lut) → length ts ≤ bits_of ts
+tables_fit [] = omega arith
+tables_fit (t ∷ ts) = omega (arith, sum_by-cons (λ (u : Lut). 2 ^ length u.leaves) t ts, one-le-pow (length t.leaves) 2 (omega arith), tables_fit ts)
+
+-- there are no more tables than bits
+pub tables_within_bits : (t : TemplateValue) (shape : Shape) → IsPlayable t shape → length t.luts ≤ t.bits
+tables_within_bits t shape playable = omega (arith, playable.sum, tables_fit t.luts)

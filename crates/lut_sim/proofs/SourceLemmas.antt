@@ -53,7 +53,6 @@ complement = record { lit = record { 0 = 3 }; leaves = 1 ∷ []; base = 0 }
 abbrev pub toggle : TemplateValue
 toggle = record { luts = complement ∷ []; outputs = record { 0 = 2 } ∷ []; next = record { 0 = 3 } ∷ []; bits = 2; depth = 1 }
 
--- one latch
 abbrev pub one_latch : Shape
 one_latch = record { regular = 0; params = 0; latches = 1 }
 

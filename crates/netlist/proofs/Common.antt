@@ -1,5 +1,5 @@
 -- What the proofs of this crate cite of other crates, and its own definitions, passed on from one place.
-pub use Rattle.std.proofs.Common.{◌≡◌, ℕ, zero, suc, ◌+◌, ◌-◌, ◌^◌, ◌<◌, ◌≤◌, max, Bool, true, false, cond, not, ◌&&◌, ◌||◌, eqb, ltb, ◌⊎◌, List, [], ◌∷◌, ◌++◌, map, reverse, length, get_or, take, drop, set, replicate, is_some, IfOk, IfErr, if◌then◌else◌, IsTrue, slice_get, slice_index_or, slice_set, Some, None, Ok, Err, codes, decimal, All, filter, Option, Result, Vec, MatchOption, option_map, MatchResult, option_and_then, bytes_eq, Global, unwrap_or, sym, refl, ap, ◌∙◌, subst, ap₂, subst₂, inl, inr, append_assoc, arith, drop_of_length-le, drop-cons}
+pub use Rattle.std.proofs.Common.{◌≡◌, ℕ, zero, suc, ◌+◌, ◌-◌, ◌^◌, ◌<◌, ◌≤◌, max, Bool, true, false, cond, not, ◌&&◌, ◌||◌, eqb, ltb, ◌⊎◌, List, [], ◌∷◌, ◌++◌, map, reverse, length, get_or, take, drop, set, replicate, is_some, IfOk, IfErr, if◌then◌else◌, IsTrue, slice_get, slice_index_or, slice_set, Some, None, Ok, Err, codes, decimal, All, filter, Option, Result, Vec, MatchOption, option_map, MatchResult, option_and_then, bytes_eq, Global, unwrap_or, sym, refl, ap, ◌∙◌, subst, ap₂, subst₂, inl, inr, append_assoc, arith, drop_of_length-le, drop-cons, rules}
 pub use Rattle.std.proofs.lemmas.Bool.{cases_lt, both_ways, cases_Bool, ltb-true, ltb-false, lt-ltb, le-ltb, or_parts, or_cases, cond-true, cond-false, and_parts, and_from, not-true, false≢true, or_left, not_from_false, or_right, false_from_ne_true, eq-eqb, eqb-true}
 pub use Rattle.std.proofs.lemmas.List.{length-map, length-replicate, length-append, map-append, take_more, reverse-reverse, append-nil, reverse-append, get_or-set_same, get_or-set_other, length-set}
 pub use Rattle.std.proofs.lemmas.List.Folds.{find_at, list_any-append}

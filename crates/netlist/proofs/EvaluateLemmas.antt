@@ -1,5 +1,5 @@
 -- Evaluating a flat circuit in its order gives each cover the value of any map that fits, by the numbers of the nets.
-use Rattle.netlist.proofs.Common.{◌≡◌, ℕ, Bool, false, List, [], ◌∷◌, map, Some, refl, sym, ap, ap₂, ◌∙◌, subst, inl, inr, unwrap_or, ◌<◌, eqb, length, replicate, Option, ◌⊎◌, arith, slice_set, slice_get, option_and_then, In, both_ways, cases_Bool, length-set, length-replicate, same_Some, slice_get_within, at_within, set_here, set_other, zero, suc, true, subst₂, option_map, cond-true, cond-false, length-map, none-some, slice_get-map, In-left, In-right, In-get, AreApart, reversed_in, nodes_done, In-map, same_list, mapped_at, not, or_left, not-true, In-filter, has_name, IsMainInput, IsClock, CoverValue, LibraryValue, FlatCoverValue, FlatValue, AreLatches, eqb-true, eq-eqb}
+use Rattle.netlist.proofs.Common.{◌≡◌, ℕ, Bool, false, List, [], ◌∷◌, map, Some, refl, sym, ap, ap₂, ◌∙◌, subst, inl, inr, unwrap_or, ◌<◌, eqb, length, replicate, Option, ◌⊎◌, arith, slice_set, slice_get, option_and_then, In, both_ways, cases_Bool, length-set, length-replicate, same_Some, slice_get_within, at_within, set_here, set_other, zero, suc, true, subst₂, option_map, cond-true, cond-false, length-map, none-some, slice_get-map, In-left, In-right, In-get, AreApart, reversed_in, nodes_done, In-map, same_list, mapped_at, not, or_left, not-true, In-filter, has_name, IsMainInput, IsClock, CoverValue, LibraryValue, FlatCoverValue, FlatValue, AreLatches, eqb-true, eq-eqb, rules}
 use Rattle.netlist.specs.Flat.{Places, none, more}
 use Rattle.netlist.specs.{cover_value, ModelValue, Path, body_at, CoverAt, input_net, latch_net, cover_net, Place, cover_in, FlatNet, Fits, an_input, a_latch, a_cover, IsNetOf, AreNetsOf, cover_numbers, IsFlat, reads_at, inputs_at, IsFlatCover, net_value, AreGiven, cover_behind, value_of, gate_value, evaluated, flat_values, Evaluates, same_place, latch_at, is_latch, FlatOrder, OutPort, FlatLatch, flat_roots, IsFlatLatch, init_state, inits_of, state_of, next_state, IsCycle, AreInits, library_machine, flat_outputs, flat_next, flat_inits, IsFlatCycle, flat_machine, input_values, HasCycles, IsSound, latch_nets}
 use Rattle.std.proofs.lemmas.Simd.{map-map}
@@ -20,8 +20,7 @@ record IsRegular (library : LibraryValue) (name : List ℕ) : Type 0 where
 
 regular : (library : LibraryValue) (flat : FlatValue) (f : IsFlat library flat) (j : ℕ) (name : List ℕ) → slice_get flat.inputs j ≡ Some name → IsRegular library name
 regular library flat f j name e =
-    let i : In flat.inputs name = In-get flat.inputs j name e in
-    let r = In-filter (λ y. not (f.test y)) (f.main).inputs name (subst (λ l. In l name) f.inputs i) in
+    let r = In-filter (λ y. not (f.test y)) (f.main).inputs name (subst (λ l. In l name) f.inputs (In-get flat.inputs j name e)) in
     record {
       input = record { model = f.main; at = f.is_main; is = or_left (has_name (f.main).inputs name) (has_name (f.main).clocks name) (in_has (f.main).inputs name r.0) };
       off = (f.tells).no name (not-true (f.test name) r.1);
@@ -56,30 +55,23 @@ module _ (library : LibraryValue) (flat : FlatValue) (f : IsFlat library flat) (
         | an_input own j e g q ↦ (
             let d : IsDriverValue library s value (input_net own) (value path name) = subst (λ y. IsDriverValue library s value y (value path name)) e driven in
             let h : slice_get flat.inputs j ≡ Some own = subst (λ l. slice_get l j ≡ Some own) f.places g in
-            let r = regular library flat f j own h in
-            ap (net_value xs ss values) q ∙ ap (λ y. unwrap_or y false) (given.inputs j own h) ∙ sym (fits.inputs own r.input r.off) ∙ sym d)
+            ap (net_value xs ss values) q ∙ ap (λ y. unwrap_or y false) (given.inputs j own h) ∙ sym (fits.inputs own (regular library flat f j own h).input (regular library flat f j own h).off) ∙ sym d)
         | a_latch p j e g q ↦ (
             let d : IsDriverValue library s value (latch_net p.path p.command) (value path name) = subst (λ y. IsDriverValue library s value y (value path name)) e driven in
             ap (net_value xs ss values) q ∙ ap (λ y. unwrap_or y false) (given.latches j p g) ∙ sym d)
         | a_cover p j e g q ↦ (
             let d : IsDriverValue library s value (cover_net p.path p.command) (value path name) = subst (λ y. IsDriverValue library s value y (value path name)) e driven in
-            let k : IsKnown library f.at value values j = known j (subst (λ y. In (cover_numbers (y ∷ [])) j) (sym q) (inl refl)) in
-            ap (net_value xs ss values) q ∙ ap (λ y. unwrap_or y false) (k p d.cover g d.at) ∙ sym d.is)
+            ap (net_value xs ss values) q ∙ ap (λ y. unwrap_or y false) ((known j (subst (λ y. In (cover_numbers (y ∷ [])) j) (sym q) (inl refl))) p d.cover g d.at) ∙ sym d.is)
       ]
 
   pub numbers_value : (values : List Bool) (path : Path) {names : List (List ℕ)} {numbers : List FlatNet} → AreNetsOf library f.at path names numbers
       → ((m : ℕ) → In (cover_numbers numbers) m → IsKnown library f.at value values m) → map (net_value xs ss values) numbers ≡ map (value path) names
   numbers_value values path none known = refl
-  numbers_value values path (more name names number numbers o os) known =
-      ap₂ (λ (b : Bool) (bs : List Bool). b ∷ bs)
-      (number_value values path name number o (λ m i. known m (cover_first number numbers m i)))
-      (numbers_value values path os (λ m i. known m (cover_later number numbers m i)))
+  numbers_value values path (more name names number numbers o os) known = grind (arith, ap₂, number_value, values, cover_first, cover_later, numbers_value values path os (λ m i. known m (cover_later number numbers m i)))
 
 -- the cover behind a flat one is the one of its place
 pub behind_is : (library : LibraryValue) (at : Places) (p : Place) (c : FlatCoverValue) (i : IsFlatCover library at p c) → cover_behind library c ≡ Some i.cover
-behind_is library at p c i =
-    ap₂ (λ (o : Option ModelValue) (n : ℕ). option_and_then (λ (m : ModelValue). option_and_then cover_in (body_at m n)) o) i.model i.command
-    ∙ cover_at-is library p.path p.command i.cover i.is
+behind_is library at p c i = grind arith
 
 -- of lists as long as each other whose elements give the same, place by place
 same_maps : {A B C : Type 0} (f : A → C) (g : B → C) (xs : List A) (ys : List B) → length ys ≡ length xs
@@ -101,28 +93,22 @@ module _ (library : LibraryValue) (flat : FlatValue) (f : IsFlat library flat) (
       → slice_get (f.at).covers k ≡ Some p → CoverAt library p.path p.command c → slice_get flat.covers k ≡ Some flat_cover → gate_value library (slice_get flat.covers k) xs ss values ≡ value p.path c.output
   gate_at values k known p c flat_cover g a e =
       let i : IsFlatCover library f.at p flat_cover = f.covers k p flat_cover g e in
-      let same : i.cover ≡ c = same_Some i.cover c (sym (cover_at-is library p.path p.command i.cover i.is) ∙ cover_at-is library p.path p.command c a) in
       ap (λ o. gate_value library o xs ss values) e
       ∙ ap (λ o. value_of o (map (net_value xs ss values) flat_cover.inputs)) (behind_is library f.at p flat_cover i)
       ∙ ap (cover_value i.cover) (numbers_value library flat f x s xs ss value given fits values p.path i.inputs
       (λ m j. known m (subst (λ o. In (cover_numbers (inputs_at o)) m) (sym e) j)))
       ∙ sym (fits.covers p.path p.command i.cover i.is)
-      ∙ ap (λ (y : CoverValue). value p.path y.output) same
+      ∙ ap (λ (y : CoverValue). value p.path y.output) (same_Some i.cover c (sym (cover_at-is library p.path p.command i.cover i.is) ∙ cover_at-is library p.path p.command c a))
 
   now_known : (values : List Bool) (k : ℕ) → length values ≡ length flat.covers → ((m : ℕ) → In (reads_at flat k) m → IsKnown library f.at value values m)
       → IsKnown library f.at value (slice_set values k (gate_value library (slice_get flat.covers k) xs ss values)) k
   now_known values k len known p c g a =
       let within : k < length (f.at).covers = slice_get_within (f.at).covers k p g in
-      let here : k < length flat.covers = omega arith in
-      let flat_cover = at_within flat.covers k here in
-      set_here values k (gate_value library (slice_get flat.covers k) xs ss values) (let l : k < length values = omega arith in l)
-      ∙ ap Some (gate_at values k known p c flat_cover.0 g a flat_cover.1)
+      let flat_cover = at_within flat.covers k (omega arith) in
+      grind (arith, set_here, values, gate_value, xs, gate_at)
 
   still_known : (values : List Bool) (k : ℕ) (b : Bool) (j : ℕ) → IsKnown library f.at value (slice_set values k b) k → IsKnown library f.at value values j → IsKnown library f.at value (slice_set values k b) j
-  still_known values k b j new old = elim (cases_Bool (eqb j k)) [
-    | inl t ↦ subst (λ y. IsKnown library f.at value (slice_set values k b) y) (sym (eqb-true j k t)) new
-    | inr u ↦ λ p c g a. set_other values k j b (λ e. both_ways (eqb j k) u (eq-eqb j k e)) ∙ old p c g a
-  ]
+  still_known values k b j new old = search (rules, cases_Bool, eqb, slice_set, values, eqb-true, set_other, both_ways, eq-eqb)
 
   evaluated_known : (ks done : List ℕ) (values : List Bool) → IsForward (reads_at flat) done ks → length values ≡ length flat.covers → ((j : ℕ) → In done j → IsKnown library f.at value values j)
       → (j : ℕ) → In done j ⊎ In ks j → IsKnown library f.at value (evaluated library flat xs ss ks values) j
@@ -131,9 +117,7 @@ module _ (library : LibraryValue) (flat : FlatValue) (f : IsFlat library flat) (
   evaluated_known (k ∷ ks) done values order len known j i =
       let b : Bool = gate_value library (slice_get flat.covers k) xs ss values in
       let new : IsKnown library f.at value (slice_set values k b) k = now_known values k len (λ m q. known m (order.0 m q)) in
-      evaluated_known ks (k ∷ done) (slice_set values k b) order.1 (length-set values k b ∙ len)
-      (λ m q. elim q [ inl e ↦ subst (λ y. IsKnown library f.at value (slice_set values k b) y) (sym e) new | inr r ↦ still_known values k b m new (known m r) ])
-      j (done_next j k ks done i)
+      grind (arith, slice_set, values, length-set, still_known, done_next, evaluated_known ks (k ∷ done) (slice_set values k b) order.1 (length-set values k b ∙ len) (λ m q. elim q [ inl e ↦ subst (λ y. IsKnown library f.at value (slice_set values k b) y) (sym e) new | inr r ↦ still_known values k b m new (known m r) ]) j (done_next j k ks done i))
 
 -- the cover of a net's number
 number_cover : (number : FlatNet) (m : ℕ) → In (cover_numbers (number ∷ [])) m → number ≡ Cover m
@@ -158,9 +142,7 @@ flat_evaluates library flat f = record {
 state_at : (places : List Place) (states : List Bool) (j : ℕ) (p : Place) → AreApart places → length states ≡ length places → slice_get places j ≡ Some p → slice_get states j ≡ Some (state_of places states p.path p.command)
 state_at [] states j p apart n e = absurd (none-some p e)
 state_at (q ∷ places) [] j p apart n e = absurd (omega arith)
-state_at (q ∷ places) (b ∷ states) zero p apart n e =
-    let same : q ≡ p = same_Some q p e in
-    ap Some (sym (cond-true (same_place p q) b (state_of places states p.path p.command) (subst (λ y. same_place p y ≡ true) (sym same) (same_place-refl p))))
+state_at (q ∷ places) (b ∷ states) zero p apart n e = grind (arith, same_Some, cond-true, same_place, same_place-refl)
 state_at (q ∷ places) (b ∷ states) (suc j) p apart n e =
     elim (cases_Bool (same_place p q)) [
       | inl t ↦ absurd (apart.0 (subst (In places) (same_place-is p q t) (In-get places j p e)))
@@ -195,10 +177,7 @@ module _ (library : LibraryValue) (flat : FlatValue) (f : IsFlat library flat) (
   fits = subst (λ l. Fits library x (state_of l s) c.value) latches_same c.fits
 
   given : AreGiven flat f.at x state xs s
-  given = record {
-    inputs = λ j name e. slice_get-map x flat.inputs j ∙ ap (option_map x) e;
-    latches = λ j p e. state_at (f.at).latches s j p (places_apart library is_latch f.latches_order) (c.states ∙ ap length latches_same) e;
-  }
+  given = search (rules, slice_get-map, option_map, state_at, places_apart, is_latch, latches_same)
 
   root_known : (m : ℕ) → In (flat_roots flat) m → IsKnown library f.at c.value values m
   root_known m i = (flat_evaluates library flat f).each x state xs s c.value given fits m (reversed_in flat.order m (nodes_done (reads_at flat) f.order m i))

@@ -1,5 +1,5 @@
 -- The values of nets and of covers, under values of the main inputs, the latches and the covers.
-use Rattle.netlist.proofs.Common.{◌≡◌, ℕ, Bool, false, List, [], ◌∷◌, map, Option, Some, None, refl, ap, ap₂, inl, inr, In, sym, ◌∙◌, subst, ◌⊎◌, IsTrue, CoverValue, LibraryValue, cover_value, Path, Net, input_net, latch_net, cover_net, Place, cover_at, with_cover, covers_among, reads_in, reads_of, Connection, is_input, is_output, CoverAt, ConnectionAt, IsMainInput, Drives, main_input, latch_output, cover_output, from_inside, from_outside, IsClock, input_actual, model_output, IsRead, cover_input, same_place, Fits, AreNets, Ordered, IsSound, HasOneCycle}
+use Rattle.netlist.proofs.Common.{◌≡◌, ℕ, Bool, false, List, [], ◌∷◌, map, Option, Some, None, refl, ap, ap₂, inl, inr, In, sym, ◌∙◌, subst, ◌⊎◌, IsTrue, CoverValue, LibraryValue, cover_value, Path, Net, input_net, latch_net, cover_net, Place, cover_at, with_cover, covers_among, reads_in, reads_of, Connection, is_input, is_output, CoverAt, ConnectionAt, IsMainInput, Drives, main_input, latch_output, cover_output, from_inside, from_outside, IsClock, input_actual, model_output, IsRead, cover_input, same_place, Fits, AreNets, Ordered, IsSound, HasOneCycle, arith}
 use Rattle.netlist.proofs.ControlLemmas.{is_clock}
 use Rattle.netlist.proofs.NetLemmas.{nets, are_nets}
 use Rattle.netlist.proofs.PlaceLemmas.{place_of, same_place-is, same_place-refl, cover_at-is, child_at}
@@ -42,8 +42,7 @@ module _ (x : List ℕ → Bool) (s : Path → ℕ → Bool) (v w : Place → Bo
 
   names_local : (net : List ℕ → Option Net) (names : List (List ℕ)) → ((p : Place) → In (covers_among net names) p → v p ≡ w p) → values_in x s net v names ≡ values_in x s net w names
   names_local net [] h = refl
-  names_local net (name ∷ names) h = ap₂ (λ (b : Bool) (bs : List Bool). b ∷ bs) (net_local (net name) (covers_among net names) h)
-      (names_local net names (λ p i. h p (in_rest (net name) (covers_among net names) p i)))
+  names_local net (name ∷ names) h = grind (arith, ap₂, covers_among, in_rest, names_local net names (λ p i. h p (in_rest (net name) (covers_among net names) p i)))
 
   in_local : (net : List ℕ → Option Net) (o : Option CoverValue) → ((p : Place) → In (reads_in net o) p → v p ≡ w p) → value_in x s net o v ≡ value_in x s net o w
   in_local net None h = refl
@@ -141,8 +140,7 @@ module _ (library : LibraryValue) (net : Path → List ℕ → Option Net) (nets
   names_value value f path [] h = refl
   names_value value f path (name ∷ names) h =
       let r = nets.reads path name (h name (inl refl)) in
-      ap₂ (λ (b : Bool) (bs : List Bool). b ∷ bs) (drives_value value f r.0 r.1 ∙ ap (net_value inputs s (outputs library value)) (sym (nets.finds path name r.0 r.1)))
-      (names_value value f path names (λ other i. h other (inr i)))
+      grind (arith, ap₂, drives_value, net_value, inputs, outputs, names_value value f path names (λ other i. h other (inr i)))
 
   -- so it gives each cover its value over the nets of its inputs
   outputs-rule : (value : Path → List ℕ → Bool) → Fits library x s value → (p : Place) → In ordered.order p → outputs library value p ≡ value_at library net inputs s p (outputs library value)
@@ -167,11 +165,10 @@ module _ (library : LibraryValue) (net : Path → List ℕ → Option Net) (nets
 -- a map that fits exists, and any two agree on every driven name
 pub sound_law : (library : LibraryValue) → IsSound library → HasOneCycle library
 sound_law library sound =
-    let net = nets library sound.driven in
     let is = are_nets library sound.driven in
-    let ordered = covers_ordered library sound.driven sound.no_loop sound.main sound.at net is in
+    let ordered = covers_ordered library sound.driven sound.no_loop sound.main sound.at _ is in
     let clock = is_clock library sound in
     record {
-      exists = λ x s. record { value = made library net is clock ordered x s; fits = made-fits library net is clock ordered x s sound.driven.formals };
-      agree = λ x s. fits_agree library net is clock ordered x s;
+      exists = λ x s. record { value = made library _ is clock ordered x s; fits = made-fits library _ is clock ordered x s sound.driven.formals };
+      agree = λ x s. fits_agree library _ is clock ordered x s;
     }

@@ -1,5 +1,5 @@
 -- Loops of covers: none depends on itself exactly where the walk meets none again, and then they have an order in which each comes after those that it reads.
-use Rattle.netlist.proofs.Common.{◌≡◌, ℕ, List, [], ◌∷◌, Option, Some, None, refl, sym, ap, subst, inl, inr, ◌⊎◌, true, ◌++◌, In, both_ways, cases_Bool, false≢true, In-right, In-append, own_of, ModelValue, Body, Cover, LatchValue, Path, body_at, model_at, CoverAt, Net, IsMainInput, input_net, latch_net, cover_net, Drives, main_input, latch_output, cover_output, from_inside, from_outside, Place, same_place, cover_at, latch_at, is_cover, is_latch, FlatOrder, IsDriven, AreNets, with_cover, covers_among, reads_in, reads_of, ReadsCover, Depends, direct, through, Ordered, latch_covers, all_latch_covers, roots_of, LoopWalk, CoverValue, LibraryValue}
+use Rattle.netlist.proofs.Common.{◌≡◌, ℕ, List, [], ◌∷◌, Option, Some, None, refl, sym, ap, subst, inl, inr, ◌⊎◌, true, ◌++◌, In, both_ways, cases_Bool, false≢true, In-right, In-append, own_of, ModelValue, Body, Cover, LatchValue, Path, body_at, model_at, CoverAt, Net, IsMainInput, input_net, latch_net, cover_net, Drives, main_input, latch_output, cover_output, from_inside, from_outside, Place, same_place, cover_at, latch_at, is_cover, is_latch, FlatOrder, IsDriven, AreNets, with_cover, covers_among, reads_in, reads_of, ReadsCover, Depends, direct, through, Ordered, latch_covers, all_latch_covers, roots_of, LoopWalk, CoverValue, LibraryValue, arith}
 use Rattle.netlist.proofs.OrderLemmas.{flat_all, order_exists, IsOfKind, flat_only}
 use Rattle.netlist.proofs.PlaceLemmas.{cover_at-is, place_of, same_place-is, same_place-refl}
 use Rattle.netlist.proofs.NameLemmas.{Decided, find_member}
@@ -26,9 +26,7 @@ module _ (library : LibraryValue) (net : Path → List ℕ → Option Net) (nets
   ]
 
   reads_cover : (p q : Place) (c : CoverValue) → CoverAt library p.path p.command c → In (reads_of library net p) q → ReadsCover library p q
-  reads_cover p q c a i =
-      let m : IsAmong p.path c.inputs q = among p.path c.inputs q (subst (λ o. In (reads_in (net p.path) o) q) (cover_at-is library p.path p.command c a) i) in
-      record { cover = c; is = a; name = m.name; input = m.member; drives = nets.drives p.path m.name (cover_net q.path q.command) m.is }
+  reads_cover p q c a i = grind (arith, among, reads_in, cover_at-is, cover_net)
 
   -- covers read only covers, so what is reached is depended on
   module _ (cover_of : (p q : Place) → (c : CoverValue) × CoverAt library p.path p.command c → In (reads_of library net p) q → (d : CoverValue) × CoverAt library q.path q.command d) where

@@ -1,5 +1,5 @@
 -- Depth-first walks: several starts in turn, and walks along edges that lead to nodes alone.
-use Rattle.netlist.proofs.Common.{◌≡◌, ℕ, List, [], ◌∷◌, ◌++◌, Option, Some, None, refl, sym, ap, ◌∙◌, subst, none-some, In, inl, inr, ◌⊎◌, map, zero, suc, ◌+◌, ◌≤◌, length, arith, same_Some, In-map, AreApart, apart_short, leads, Repeat, Meets, met, goes, MeetsAll, IsAfter}
+use Rattle.netlist.proofs.Common.{◌≡◌, ℕ, List, [], ◌∷◌, ◌++◌, Option, Some, None, refl, sym, ap, ◌∙◌, subst, none-some, In, inl, inr, ◌⊎◌, map, zero, suc, ◌+◌, ◌≤◌, length, arith, same_Some, In-map, AreApart, apart_short, leads, Repeat, Meets, met, goes, MeetsAll, IsAfter, rules}
 use Rattle.depth_first.specs.DepthFirst.{Way, Ending, repeats, halts, Meets as MeetsBy, MeetsAll as MeetAllBy, met as met_by, goes as goes_by, none as none_by, first as first_by, later as later_by, stop as stop_by}
 use Rattle.depth_first.specs.Walk.{leads_to}
 use Rattle.netlist.specs.DepthFirst.{none, first, later}
@@ -84,27 +84,13 @@ module _ {N : Type 0} (next : N → List N) (has : (ns : List N) (n : N) → In 
   onto_path path before n d new = record { after = d.after; apart = λ m i j. elim i [ inl e ↦ new (subst (In before) e j) | inr k ↦ d.apart m k j ]; only = d.only }
 
   new_done : (path : List N) (n : N) (order : List N) → P n → (In path n → ⊥) → IsDone (n ∷ path) order → ((m : N) → In (next n) m → In order m) → IsDone path (n ∷ order)
-  new_done path n order p off d h = record {
-    after = (h, (d.apart n (inl refl), d.after));
-    apart = λ m i j. elim j [ inl e ↦ off (subst (In path) e i) | inr k ↦ d.apart m (inr i) k ];
-    only = λ m j. elim j [ inl e ↦ subst P (sym e) p | inr k ↦ d.only m k ];
-  }
+  new_done path n order p off d h = search rules
 
   new_node : (path before : List N) (n : N) → P n → (In path n → ⊥) → Order (n ∷ path) before (next n) → Order path before (n ∷ [])
-  new_node path before n p off r = record {
-    order = n ∷ r.order;
-    done = new_done path n r.order p off r.done r.all;
-    all = λ m j. elim j [ inl e ↦ inl e | inr k ↦ absurd k ];
-    keeps = λ m j. inr (r.keeps m j);
-  }
+  new_node path before n p off r = search (rules, new_done)
 
   then_nodes : (path before : List N) (n : N) (rest : List N) (r : Order path before (n ∷ [])) → Order path r.order rest → Order path before (n ∷ rest)
-  then_nodes path before n rest r s = record {
-    order = s.order;
-    done = s.done;
-    all = λ m j. elim j [ inl e ↦ s.keeps m (r.all m (inl e)) | inr k ↦ s.all m k ];
-    keeps = λ m j. s.keeps m (r.keeps m j);
-  }
+  then_nodes path before n rest r s = search rules
 
   mutual
     node_order : {path : List N} {n : N} {result : Option (Repeat N)} → Meets next path n result → result ≡ None → (before : List N) → IsDone path before → P n → Order path before (n ∷ [])
@@ -195,11 +181,7 @@ module _ {N : Type 0} (next : N → List N) (all : List N) (closed : (n m : N) �
   longer path n here p = apart_short (n ∷ path) all (off_path path n here p, p.apart) (λ m i. elim i [ inl e ↦ subst (In all) (sym e) here | inr j ↦ p.inside m j ])
 
   onward : (path : List N) (n m : N) → In all n → IsPathTo path n → In (next n) m → IsPathTo (n ∷ path) m
-  onward path n m here p j = record {
-    apart = (off_path path n here p, p.apart);
-    inside = λ k i. elim i [ inl e ↦ subst (In all) (sym e) here | inr o ↦ p.inside k o ];
-    leads = λ k i. elim i as (λ _. Reaches next k m) [ inl e ↦ subst (λ x. Reaches next x m) (sym e) (at_once j) | inr o ↦ one_more next (p.leads k o) m j ];
-  }
+  onward path n m here p j = search (rules, off_path, leads, at_once, one_more)
 
   -- paths are no longer than the set, so the walk ends
   walk_clean : (left : ℕ) (path : List N) (n : N) → In all n → IsPathTo path n → length all ≤ length path + left → Meets next path n None

@@ -146,10 +146,8 @@ module _ (library : LibraryValue) (driven : IsDriven library) where
       let pair : Connection = c.0 in
       let b : ConnectionAt library outer k pair = c.1 in
       let e : pair.formal ≡ name = c.2 in
-      let same : a.model ≡ b.child = same_Some a.model b.child (sym a.at ∙ child_at library outer k pair b) in
-      let is : IsTrue (is_input b.child pair.formal) = ap₂ is_input (sym same) e ∙ i in
-      let r = driven.driven outer pair.actual (input_actual k pair b is refl) in
-      outwards k outer pair b is (sym e) (net_of_driver outer pair.actual r.0 r.1)
+      let r = driven.driven outer pair.actual (input_actual k pair b (ap₂ is_input (sym (same_Some a.model b.child (sym a.at ∙ child_at library outer k pair b))) e ∙ i) refl) in
+      outwards k outer pair b (ap₂ is_input (sym (same_Some a.model b.child (sym a.at ∙ child_at library outer k pair b))) e ∙ i) (sym e) (net_of_driver outer pair.actual r.0 r.1)
 
   -- where the net of an input comes from
   pub data Outside (path : Path) (name : List ℕ) (net : Net) : Type 0 where
@@ -193,8 +191,7 @@ module _ (library : LibraryValue) (driven : IsDriven library) where
     | at_actual k2 outer2 pair2 a2 p2 q2 t2 ↦
         (let o : outer2 ≡ outer = cc in
         let j : k2 ≡ k = cc in
-        let b : ConnectionAt library outer k pair2 = subst₂ (λ (x : Path) (y : ℕ). ConnectionAt library x y pair2) o j a2 in
-        let same : pair ≡ pair2 = driven.apart outer k pair pair2 a b (sym q ∙ q2) in
+        let same : pair ≡ pair2 = driven.apart outer k pair pair2 a (subst₂ (λ (x : Path) (y : ℕ). ConnectionAt library x y pair2) o j a2) (sym q ∙ q2) in
         one_net t (subst₂ (λ (x : Path) (y : Connection). Drives library x y.actual other) o (sym same) t2))
   ]
 

@@ -1,5 +1,5 @@
 -- A sound library has one flat circuit at most: each name has one net, and each net one number.
-use Rattle.netlist.proofs.Common.{◌≡◌, ℕ, List, [], ◌∷◌, Some, sym, ap, ap₂, ◌∙◌, subst, refl, Bool, not, ◌++◌, map, length, filter, Option, subst₂, inl, inr, slice_get, reverse, is_some, AreApart, apart_once, cases_Bool, reverse-reverse, none-some, same_Some, In-get, LibraryValue, ModelValue, input_ports, LatchValue, Path, Net, IsDriven, Place, is_cover, is_latch, FlatOrder, FlatNet, IsNumbered, an_input, a_latch, a_cover, IsNetOf, AreNetsOf, TellsClocks, IsControl, some_latch, no_latch, with_control_net, cover_numbers, inputs_at, reads_at, flat_roots, most_underscores, IsFlatCover, IsFlatLatch, IsFlat, OutPort, FlatLatch, PostsAll, HasOneFlat, IsSound, CoverValue, FlatCoverValue, FlatValue, filtered_apart, same_list, item_there}
+use Rattle.netlist.proofs.Common.{◌≡◌, ℕ, List, [], ◌∷◌, Some, sym, ap, ap₂, ◌∙◌, subst, refl, Bool, not, ◌++◌, map, length, filter, Option, subst₂, inl, inr, slice_get, reverse, is_some, AreApart, apart_once, cases_Bool, reverse-reverse, none-some, same_Some, In-get, LibraryValue, ModelValue, input_ports, LatchValue, Path, Net, IsDriven, Place, is_cover, is_latch, FlatOrder, FlatNet, IsNumbered, an_input, a_latch, a_cover, IsNetOf, AreNetsOf, TellsClocks, IsControl, some_latch, no_latch, with_control_net, cover_numbers, inputs_at, reads_at, flat_roots, most_underscores, IsFlatCover, IsFlatLatch, IsFlat, OutPort, FlatLatch, PostsAll, HasOneFlat, IsSound, CoverValue, FlatCoverValue, FlatValue, filtered_apart, same_list, item_there, arith}
 use Rattle.netlist.specs.Flat.{Places, none, more}
 use Rattle.netlist.specs.declared.flat.FlatNet.TheVariants.{Input, Latch, Cover}
 use Rattle.netlist.proofs.NetLemmas.{one_net}
@@ -16,9 +16,7 @@ pub record ArePlacedOnce (at : Places) : Type 0 where
 
 module _ (at : Places) (once : ArePlacedOnce at) where
   number_once : (net : Net) (number other : FlatNet) → IsNumbered at net number → IsNumbered at net other → number ≡ other
-  number_once net number other (an_input name j q g n) (an_input last k r h m) =
-      let same : last ≡ name = cc in
-      n ∙ ap Input (apart_once at.inputs j k name once.inputs g (subst (λ x. slice_get at.inputs k ≡ Some x) same h)) ∙ sym m
+  number_once net number other (an_input name j q g n) (an_input last k r h m) = grind (arith, apart_once)
   number_once net number other (an_input name j q g n) (a_latch p k r h m) = absurd (cc)
   number_once net number other (an_input name j q g n) (a_cover p k r h m) = absurd (cc)
   number_once net number other (a_latch p j q g n) (an_input name k r h m) = absurd (cc)
@@ -51,11 +49,7 @@ same_along ps xs ys m n h = same_list xs ys (m ∙ sym n) (λ k x y a b. let p =
 -- outputs are equal where their names and their nets are
 same_ports : (xs ys : List OutPort) → map (λ (o : OutPort). o.name) xs ≡ map (λ (o : OutPort). o.name) ys → map (λ (o : OutPort). o.net) xs ≡ map (λ (o : OutPort). o.net) ys → xs ≡ ys
 same_ports [] [] a b = refl
-same_ports (x ∷ xs) (y ∷ ys) a b =
-    let name : x.name ≡ y.name = cc in
-    let net : x.net ≡ y.net = cc in
-    let first : x ≡ y = λ i. record { name = name i; net = net i } in
-    ap₂ (λ (z : OutPort) (zs : List OutPort). z ∷ zs) first (same_ports xs ys (cc) (cc))
+same_ports (x ∷ xs) (y ∷ ys) a b = grind (arith, ap₂, same_ports xs ys (cc) (cc))
 same_ports xs ys a b = absurd (cc)
 
 module _ (library : LibraryValue) where

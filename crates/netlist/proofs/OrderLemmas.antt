@@ -45,9 +45,7 @@ not_itself path k b =
     omega (arith, ap length b.is, length-append b.inner (b.ordinal ∷ path))
 
 apart_below : (path : Path) (k : ℕ) (p : Path) → IsWithin (k ∷ path) p → IsBelow path (suc k) p → ⊥
-apart_below path k p w b =
-    let e : w.inner ++ k ∷ path ≡ b.inner ++ b.ordinal ∷ path = sym w.is ∙ b.is in
-    omega (arith, same_ordinal w.inner b.inner path k b.ordinal e)
+apart_below path k p w b = grind (arith, same_ordinal)
 
 module _ {A : Type 0} (library : LibraryValue) (own : Path → ModelValue → List A) where
   abbrev HasOrder : Path → ModelValue → Type 0
@@ -114,14 +112,12 @@ module _ {A : Type 0} (library : LibraryValue) (own : Path → ModelValue → Li
       → model_named library.models s.model ≡ Some child → Part items ((k + j) ∷ path) child
   part_under (none a b) j s child e q = absurd (none-some s (subst (λ l. slice_get l j ≡ Some s) a e))
   part_under {path} {k} {subckts} {items} (more t rest c these others a b w u z) zero s child e q =
-      let same : t ≡ s = same_Some t s (subst (λ l. slice_get l 0 ≡ Some s) a e) in
-      let twin : c ≡ child = same_Some c child (sym b ∙ ap (λ (y : SubcktValue). model_named library.models y.model) same ∙ q) in
+      let twin : c ≡ child = same_Some c child (sym b ∙ ap (λ (y : SubcktValue). model_named library.models y.model) (same_Some t s (subst (λ l. slice_get l 0 ≡ Some s) a e)) ∙ q) in
       let n : k ≡ k + 0 = omega arith in
       record { part = these; order = subst₂ (λ (x : ℕ) (y : ModelValue). InFlatOrder library own (x ∷ path) y these) n twin w; within = λ x i. subst (λ l. In l x) (sym z) (In-left these others x i) }
   part_under {path} {k} {subckts} {items} (more t rest c these others a b w u z) (suc j) s child e q =
       let r = part_under u j s child (subst (λ l. slice_get l (suc j) ≡ Some s) a e) q in
-      let n : suc k + j ≡ k + suc j = omega arith in
-      record { part = r.part; order = subst (λ x. InFlatOrder library own (x ∷ path) child r.part) n r.order; within = λ x i. subst (λ l. In l x) (sym z) (In-right these others x (r.within x i)) }
+      record { part = r.part; order = subst (λ x. InFlatOrder library own (x ∷ path) child r.part) (omega arith) r.order; within = λ x i. subst (λ l. In l x) (sym z) (In-right these others x (r.within x i)) }
 
   part_of : {path : Path} {m : ModelValue} {items : List A} → InFlatOrder library own path m items → (k : ℕ) (s : SubcktValue) (child : ModelValue) → slice_get (subckts_of m.commands) k ≡ Some s
       → model_named library.models s.model ≡ Some child → Part items (k ∷ path) child
@@ -216,8 +212,7 @@ module _ (library : LibraryValue) (kind : Body → Bool) where
   own_only path m at i [] h p j = absurd j
   own_only path m at i (c ∷ cs) h p j =
       let here : slice_get m.commands i ≡ Some c = subst (λ n. slice_get m.commands n ≡ Some c) (let z : i + 0 ≡ i = omega arith in z) (h 0 c refl) in
-      let rest : In (own_places kind path (suc i) cs) p → IsOfKind p = own_only path m at (suc i) cs
-      (λ k d q. subst (λ n. slice_get m.commands n ≡ Some d) (let z : i + suc k ≡ suc i + k = omega arith in z) (h (suc k) d q)) p in
+      let rest : In (own_places kind path (suc i) cs) p → IsOfKind p = grind (arith, own_only path m at (suc i) cs (λ k d q. subst (λ n. slice_get m.commands n ≡ Some d) (let z : i + suc k ≡ suc i + k = omega arith in z) (h (suc k) d q)) p) in
       choose (λ l. In l p → IsOfKind p) (kind c.body) (place_of path i ∷ own_places kind path (suc i) cs) (own_places kind path (suc i) cs)
       (λ t y. elim y as (λ _. IsOfKind p) [ inl e ↦ subst IsOfKind (sym e) (record { model = m; at = at; body = c.body; is = body_of m i c here; kind_is = t }) | inr k ↦ rest k ])
       (λ u y. rest y) j
@@ -230,15 +225,8 @@ module _ (library : LibraryValue) (kind : Body → Bool) where
 
   own_place : (path : Path) (i : ℕ) (cs : List Command) (j : ℕ) (c : Command) → slice_get cs j ≡ Some c → kind c.body ≡ true → In (own_places kind path i cs) (place_of path (i + j))
   own_place path i [] j c e t = absurd (none-some c e)
-  own_place path i (d ∷ cs) zero c e t =
-      let n : i + 0 ≡ i = omega arith in
-      choose (λ l. In l (place_of path (i + 0))) (kind d.body) (place_of path i ∷ own_places kind path (suc i) cs) (own_places kind path (suc i) cs)
-      (λ y. inl (ap (place_of path) n))
-      (λ y. absurd (both_ways (kind d.body) y (ap (λ (b : Command). kind b.body) (same_Some d c e) ∙ t)))
-  own_place path i (d ∷ cs) (suc j) c e t =
-      let n : suc i + j ≡ i + suc j = omega arith in
-      let r : In (own_places kind path (suc i) cs) (place_of path (i + suc j)) = subst (λ y. In (own_places kind path (suc i) cs) (place_of path y)) n (own_place path (suc i) cs j c e t) in
-      choose (λ l. In l (place_of path (i + suc j))) (kind d.body) (place_of path i ∷ own_places kind path (suc i) cs) (own_places kind path (suc i) cs) (λ y. inr r) (λ y. r)
+  own_place path i (d ∷ cs) zero c e t = grind arith
+  own_place path i (d ∷ cs) (suc j) c e t = grind (arith, own_places, place_of, own_place path (suc i) cs j c e t)
 
   -- every command of the kind, of every instance, stands in the flat order of the main model
   pub flat_all : (main : ModelValue) (places : List Place) → model_at library [] ≡ Some main → FlatOrder library kind [] main places

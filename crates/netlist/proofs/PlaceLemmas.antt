@@ -1,5 +1,5 @@
 -- Places, and what stands at them: a place has one cover or latch, and a connection leads to the model that it places.
-use Rattle.netlist.proofs.Common.{◌≡◌, ℕ, true, eqb, ◌∷◌, Option, Some, None, refl, sym, ap, ap₂, ◌∙◌, inl, inr, bytes_eq, slice_get, option_map, option_and_then, and_parts, and_from, none-some, same_Some, option_and_then_some, bytes_decides, Body, Latch, Command, LatchValue, Connection, ModelValue, Path, body_at, subckts_of, model_named, placed, model_at, CoverAt, LatchAt, ConnectionAt, Place, same_place, latch_in, cover_at, latch_at, CoverValue, SubcktValue, LibraryValue, eqb-true, eq-eqb}
+use Rattle.netlist.proofs.Common.{◌≡◌, ℕ, true, eqb, ◌∷◌, Option, Some, None, refl, sym, ap, ap₂, ◌∙◌, inl, inr, bytes_eq, slice_get, option_map, option_and_then, and_parts, and_from, none-some, same_Some, option_and_then_some, bytes_decides, Body, Latch, Command, LatchValue, Connection, ModelValue, Path, body_at, subckts_of, model_named, placed, model_at, CoverAt, LatchAt, ConnectionAt, Place, same_place, latch_in, cover_at, latch_at, CoverValue, SubcktValue, LibraryValue, eqb-true, eq-eqb, arith}
 use Rattle.netlist.proofs.NameLemmas.{Decided}
 
 abbrev pub place_of : Path → ℕ → Place
@@ -7,11 +7,7 @@ place_of path i = record { path = path; command = i }
 
 -- the test of places decides whether they are equal
 pub same_place-is : (p q : Place) → same_place p q ≡ true → p ≡ q
-same_place-is p q t =
-    let b = and_parts (bytes_eq p.path q.path) (eqb p.command q.command) t in
-    let a : p.path ≡ q.path = (bytes_decides p.path q.path).0 b.0 in
-    let c : p.command ≡ q.command = eqb-true p.command q.command b.1 in
-    ap₂ place_of a c
+same_place-is p q t = grind (arith, and_parts, bytes_eq, eqb, bytes_decides, eqb-true, ap₂, place_of)
 
 pub same_place-refl : (p : Place) → same_place p p ≡ true
 same_place-refl p = and_from (bytes_eq p.path p.path) (eqb p.command p.command) ((bytes_decides p.path p.path).1 refl) (eq-eqb p.command p.command refl)
@@ -55,9 +51,7 @@ module _ (library : LibraryValue) where
     pub places : model_named library.models subckt.model ≡ Some child
 
   pub inside : (outer : Path) (k : ℕ) (child : ModelValue) → model_at library (k ∷ outer) ≡ Some child → Inside outer k child
-  inside outer k child e = option_and_then_some (placed library k) (model_at library outer) child e (λ m a b.
-      option_and_then_some (λ (s : SubcktValue). model_named library.models s.model) (slice_get (subckts_of m.commands) k) child b
-      (λ s d f. record { model = m; subckt = s; at = a; is = d; places = f }))
+  inside outer k child e = grind arith
 
   -- a place has one latch, and it can be found
   pub one_latch : (path : Path) (i : ℕ) (l r : LatchValue) → LatchAt library path i l → LatchAt library path i r → l ≡ r

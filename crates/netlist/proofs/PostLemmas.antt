@@ -1,5 +1,5 @@
 -- A postorder, the last first, is an order: each node stands before those that it goes to, and none stands twice; and it is one.
-use Rattle.netlist.proofs.Common.{◌≡◌, List, [], ◌∷◌, sym, subst, subst₂, inl, inr, ap, ◌∙◌, In, nodes_done, ◌⊎◌, ℕ, zero, suc, ◌<◌, reverse, Some, refl, arith, slice_get, none-some, same_Some, AreApart, Bool, true, false, cond, cond-true, cond-false, false_from_ne_true, PostsAll, nodes_from, step_stands, IsAfter}
+use Rattle.netlist.proofs.Common.{◌≡◌, List, [], ◌∷◌, sym, subst, subst₂, inl, inr, ap, ◌∙◌, In, nodes_done, ◌⊎◌, ℕ, zero, suc, ◌<◌, reverse, Some, refl, arith, slice_get, none-some, same_Some, AreApart, Bool, true, false, cond, cond-true, cond-false, false_from_ne_true, PostsAll, nodes_from, step_stands, IsAfter, rules}
 use Rattle.depth_first.specs.DepthFirst.{Posts, skips, posts, none, more}
 use Rattle.depth_first.specs.Reach.{Reaches as ReachesOrIs, here, through}
 use mathlib.Core.List.{reverse_aux}
@@ -31,10 +31,7 @@ module _ {N : Type 0} (next : N → List N) where
   first_step {k} (through j i' r) n i = further k i (first_step r k i')
 
   once : (done below : List N) (n : N) → (In done n → ⊥) → PostsAll next done (next n) below → IsAfter next below → In below n → ⊥
-  once done below n new d after i = elim (nodes_from next d n i) [
-    | inl old ↦ new old
-    | inr l ↦ acyclic below n after i (first_step l.reaches n l.member)
-  ]
+  once done below n new d after i = search (rules, nodes_from, acyclic, first_step)
 
   mutual
     node_after : {done result : List N} {n : N} → Posts next done n result → IsAfter next done → IsAfter next result
@@ -97,12 +94,7 @@ module _ {N : Type 0} (reads : N → List N) where
 
   forward_new : (ns before : List N) → IsAfter reads (reverse_aux ns before) → IsNew before ns
   forward_new [] before after = record { apart = tt; new = λ n i j. absurd i }
-  forward_new (n ∷ ns) before after =
-      let r = forward_new ns (n ∷ before) after in
-      record {
-        apart = (λ (i : In ns n). r.new n i (inl refl), r.apart);
-        new = λ m i j. elim i [ inl e ↦ (behind ns (n ∷ before) after).1.0 (subst (In before) e j) | inr k ↦ r.new m k (inr j) ];
-      }
+  forward_new (n ∷ ns) before after = grind (arith, behind, forward_new ns (n ∷ before) after)
 
   pub reversed_apart : (ns : List N) → IsAfter reads (reverse ns) → AreApart ns
   reversed_apart ns after = (forward_new ns [] after).apart
@@ -139,16 +131,13 @@ module _ {N : Type 0} (same : N → N → Bool) (same-is : (m n : N) → same m 
   at_head n ns = cond-true (same n n) (rule n (evaluated same rule ns)) (evaluated same rule ns n) (same-refl n)
 
   behind_head : (n : N) (ns : List N) (m : N) → (In ns n → ⊥) → In ns m → evaluated same rule (n ∷ ns) m ≡ evaluated same rule ns m
-  behind_head n ns m off i = cond-false (same m n) (rule n (evaluated same rule ns)) (evaluated same rule ns m)
-      (false_from_ne_true (same m n) (λ t. off (subst (λ x. In ns x) (same-is m n t) i)))
+  behind_head n ns m off i = grind arith
 
   -- each node has the value that its rule gives
   pub evaluated-rule : (ns : List N) (m : N) → IsAfter reads ns → In ns m → evaluated same rule ns m ≡ rule m (evaluated same rule ns)
   evaluated-rule [] m after i = absurd i
-  evaluated-rule (n ∷ ns) m after (inl e) = subst (λ x. evaluated same rule (n ∷ ns) x ≡ rule x (evaluated same rule (n ∷ ns))) (sym e)
-      (at_head n ns ∙ local n (evaluated same rule ns) (evaluated same rule (n ∷ ns)) (λ k j. sym (behind_head n ns k (after.1).0 (after.0 k j))))
-  evaluated-rule (n ∷ ns) m after (inr i) = behind_head n ns m (after.1).0 i ∙ evaluated-rule ns m (after.1).1 i
-      ∙ local m (evaluated same rule ns) (evaluated same rule (n ∷ ns)) (λ k j. sym (behind_head n ns k (after.1).0 (step_stands reads ns m k (after.1).1 i j)))
+  evaluated-rule (n ∷ ns) m after (inl e) = grind arith
+  evaluated-rule (n ∷ ns) m after (inr i) = grind (arith, behind_head, evaluated, step_stands, evaluated-rule ns m (after.1).1 i)
 
   -- two maps that give each node the value of its rule agree
   pub rules_agree : (ns : List N) (v w : N → Bool) → IsAfter reads ns → ((n : N) → In ns n → v n ≡ rule n v) → ((n : N) → In ns n → w n ≡ rule n w)

@@ -12,6 +12,4 @@ many_underscores (suc count) rest = let l : count ≤ underscores (replicate cou
 
 pub most-append : (xs ys : List (List ℕ)) → most_underscores (xs ++ ys) ≡ max (most_underscores xs) (most_underscores ys)
 most-append [] ys = let z : most_underscores ys ≡ max 0 (most_underscores ys) = omega arith in z
-most-append (x ∷ xs) ys =
-    ap (max (underscores x)) (most-append xs ys)
-    ∙ (let z : max (underscores x) (max (most_underscores xs) (most_underscores ys)) ≡ max (max (underscores x) (most_underscores xs)) (most_underscores ys) = omega arith in z)
+most-append (x ∷ xs) ys = grind (arith, most_underscores, most-append xs ys)

@@ -1,5 +1,5 @@
 -- What the proofs of this crate cite of other crates, and its own definitions, passed on from one place.
-pub use Rattle.std.proofs.Common.{◌≡◌, ◌⊎◌, ℕ, suc, ◌+◌, ◌-◌, ◌<◌, ◌≤◌, Bool, true, false, not, List, [], ◌∷◌, ◌++◌, length, map, take, replicate, slice_set, refl, sym, ap, ◌∙◌, subst, inl, inr, arith, append-nil, append_assoc, zero, cond, drop, get_or, Some, slice_get, ◌*◌, ◌==◌, nat_le, nat_lt, ◌&&◌, IsTrue, slice_index_or, Option, None, codes, bytes_eq, if◌then◌else◌, length-append}
+pub use Rattle.std.proofs.Common.{◌≡◌, ◌⊎◌, ℕ, suc, ◌+◌, ◌-◌, ◌<◌, ◌≤◌, Bool, true, false, not, List, [], ◌∷◌, ◌++◌, length, map, take, replicate, slice_set, refl, sym, ap, ◌∙◌, subst, inl, inr, arith, append-nil, append_assoc, zero, cond, drop, get_or, Some, slice_get, ◌*◌, ◌==◌, nat_le, nat_lt, ◌&&◌, IsTrue, slice_index_or, Option, None, codes, bytes_eq, if◌then◌else◌, length-append, rules}
 pub use Rattle.std.proofs.lemmas.Bool.{cases_Bool, false≢true, or_cases, and_parts, leb-true, ltb-true}
 pub use Rattle.std.proofs.lemmas.List.{length-set, length-replicate, get_or-set_same, get_or-set_other, take_all, take_at, ext_get_or, length-map, length-drop, drop_all, map-append}
 pub use Rattle.std.proofs.lemmas.Option.{none-some, same_Some, slice_get-get_or}

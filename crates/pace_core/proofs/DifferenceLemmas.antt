@@ -1,5 +1,5 @@
 -- Where two configurations differ, once a bit of one of them is written.
-use Rattle.pace_core.proofs.Common.{◌≡◌, ℕ, zero, suc, ◌+◌, ◌-◌, ◌<◌, ◌≤◌, Bool, true, false, not, cond, List, [], ◌∷◌, ◌++◌, length, map, take, drop, get_or, slice_set, Some, refl, sym, ap, ◌∙◌, subst, inl, inr, arith, cases_Bool, false≢true, ext_get_or, length-map, length-set, length-drop, drop_all, get_or-set_same, get_or-set_other, Write, written, length-written, In, In-filter, in_filter, length-filter_le, same_or, take_get, drop_get, xor, config_bit, differs_at, write_of, differences, xor-false, xor-same}
+use Rattle.pace_core.proofs.Common.{◌≡◌, ℕ, zero, suc, ◌+◌, ◌-◌, ◌<◌, ◌≤◌, Bool, true, false, not, cond, List, [], ◌∷◌, ◌++◌, length, map, take, drop, get_or, slice_set, Some, refl, sym, ap, ◌∙◌, subst, inl, inr, arith, cases_Bool, false≢true, ext_get_or, length-map, length-set, length-drop, drop_all, get_or-set_same, get_or-set_other, Write, written, length-written, In, In-filter, in_filter, length-filter_le, same_or, take_get, drop_get, xor, config_bit, differs_at, write_of, differences, xor-false, xor-same, rules}
 use Rattle.std.specs.List.{slice_get, filter, range_with_len}
 use Rattle.std.proofs.lemmas.List.FromFn.{length-range_with_len}
 use Rattle.list_laws.proofs.Ranges.{of_range, in_range}
@@ -93,8 +93,7 @@ some_in (m ∷ ns) n i = omega arith
 -- where two configurations differ at an address, they have a difference
 pub differs_some : (from to : List Bool) (a : ℕ) → a < length to → differs_at from to a ≡ true → 0 < length (differences from to)
 differs_some from to a l d =
-    let s : 0 < length (differing from to) = some_in (differing from to) a (in_filter (differs_at from to) (range_with_len 0 (length to)) a (in_range 0 (length to) a (omega arith) (omega arith)) d) in
-    omega (arith, length-differences from to)
+    omega (arith, some_in (differing from to) a (in_filter (differs_at from to) (range_with_len 0 (length to)) a (in_range 0 (length to) a (omega arith) (omega arith)) d), length-differences from to)
 
 -- configurations without a difference are one
 pub no_differences : (from to : List Bool) → length from ≡ length to → length (differences from to) ≡ 0 → from ≡ to
@@ -144,23 +143,14 @@ pub record IsFirstDifference (from to : List Bool) (w : Write) (ws : List Write)
 pub first_difference : (from to : List Bool) (w : Write) (ws : List Write) → differences from to ≡ w ∷ ws → IsFirstDifference from to w ws
 first_difference from to w ws e =
     let p = writes_parts to (differing from to) w ws e in
-    let is : In (differing from to) p.0 = subst (λ ns. In ns p.0) (sym p.2) (inl refl) in
-    let f = In-filter (differs_at from to) (range_with_len 0 (length to)) p.0 is in
+    let f = In-filter (differs_at from to) (range_with_len 0 (length to)) p.0 (subst (λ ns. In ns p.0) (sym p.2) (inl refl)) in
     let r = of_range 0 (length to) p.0 f.0 in
-    subst (λ (v : Write). IsFirstDifference from to v ws) (sym p.3) (record {
-      within = (let l : p.0 < 0 + length to = r.1 in omega arith);
-      bit = refl;
-      differs = f.1;
-      rest = p.1;
-      addresses = p.2;
-      later = p.4;
-    })
+    grind (arith)
 
 -- the first difference is written, and the others are left
 pub first_written : (from to : List Bool) (w : Write) (ws : List Write) → length from ≡ length to → differences from to ≡ w ∷ ws → differences (slice_set from w.address w.bit) to ≡ ws
 first_written from to w ws same e =
     let first = first_difference from to w ws e in
-    let within : w.address < length to = first.within in
     ap (λ b. differences (slice_set from w.address b) to) first.bit
     ∙ ap (map (write_of to)) (first_gone (differs_at from to) (differs_at (slice_set from w.address (config_bit to w.address)) to) w.address (written_fails from to w.address (omega arith)) (written_agrees from to w.address (config_bit to w.address))
     (length to) 0 first.rest first.addresses)
@@ -168,11 +158,8 @@ first_written from to w ws same e =
 
 -- some first differences are written, and the others are left
 some_written : (count : ℕ) (from to : List Bool) (ws : List Write) → length from ≡ length to → differences from to ≡ ws → differences (written from (take count ws)) to ≡ drop count ws
-some_written zero from to [] same e = e
-some_written zero from to (w ∷ ws) same e = e
-some_written (suc count) from to [] same e = e
-some_written (suc count) from to (w ∷ ws) same e =
-    some_written count (slice_set from w.address w.bit) to ws (length-set from w.address w.bit ∙ same) (first_written from to w ws same e)
+some_written (suc count) from to (w ∷ ws) same e = grind (arith, slice_set, length-set, first_written, some_written count (slice_set from w.address w.bit) to ws (length-set from w.address w.bit ∙ same) (first_written from to w ws same e))
+some_written count from to ws same e = e
 
 -- so it is with the first differences of a number
 pub left_over : (count : ℕ) (from to : List Bool) → length from ≡ length to → differences (written from (take count (differences from to))) to ≡ drop count (differences from to)
@@ -184,8 +171,7 @@ left_count count from to same = ap length (left_over count from to same) ∙ len
 
 -- all of them written give the second configuration
 pub all_written : (count : ℕ) (from to : List Bool) → length from ≡ length to → length (differences from to) ≤ count → written from (take count (differences from to)) ≡ to
-all_written count from to same all = no_differences (written from (take count (differences from to))) to (length-written (take count (differences from to)) from ∙ same)
-    (ap length (left_over count from to same ∙ drop_all count (differences from to) all))
+all_written count from to same all = search (rules, no_differences, length-written, left_over, drop_all)
 
 -- writes behind others
 pub written-append : (ws vs : List Write) (config : List Bool) → written config (ws ++ vs) ≡ written (written config ws) vs
@@ -198,10 +184,9 @@ written-next ws i w config at = ap (written config) (take_get ws i w at) ∙ wri
 
 -- two bits that differ
 pub xor-true : (a b : Bool) → xor a b ≡ true → a ≡ not b
-xor-true true true e = absurd (false≢true e)
 xor-true true false e = refl
 xor-true false true e = refl
-xor-true false false e = absurd (false≢true e)
+xor-true a b e = absurd (false≢true e)
 
 -- Of the differences of two configurations the first ones were written: the next one writes another bit than the one that stands.
 module _ (from to : List Bool) (ws : List Write) (i : ℕ) (w : Write) (same : length from ≡ length to) (are : ws ≡ differences from to) (at : slice_get ws i ≡ Some w) where

@@ -1,5 +1,5 @@
 -- What a pacer keeps, once parameters are asked for or the clock ticks.
-use Rattle.pace_core.proofs.Common.{◌≡◌, ℕ, ◌+◌, ◌<◌, ◌≤◌, Bool, false, List, [], length, take, replicate, refl, sym, ap, ◌∙◌, subst, arith, length-map, Assign, Write, written, value_of, PackValue, IsConf, HasOneConf, inits_of, TemplateValue, Shape, IsTableCycle, IsOnlyTableCycle, SimValue, differences, length-assigned, BacklogValue, IsBehind, AreTurns, IsWithinAsk, IsWithinTick, PacerValue, waited, cycled, IsTicked, steps, waits, HasStalls}
+use Rattle.pace_core.proofs.Common.{◌≡◌, ℕ, ◌+◌, ◌<◌, ◌≤◌, Bool, false, List, [], length, take, replicate, refl, sym, ap, ◌∙◌, subst, arith, length-map, Assign, Write, written, value_of, PackValue, IsConf, HasOneConf, inits_of, TemplateValue, Shape, IsTableCycle, IsOnlyTableCycle, SimValue, differences, length-assigned, BacklogValue, IsBehind, AreTurns, IsWithinAsk, IsWithinTick, PacerValue, waited, cycled, IsTicked, steps, waits, HasStalls, rules}
 use Rattle.aig_core.specs.Roots.{lits_of}
 use Rattle.spec_core.specs.Events.{IsSet}
 use Rattle.spec_core.specs.Specialiser.{SpecialiserValue}
@@ -20,16 +20,7 @@ conf_once pack params bits others one a b = one.only bits a ∙ sym (one.only ot
 pub made_keeps : (s : SpecialiserValue) (b : BacklogValue) (sim : SimValue) (rate luts depth : ℕ) (pack : PackValue) → s.pack ≡ pack → s.state.params ≡ inits_of pack.params → IsConf pack (inits_of pack.params) s.state.config
     → ((given : List Bool) → length given ≡ length pack.params → HasOneConf pack given) → b ≡ record { config = s.state.config; marks = replicate (length s.state.config) false; waiting = 0; writes = []; looks = 0 }
     → length pack.bits ≡ sim.template.bits → 1 ≤ rate → luts ≡ length sim.template.luts → depth ≡ sim.template.depth → Keeps s b sim rate luts depth
-made_keeps s b sim rate luts depth pack is params conf one device bits takes luts_are depth_is = record {
-  right = subst (λ (p : PackValue). IsConf p s.state.params s.state.config) (sym is) (subst (λ (ps : List Bool). IsConf pack ps s.state.config) (sym params) conf);
-  one = subst (λ (p : PackValue). (given : List Bool) → length given ≡ length p.params → HasOneConf p given) (sym is) one;
-  params = ap length params ∙ length-map pack.params _ ∙ ap (λ (p : PackValue). length p.params) (sym is);
-  behind = subst (λ (v : BacklogValue). IsBehind v s.state.config) (sym device) (behind_nothing s.state.config);
-  bits = ap (λ (p : PackValue). length p.bits) is ∙ bits;
-  takes = takes;
-  luts_are = luts_are;
-  depth_is = depth_is;
-}
+made_keeps s b sim rate luts depth pack is params conf one device bits takes luts_are depth_is = search (rules, length-map, behind_nothing)
 
 module _ (s : SpecialiserValue) (b : BacklogValue) (sim : SimValue) (rate luts depth : ℕ) (keeps : Keeps s b sim rate luts depth) where
   -- no other configuration is asked for
@@ -52,36 +43,17 @@ module _ (s : SpecialiserValue) (b : BacklogValue) (sim : SimValue) (rate luts d
   pub tick_steps : (after : SimValue) (values : List Bool) → b.waiting ≡ 0 → IsTableCycle sim.template sim.shape b.config values sim.states after.outputs after.states → IsOnlyTableCycle sim.template sim.shape b.config values sim.states after.outputs after.states
       → after.template ≡ sim.template → after.shape ≡ sim.shape
       → IsTicked values (record { pack = s.pack; params = s.state.params; config = b.config; sim = sim; rate = rate; looks = s.reads + b.looks }) (record { pack = s.pack; params = s.state.params; config = b.config; sim = after; rate = rate; looks = s.reads + b.looks }) (cycled after.outputs after.states)
-  tick_steps after values none cycle only template shape = steps (record {
-    right = config_right none;
-    outputs = after.outputs;
-    states = after.states;
-    cycle = cycle;
-    only = only;
-    shows = refl;
-    becomes = ap (λ (t : TemplateValue). record { pack = s.pack; params = s.state.params; config = b.config; sim = record { template = t; shape = after.shape; outputs = after.outputs; states = after.states }; rate = rate; looks = s.reads + b.looks }) template
-        ∙ ap (λ (h : Shape). record { pack = s.pack; params = s.state.params; config = b.config; sim = record { template = sim.template; shape = h; outputs = after.outputs; states = after.states }; rate = rate; looks = s.reads + b.looks }) shape;
-  })
+  tick_steps after values none cycle only template shape = grind (arith, config_right)
 
   -- it ticks, and the device is behind
   pub tick_waits : (config : List Bool) (writes : List Write) (looks : ℕ) (values : List Bool) → 0 < b.waiting → writes ≡ take rate (differences b.config s.state.config) → config ≡ written b.config (take rate (differences b.config s.state.config))
       → IsTicked values (record { pack = s.pack; params = s.state.params; config = b.config; sim = sim; rate = rate; looks = s.reads + b.looks }) (record { pack = s.pack; params = s.state.params; config = config; sim = sim; rate = rate; looks = looks }) (waited writes)
-  tick_waits config writes looks values some are becomes = waits (record {
-    wanted = s.state.config;
-    conf = keeps.right;
-    behind = (let w : b.waiting ≡ length (differences b.config s.state.config) = keeps.behind.waiting in omega arith);
-    shows = ap waited are;
-    becomes = ap (λ (c : List Bool). record { pack = s.pack; params = s.state.params; config = c; sim = sim; rate = rate; looks = looks }) becomes;
-  })
+  tick_waits config writes looks values some are becomes = grind arith
 
   -- a tick looks at what it writes
   pub tick_within : (writes : List Write) (start end : ℕ) → writes ≡ take rate (differences b.config s.state.config) → end ≡ start + length writes
       → IsWithinTick (record { pack = s.pack; params = s.state.params; config = b.config; sim = sim; rate = rate; looks = s.reads + b.looks }) start end
-  tick_within writes start end are cost = record {
-    wanted = s.state.config;
-    conf = keeps.right;
-    addresses = (let e : length writes ≡ length (take rate (differences b.config s.state.config)) = ap length are in omega (arith, cost));
-  }
+  tick_within writes start end are cost = search rules
 
   -- at a cycle it looks at none
   pub cycle_within : (start : ℕ) → IsWithinTick (record { pack = s.pack; params = s.state.params; config = b.config; sim = sim; rate = rate; looks = s.reads + b.looks }) start start

@@ -1,9 +1,9 @@
 -- A script by the forms of `ask` and `tick` has no other event, and each of its events fits.
-use Rattle.pace_core.proofs.Common.{◌≡◌, ◌⊎◌, ℕ, Bool, List, [], ◌∷◌, length, map, Option, Some, None, codes, bytes_eq, if◌then◌else◌, refl, sym, ap, ◌∙◌, subst, inl, inr, cons_option, none-some, same_Some, Assign, In, In-get, place_in, EventValue, Set, Cycle, Upset, Scrub, Image, PaceValue, Ask, Tick, pace_of, asks_and_ticks, Fits, ArePaced, HasOneReading}
+use Rattle.pace_core.proofs.Common.{◌≡◌, ◌⊎◌, ℕ, Bool, List, [], ◌∷◌, length, map, Option, Some, None, codes, bytes_eq, if◌then◌else◌, refl, sym, ap, ◌∙◌, subst, inl, inr, cons_option, none-some, same_Some, Assign, In, In-get, place_in, EventValue, Set, Cycle, Upset, Scrub, Image, PaceValue, Ask, Tick, pace_of, asks_and_ticks, Fits, ArePaced, HasOneReading, rules}
 use Rattle.std.specs.Option.{option_map, option_and_then}
 use Rattle.list_laws.proofs.Choice.{choose}
 use Rattle.tl_text.specs.LineValue.{words_line}
-use Rattle.run_text.specs.Each.{in_front, each_of}
+use Rattle.run_text.specs.EventValue.{in_front, each_of}
 use Rattle.run_text.specs.Fits.{Fits as RunFits}
 use Rattle.run_text.specs.NamesValue.{NamesValue}
 use Rattle.run_text.specs.Sayings.{sets, cycles, form_of, said_by, said_of, settings_of, bits_of, only}
@@ -64,17 +64,14 @@ each_paced (event ∷ events) all =
 -- and so are those of a script by these forms
 pub script_paced : (names : NamesValue) (text : List ℕ) (read : List EventValue) → names.forms ≡ Pace → IsScript names text read → ArePaced read (asks_and_ticks read)
 script_paced names text read forms script = each_paced read (λ event i.
-    let p = place_in read event i in
-    let l = each_at (line_event names) (map (words_line text) script.lines) read p.0 event (script.are).are p.1 in
+    let l = each_at (line_event names) (map (words_line text) script.lines) read (place_in read event i).0 event (script.are).are (place_in read event i).1 in
     words_paced names.params l.source.words event (ap (λ f. option_and_then (event_of names.params) (said_of f l.source.words)) (sym forms) ∙ l.is))
 
 -- an event of a script that fits what may be named fits so many parameters and regular inputs
 event_fits : (names : NamesValue) (width : ℕ) (event : EventValue) (pace : PaceValue) → names.width ≡ Some width → pace_of event ≡ Some pace → RunFits names event → Fits (length names.params) width pace
 event_fits names width (Set assigns) pace wide is fits = subst (Fits (length names.params) width) (same_Some (Ask assigns) pace is) fits
 event_fits names width (Cycle values) pace wide is fits = subst (Fits (length names.params) width) (same_Some (Tick values) pace is) (same_Some (length values) width (sym fits ∙ wide))
-event_fits names width (Upset address) pace wide is fits = absurd (none-some pace is)
-event_fits names width Scrub pace wide is fits = absurd (none-some pace is)
-event_fits names width Image pace wide is fits = absurd (none-some pace is)
+event_fits names width event pace wide is fits = absurd (none-some pace is)
 
 -- so do all of them
 -- so the asks and the ticks among events that fit do
@@ -101,10 +98,4 @@ events_fit names width read paced wide are fits pace i =
 
 -- a text is one script at most, or has one refusal at most, and never both
 pub one_pace_reading : (names : NamesValue) (text : List ℕ) → HasOneReading names text
-one_pace_reading names text = record {
-  one_value = λ events others a b.
-      let same : a.read ≡ b.read = (one_reading names text).one_value a.read b.read a.is b.is in
-      each_once pace_of b.read events others (ap (each_of pace_of) (sym same) ∙ a.are) b.are;
-  one_fault = (one_reading names text).one_fault;
-  not_both = λ events e a. (one_reading names text).not_both a.read e a.is;
-}
+one_pace_reading names text = search (rules, one_reading, each_once)

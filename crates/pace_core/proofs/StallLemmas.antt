@@ -1,7 +1,7 @@
 -- How long a change stalls the circuit, and what a device is behind by, once a wanted bit turns, or a mark is taken.
 use Rattle.pace_core.proofs.Common.{◌≡◌, ℕ, zero, suc, ◌+◌, ◌-◌, ◌*◌, ◌<◌, ◌≤◌, Bool, List, [], ◌∷◌, length, take, Some, slice_get, refl, sym, ap, ◌∙◌, subst, arith, none-some, same_Some, Write, written, length-written, PackValue, IsConf, differences, PaceValue, Ask, Tick, AreTicks, IsStall, IsCycled, HasStalls, ◌⊎◌, true, false, not, ◌++◌, map, replicate, slice_set, inl, inr, append-nil, append_assoc, filter, range_with_len, cases_Bool, false≢true, length-set, length-replicate, get_or-set_same, get_or-set_other, take_all, take_at, same_or, xor, config_bit, differs_at, write_of, none_marked, xor-same, xor-false, BacklogValue, IsBehind, with_write, IsCaughtUp, IsCatchingUp}
 use Rattle.std.proofs.Math.Nat.{suc-mul, zero-mul}
-use Rattle.machine.specs.Machine.{none, more}
+use Rattle.machine.specs.Machine.{none as no_tick, more as a_tick}
 use Rattle.pace_core.specs.Pace.{PacerValue, Shown, IsTicked, steps, waits, ArePaced}
 use Rattle.pace_core.proofs.DifferenceLemmas.{no_own_differences, left_count, one_more, first_is, differing, length-differences, differences_few, differs_some, differs_nowhere, written_fails, written_agrees, wanted_agrees, written-append, xor-true}
 use Rattle.dirty_idx.specs.Marks.{is_marked, IsLeast, IsEmpty}
@@ -16,16 +16,13 @@ pub record Stands (pack : PackValue) (params : List Bool) (rate : ℕ) (wanted :
 
 -- one write or more is taken where there is one
 take_some : (count : ℕ) (ws : List Write) → 0 < count → 0 < length ws → 0 < length (take count ws)
-take_some zero ws c l = absurd (omega arith)
-take_some (suc count) [] c l = absurd (omega arith)
 take_some (suc count) (w ∷ ws) c l = omega arith
+take_some count ws c l = absurd (omega arith)
 
 -- no more are than are asked for
 take_few : (count : ℕ) (ws : List Write) → length (take count ws) ≤ count
-take_few zero [] = omega arith
-take_few zero (w ∷ ws) = omega arith
-take_few (suc count) [] = omega arith
 take_few (suc count) (w ∷ ws) = let f : length (take count ws) ≤ count = take_few count ws in omega arith
+take_few count ws = omega arith
 
 module _ (pack : PackValue) (params : List Bool) (rate : ℕ) (wanted : List Bool) (takes : 1 ≤ rate) (only : (others : List Bool) → IsConf pack params others → others ≡ wanted) where
   -- no other configuration is wanted of such a machine
@@ -81,22 +78,22 @@ module _ (pack : PackValue) (params : List Bool) (rate : ℕ) (wanted : List Boo
   -- the ticks of the numbers that are below what it is behind by wait
   pub ticks_wait : {ticks : List PaceValue} {shown : List Shown} (pacer : PacerValue) {new : PacerValue} (behind : ℕ) → Stands pack params rate wanted pacer behind → AreTicks ticks → ArePaced pacer ticks shown new
       → (i : ℕ) (one : Shown) → slice_get shown i ≡ Some one → i * rate < behind → IsStall rate one
-  ticks_wait pacer behind stands ticks none i one at below = absurd (none-some one at)
-  ticks_wait pacer behind stands ticks (more (Ask assigns) first mid here rest) i one at below = elim ticks [ ]
-  ticks_wait pacer behind stands ticks (more (Tick values) first mid here rest) zero one at below =
+  ticks_wait pacer behind stands ticks no_tick i one at below = absurd (none-some one at)
+  ticks_wait pacer behind stands ticks (a_tick (Ask assigns) first mid here rest) i one at below = elim ticks [ ]
+  ticks_wait pacer behind stands ticks (a_tick (Tick values) first mid here rest) zero one at below =
       subst (IsStall rate) (same_Some first one at) (tick_waits pacer mid behind values first stands here (let z : 0 * rate ≡ 0 = zero-mul rate in omega arith))
-  ticks_wait pacer behind stands ticks (more (Tick values) first mid here rest) (suc i) one at below =
+  ticks_wait pacer behind stands ticks (a_tick (Tick values) first mid here rest) (suc i) one at below =
       let n : suc i * rate ≡ i * rate + rate = suc-mul i rate in
       ticks_wait mid (behind - rate) (next_stands pacer mid behind values first stands here) ticks rest i one at (omega arith)
 
   -- the later ones are cycles
   pub ticks_cycle : {ticks : List PaceValue} {shown : List Shown} (pacer : PacerValue) {new : PacerValue} (behind : ℕ) → Stands pack params rate wanted pacer behind → AreTicks ticks → ArePaced pacer ticks shown new
       → (i : ℕ) (one : Shown) → slice_get shown i ≡ Some one → behind ≤ i * rate → IsCycled one
-  ticks_cycle pacer behind stands ticks none i one at past = absurd (none-some one at)
-  ticks_cycle pacer behind stands ticks (more (Ask assigns) first mid here rest) i one at past = elim ticks [ ]
-  ticks_cycle pacer behind stands ticks (more (Tick values) first mid here rest) zero one at past =
+  ticks_cycle pacer behind stands ticks no_tick i one at past = absurd (none-some one at)
+  ticks_cycle pacer behind stands ticks (a_tick (Ask assigns) first mid here rest) i one at past = elim ticks [ ]
+  ticks_cycle pacer behind stands ticks (a_tick (Tick values) first mid here rest) zero one at past =
       subst IsCycled (same_Some first one at) (tick_cycles pacer mid behind values first stands here (let z : 0 * rate ≡ 0 = zero-mul rate in omega arith))
-  ticks_cycle pacer behind stands ticks (more (Tick values) first mid here rest) (suc i) one at past =
+  ticks_cycle pacer behind stands ticks (a_tick (Tick values) first mid here rest) (suc i) one at past =
       let n : suc i * rate ≡ i * rate + rate = suc-mul i rate in
       ticks_cycle mid (behind - rate) (next_stands pacer mid behind values first stands here) ticks rest i one at (omega arith)
 
@@ -113,9 +110,8 @@ has_stalls pacer wanted behind takes only same behind_by =
 -- a bit differs from the other one
 xor-not : (a b : Bool) → a ≡ not b → xor a b ≡ true
 xor-not true true e = absurd (false≢true (sym e))
-xor-not true false e = refl
-xor-not false true e = refl
 xor-not false false e = absurd (false≢true e)
+xor-not a b e = refl
 
 -- the other one's other one
 not-twice : (b : Bool) → not (not b) ≡ b

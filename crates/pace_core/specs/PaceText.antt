@@ -1,8 +1,7 @@
 -- A script at a limited rate as a text: one by the forms of `ask` and `tick`, whose sets are asks and whose cycles are ticks.
 use Rattle.std.specs.Prelude.{◌≡◌, ℕ, List, Some}
 use Rattle.tl_fault.specs.Settled.{IsSettled}
-use Rattle.run_text.specs.Each.{each_of}
-use Rattle.run_text.specs.EventValue.{EventValue}
+use Rattle.run_text.specs.EventValue.{each_of, EventValue}
 use Rattle.run_text.specs.NamesValue.{NamesValue}
 use Rattle.run_text.specs.ScriptText.{IsScript, IsScriptFault}
 use Rattle.pace_core.specs.EventValue.{PaceValue, pace_of}

@@ -48,9 +48,8 @@ none_outside w i [] h = refl
 none_outside w i (x ∷ xs) h = outside_drops w i x xs (is_own w i x (h x (inl refl))) ∙ none_outside w i xs (λ y m. h y (inr m))
 
 in_drop : (n : ℕ) (xs : List Write) (x : Write) → In (drop n xs) x → In xs x
-in_drop zero xs x h = h
-in_drop (suc n) [] x h = h
 in_drop (suc n) (y ∷ xs) x h = inr (in_drop n xs x h)
+in_drop n xs x h = h
 
 place_of : (bits : List Bool) (s : ℕ) (x : Write) → In (writes_from s bits) x → (k : ℕ) × (k < length bits) × (x.address ≡ s + k)
 place_of [] s x h = absurd h
@@ -84,9 +83,8 @@ ascend_from [] s = tt
 ascend_from (b ∷ bs) s = (λ n m. omega (arith, above bs (s + 1) n m), ascend_from bs (s + 1))
 
 pub in_order_left : (w n : ℕ) (xs : List Write) → AreInOrder w xs → AreInOrder w (drop n xs)
-in_order_left w zero xs o = o
-in_order_left w (suc n) [] o = o
 in_order_left w (suc n) (x ∷ xs) o = in_order_left w n xs o.1
+in_order_left w n xs o = o
 
 -- the bit of a place and its address
 pub left_here : (bits : List Bool) (i : ℕ) → i < length bits → drop i (writes_from 0 bits) ≡ record { address = i; bit = get_or bits i false } ∷ drop (i + 1) (writes_from 0 bits)
@@ -132,7 +130,6 @@ dropped_there seen [] i b h e = absurd (omega (arith, h))
 dropped_there seen (x ∷ xs) zero b h e = ap (λ y. seen y ∷ map seen xs) (sym e)
 dropped_there seen (x ∷ xs) (suc i) b h e = dropped_there seen xs i b (omega (arith, h)) e
 
--- the parts
 abbrev pub the_parts : List PortSeen → List PortSeen → List PortSeen → List PortSeen → BankSeen
 the_parts serving spares rest failed = record { serving = serving; spares = spares; rest = rest; failed = failed }
 
@@ -204,9 +201,8 @@ pub parts_retired : (s f i : ℕ) (xs : List PortSeen) (port : PortSeen) → i �
     in_parts s 0 (f + 1) (remove xs i ++ port ∷ []) ≡
     the_parts (remove (take (suc s) xs) i) [] (in_parts (suc s) 0 f xs).rest ((in_parts (suc s) 0 f xs).failed ++ port ∷ [])
 parts_retired s f i xs port l h =
-    let inside : i < length xs = omega (arith, h, l) in
     let ys = remove xs i in
-    let long : length ys + 1 ≡ length xs = length-remove xs i inside in
+    let long : length ys + 1 ≡ length xs = length-remove xs i (omega (arith, h, l)) in
     let whole : length (ys ++ port ∷ []) ≡ length xs = omega (arith, length-append ys (port ∷ []), long) in
     let behind : (n : ℕ) → s ≤ n → n ≤ length ys → drop n (ys ++ port ∷ []) ≡ drop (suc n) xs ++ port ∷ [] = grind (arith, drop-pushed, drop-remove) in
     let m = length xs - (suc s + 0) - f in
@@ -236,6 +232,5 @@ pub parts_joined : (s k f : ℕ) (xs : List PortSeen) → s + k + f ≤ length x
 parts_joined s k f xs h =
     let m = length xs - (s + k) - f in
     let last : drop m (drop (s + k) xs) ≡ drop (length xs - f) xs = drop-drop m (s + k) xs ∙ ap (λ n. drop n xs) (let e : s + k + m ≡ length xs - f = omega (arith, h) in e) in
-    let second : take k (drop s xs) ++ drop (s + k) xs ≡ drop s xs =
-    ap (λ t. take k (drop s xs) ++ t) (sym (drop-drop k s xs)) ∙ take-append-drop k (drop s xs) in
+    let second = ap (λ t. take k (drop s xs) ++ t) (sym (drop-drop k s xs)) ∙ take-append-drop k (drop s xs) in
     ap (λ t. take s xs ++ (take k (drop s xs) ++ t)) (ap (λ t. take m (drop (s + k) xs) ++ t) (sym last) ∙ take-append-drop m (drop (s + k) xs)) ∙ (ap (λ t. take s xs ++ t) second ∙ take-append-drop s xs)

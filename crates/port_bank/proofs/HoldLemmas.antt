@@ -60,26 +60,25 @@ pends_replaced : (w : ℕ) (config : List Bool) (write : Write) (left : List Wri
     Pends w config (write ∷ left) old → Called (region_of w write) write false old mid → Replaced (region_of w write) mid new →
     Pends w config (region w config (region_of w write) ++ outside w (region_of w write) left) new
 pends_replaced w config write left old mid new wide p c r =
-    let i = region_of w write in
-    let here = region w config i in
-    let others = outside w i left in
+    let here = region w config _ in
+    let others = outside w _ left in
     record {
       shows = λ j address port log bit now told place there.
           let pending : In (map address_of here ++ map address_of others) address → In (map address_of (here ++ others)) address = λ h. subst (λ l. In l address) (sym (map-append address_of here others)) h in
-          elim (same_or j i) [
-            | inl e ↦ inr (pending (In-left (map address_of here) (map address_of others) address (address_in_region w i config address bit (wide address bit there) (place ∙ e) there)))
+          elim (same_or j _) [
+            | inl e ↦ inr (pending (In-left (map address_of here) (map address_of others) address (address_in_region w _ config address bit (wide address bit there) (place ∙ e) there)))
             | inr o ↦
-                let mids : slice_get mid.serving j ≡ Some port = sym (set_other mid.serving i j r.spare o) ∙ (sym (ap (λ (b : BankSeen). slice_get b.serving j) r.now) ∙ now) in
-                let olds : slice_get old.serving j ≡ Some port = sym (set_other old.serving i j c.after o) ∙ (sym (ap (λ (b : BankSeen). slice_get b.serving j) c.now) ∙ mids) in
+                let mids : slice_get mid.serving j ≡ Some port = sym (set_other mid.serving _ j r.spare o) ∙ (sym (ap (λ (b : BankSeen). slice_get b.serving j) r.now) ∙ now) in
+                let olds : slice_get old.serving j ≡ Some port = sym (set_other old.serving _ j c.after o) ∙ (sym (ap (λ (b : BankSeen). slice_get b.serving j) c.now) ∙ mids) in
                 elim (passed_one write left address (λ a. o (sym place ∙ ap (λ b. b / w) a)) (p.shows j address port log bit olds told place there)) [
                   | inl s ↦ inl s
-                  | inr l ↦ inr (pending (In-right (map address_of here) (map address_of others) address (left_outside w i left address (λ a. o (sym place ∙ a)) l)))
+                  | inr l ↦ inr (pending (In-right (map address_of here) (map address_of others) address (left_outside w _ left address (λ a. o (sym place ∙ a)) l)))
                 ]
           ];
       bits = record {
         bits = λ x h. elim (In-append here others x h) [
-          | inl a ↦ (region_bits_are w i config).bits x a
-          | inr b ↦ p.bits.bits x (inr (outside_in w i left x b))
+          | inl a ↦ (region_bits_are w _ config).bits x a
+          | inr b ↦ p.bits.bits x (inr (outside_in w _ left x b))
         ];
       };
     }

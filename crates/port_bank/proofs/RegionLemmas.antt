@@ -14,10 +14,9 @@ get_drop (suc n) k [] = ap (slice_get []) (let e : k ≡ k = refl in e) ∙ none
 get_drop (suc n) k (x ∷ xs) = get_drop n k xs ∙ ap (slice_get (x ∷ xs)) (let e : suc (n + k) ≡ suc n + k = omega arith in e)
 
 pub get_take : {X : Type 0} (n k : ℕ) (xs : List X) (x : X) → slice_get (take n xs) k ≡ Some x → slice_get xs k ≡ Some x
-get_take zero k xs x e = absurd (none-some x e)
-get_take (suc n) k [] x e = absurd (none-some x e)
 get_take (suc n) zero (y ∷ xs) x e = e
 get_take (suc n) (suc k) (y ∷ xs) x e = get_take n k xs x e
+get_take o k xs x e = absurd (none-some x e)
 
 -- each address from the first one on has its write
 pub address_there : (bits : List Bool) (s k : ℕ) → k < length bits → In (map address_of (writes_from s bits)) (s + k)

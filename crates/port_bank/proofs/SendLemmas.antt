@@ -106,8 +106,7 @@ pub steps_lost : (w : ℕ) (config : List Bool) (passed : ℕ) (write : Write) (
     FailsToMend w config (region_of w write) mid new → FailsToStep w config passed write (region_of w write) old new
 steps_lost w config passed write old mid new h c m = record {
   on = λ writes base left o r.
-      let i = region_of w write in
-      m.on writes base (outside w i (from_region w passed left)) (outside_twice w i (from_region w passed left)) (breaks_at w config passed write old mid h c writes base left r);
+      m.on writes base (outside w _ (from_region w passed left)) (outside_twice w _ (from_region w passed left)) (breaks_at w config passed write old mid h c writes base left r);
 }
 
 -- the same of a region's first address and bits
@@ -189,12 +188,10 @@ pub loses_place : {w : ℕ} {config : List Bool} {writes : List Write} {old : Ba
 loses_place {w} {old = old} {new = new} l =
     let k = keeps_called (region_of w l.write) l.write false old l.mid l.next (keeps_places l.sends) l.failed in
     let r = l.retired in
-    let serving : length new.serving ≡ length (remove l.next.serving (region_of w l.write)) = ap (λ (b : BankSeen). length b.serving) r.now in
-    let failed : length new.failed ≡ length l.next.failed + 1 = ap (λ (b : BankSeen). length b.failed) r.now ∙ length-append l.next.failed (r.port ∷ []) in
     record {
-      serving = omega (arith, serving, length-remove l.next.serving (region_of w l.write) (slice_get_within l.next.serving (region_of w l.write) r.port r.was), k.serving);
+      serving = omega (arith, ap (λ (b : BankSeen). length b.serving) r.now, length-remove l.next.serving (region_of w l.write) (slice_get_within l.next.serving (region_of w l.write) r.port r.was), k.serving);
       spares = ap (λ (b : BankSeen). b.spares) r.now;
-      failed = omega (arith, failed, ap length r.none_left, k.used);
+      failed = omega (arith, ap (λ (b : BankSeen). length b.failed) r.now ∙ length-append l.next.failed (r.port ∷ []), ap length r.none_left, k.used);
       rest = ap (λ (b : BankSeen). b.rest) r.now ∙ k.rest;
     }
 
@@ -208,14 +205,12 @@ in_set (z ∷ zs) (suc i) y x (inr r) = elim (in_set zs i y x r) [ inl e ↦ inl
 
 -- a place that is set twice, and one that is set and then removed
 set_twice : {X : Type 0} (xs : List X) (i : ℕ) (x y : X) → slice_set (slice_set xs i x) i y ≡ slice_set xs i y
-set_twice [] i x y = refl
-set_twice (z ∷ zs) zero x y = refl
 set_twice (z ∷ zs) (suc i) x y = ap (λ (t : List _). z ∷ t) (set_twice zs i x y)
+set_twice items i x y = refl
 
 set_removed : {X : Type 0} (xs : List X) (i : ℕ) (x : X) → remove (slice_set xs i x) i ≡ remove xs i
-set_removed [] i x = refl
-set_removed (z ∷ zs) zero x = refl
 set_removed (z ∷ zs) (suc i) x = ap (λ (t : List _). z ∷ t) (set_removed zs i x)
+set_removed items i x = refl
 
 -- each port that serves or stands by did so before, and its count of faults is as before
 record Stems (old new : BankSeen) : Type 0 where
@@ -238,11 +233,10 @@ stems_called i write base old new s c = record {
 -- the port that failed left
 stems_replaced : (i : ℕ) (write : Write) (base old mid new : BankSeen) → Stems base old → Called i write false old mid → Replaced i mid new → Stems base new
 stems_replaced i write base old mid new s c r =
-    let serving : new.serving ≡ slice_set old.serving i r.spare = grind (arith, slice_set, set_twice) in
     let spares : r.spare ∷ new.spares ≡ old.spares = sym r.first ∙ ap (λ (b : BankSeen). b.spares) c.now in
     record {
       stems = λ port h.
-          elim (In-append (slice_set old.serving i r.spare) new.spares port (subst (λ l. In (l ++ new.spares) port) serving h)) [
+          elim (In-append (slice_set old.serving i r.spare) new.spares port (subst (λ l. In (l ++ new.spares) port) (grind (arith, slice_set, set_twice)) h)) [
             | inl a ↦ elim (in_set old.serving i r.spare port a) [
               | inl e ↦ s.stems port (In-right old.serving old.spares port (subst (λ l. In l port) spares (inl e)))
               | inr b ↦ s.stems port (In-left old.serving old.spares port b)

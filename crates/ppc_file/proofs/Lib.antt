@@ -3,7 +3,6 @@ mod FieldLemmas
 mod FileExamples
 mod NumberLemmas
 pub mod OneReading
-mod AddedLemmas
 mod ReadLemmas
 mod ReadsLemmas
 mod StandLemmas

@@ -1,6 +1,9 @@
--- A number that is read is the number that was spelled, and what was spelled is read again; numbers by bytes of seven bits are small.
-use Rattle.ppc_file.proofs.Common.{◌≡◌, ℕ, zero, suc, ◌+◌, ◌-◌, ◌*◌, ◌^◌, ◌<◌, ◌≤◌, arith, pow-le-pow_right, ◌/◌, ◌%◌, Bool, false, cond, ltb, eqb, List, ◌∷◌, ◌++◌, length, get_or, take, drop, Result, Ok, Err, refl, sym, ap, subst, ◌∙◌, append_assoc, inl, inr, Width, w16, w32, byte_len, from_be_bytes, to_be_bytes, cases_lt, ltb-false, le-ltb, lt-ltb, PackErr, Truncated, BadNumber, Version, One, Two, Field, ◌>>=◌, offset, sevens, spelled, sevens_at, behind_byte, unless_over, number_at, nat_tests, take-append-drop, length-take, get_or-drop, get_or-take, get_or_past, rules}
+-- A number that is read is the number that was spelled, and what was spelled is read again; numbers by bytes of seven bits are small; and texts that are added one after another.
+use Rattle.ppc_file.proofs.Common.{◌≡◌, ℕ, zero, suc, ◌+◌, ◌-◌, ◌*◌, ◌^◌, ◌<◌, ◌≤◌, arith, pow-le-pow_right, ◌/◌, ◌%◌, Bool, false, cond, ltb, eqb, List, ◌∷◌, ◌++◌, length, get_or, take, drop, Result, Ok, Err, refl, sym, ap, subst, ◌∙◌, append_assoc, inl, inr, Width, w16, w32, byte_len, from_be_bytes, to_be_bytes, cases_lt, ltb-false, le-ltb, lt-ltb, PackErr, Truncated, BadNumber, Version, One, Two, Field, ◌>>=◌, offset, sevens, spelled, sevens_at, behind_byte, unless_over, number_at, nat_tests, take-append-drop, length-take, get_or-drop, get_or-take, get_or_past, rules, replicate, Some, slice_get, length-replicate, drop_get, Aig, first_and, Parameter, Lit, Pair, PackValue, PackParam, added_twice, node_bytes, nodes_bytes, head_bytes, params_part, nodes_part, bits_part, bytes_of, Added}
 use Rattle.std.proofs.lemmas.Nat.{be_bytes_2, be_bytes_4, from_be_bytes-to_be_bytes_2, from_be_bytes-to_be_bytes_4}
+use Rattle.tl_io.specs.Sink.{SinkSeen}
+use Rattle.tl_piece.specs.Added.{IsAdded}
+use Rattle.tl_piece.specs.declared.writer.Writer.{Writer}
 
 pub one_at_least : (n b : ℕ) → 1 ≤ n → b < 128 → b < 128 ^ n
 one_at_least n b some small = let l : 128 ^ 1 ≤ 128 ^ n = pow-le-pow_right {n = 128} (omega arith) {i = 1} {j = n} some in omega arith
@@ -130,3 +133,19 @@ module _ (w : Width) (limit : ℕ) (wide : IsWide w limit) (total : ℕ) where
   number_again Two n rest lt =
       unless_again 4294967295 (BadNumber (offset total (sevens 5 n ++ rest))) (sevens_at (offset total (sevens 5 n ++ rest)) 5 (sevens 5 n ++ rest)) n rest
       (sevens_again (offset total (sevens 5 n ++ rest)) 4 n rest (omega (arith, lt, wide.word))) (omega (arith, lt, wide.word))
+
+pub added_more : {O : Type 0} {seen : O → SinkSeen} {old mid new : Writer O} {whole left : List ℕ} → Added seen old whole mid left → (part behind : List ℕ) → left ≡ part ++ behind → IsAdded seen mid part new
+    → Added seen old whole new behind
+added_more before part behind split added = record {
+  front = before.front ++ part;
+  added = added_twice before.added added;
+  rest = append_assoc before.front part behind ∙ ap (λ (t : List ℕ). before.front ++ t) (sym split) ∙ before.rest;
+}
+
+-- what is left begins with the node at a place
+pub next_node : (v : Version) (first i : ℕ) (ps : List Pair) (p : Pair) → slice_get ps i ≡ Some p → nodes_bytes v (first + i) (drop i ps) ≡ node_bytes v (first + i) p ++ nodes_bytes v (first + (i + 1)) (drop (i + 1) ps)
+next_node v first i ps p there = grind (arith, drop_get)
+
+pub pack_parts : (v : Version) (pack : PackValue) (params : List PackParam) (g : Aig) (bits : List Lit) → params ≡ pack.params → g ≡ pack.graph → bits ≡ pack.bits → pack.graph.kinds ≡ replicate (length pack.params) Parameter
+    → bytes_of v pack ≡ head_bytes v ++ (params_part v (length params) params ++ (nodes_part v (first_and g) (length g.pairs) g.pairs ++ bits_part v (length bits) bits))
+pack_parts v pack params g bits p-is g-is b-is kinds = rw (p-is, g-is, b-is, kinds, length-replicate (length pack.params) Parameter) refl

@@ -24,8 +24,7 @@ pub use Rattle.tl_text.specs.NameIndex.{place_of}
 pub use Rattle.tl_text.specs.NameSets.{has_name, with_names}
 pub use Rattle.tl_text.specs.TextOf.{at_line, IsLinesFault, by_lines}
 pub use Rattle.tl_text.specs.declared.token.Token.{Token}
-pub use Rattle.run_text.specs.Each.{in_front, each_of}
-pub use Rattle.run_text.specs.EventValue.{EventValue, Set, Cycle, Upset, Scrub, Image, event_values, event_value}
+pub use Rattle.run_text.specs.EventValue.{in_front, each_of, EventValue, Set, Cycle, Upset, Scrub, Image, event_values, event_value}
 pub use Rattle.run_text.specs.Fits.{Fits}
 pub use Rattle.run_text.specs.Lines.{bit_digit, bit_string, header_line, cycle_line, bits_header_line, write_text, set_line, scrub_line, upset_line, image_line, part_text}
 pub use Rattle.run_text.specs.NamesValue.{NamesValue}

@@ -2,7 +2,6 @@
 pub mod Lines
 pub mod NamesValue
 pub mod EventValue
-pub mod Each
 pub mod Sayings
 pub mod ScriptText
 pub mod Fits

@@ -2,7 +2,7 @@
 use Rattle.std.specs.Prelude.{ℕ, Bool, true, false, if◌then◌else◌, ◌==◌, nat_le, List, [], ◌∷◌, Option, Some, None, bytes_eq, codes}
 use Rattle.std.specs.Option.{option_map, option_and_then}
 use Rattle.tl_text.specs.Decimal.{bit_of, decimal_of}
-use Rattle.run_text.specs.Each.{each_of}
+use Rattle.run_text.specs.EventValue.{each_of}
 use Rattle.run_text.specs.declared.event.Forms.{Forms}
 use Rattle.run_text.specs.declared.event.Forms.TheVariants.{Run, Pace}
 use Rattle.run_text.specs.declared.setting.Setting.{Setting}

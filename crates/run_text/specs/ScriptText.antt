@@ -10,8 +10,7 @@ use Rattle.tl_text.specs.TextOf.{IsTextOf, IsTextFault}
 use Rattle.tl_text.specs.declared.text_err.TextErr.{TextErr}
 use Rattle.tl_text.specs.declared.text_err.TextErr.TheVariants as text_err
 use Rattle.tl_text.specs.NameSets.{has_name}
-use Rattle.run_text.specs.Each.{each_of}
-use Rattle.run_text.specs.EventValue.{EventValue, Set, Cycle, Upset, Scrub, Image, event_value}
+use Rattle.run_text.specs.EventValue.{each_of, EventValue, Set, Cycle, Upset, Scrub, Image, event_value}
 use Rattle.run_text.specs.NamesValue.{NamesValue}
 use Rattle.run_text.specs.Sayings.{Saying, sets, cycles, upsets, scrubs, images, said_of}
 use Rattle.run_text.specs.declared.event.TheConstants.{MOST_EVENTS}

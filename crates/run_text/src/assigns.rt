@@ -3,7 +3,7 @@ ghost use Rattle.std.specs.Prelude.{◌≡◌, ◌≤◌, ◌++◌, [], ◌∷�
 ghost use Rattle.tl_text.specs.declared.limits.TheConstants.{MOST_PARAMETERS};
 ghost use Rattle.tl_fault.specs.OrMemory.{OrMemory};
 ghost use Rattle.tl_text.specs.NameIndex.{place_of};
-ghost use Rattle.run_text.specs.Each.{each_of};
+ghost use Rattle.run_text.specs.EventValue.{each_of};
 ghost use Rattle.run_text.specs.ScriptText.{settings_refusal, assign_of};
 ghost use Rattle.run_text.specs.ScriptRefusals.{refusal_of};
 ghost use Rattle.run_text.specs.declared.setting.Setting.{Setting as SettingValue};

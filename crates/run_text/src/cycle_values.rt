@@ -1,7 +1,7 @@
 //! The word of a script that has the values of a cycle.
 ghost use Rattle.std.specs.Prelude.{◌≡◌, None, Some, MatchResult};
 ghost use Rattle.tl_fault.specs.OrMemory.{OrMemory};
-ghost use Rattle.run_text.specs.Each.{each_of};
+ghost use Rattle.run_text.specs.EventValue.{each_of};
 ghost use Rattle.run_text.specs.Sayings.{digit_bit, bits_of};
 ghost use Rattle.run_text.specs.ScriptRefusals.{refusal_of};
 ghost use Rattle.run_text.specs.declared.script_err.ScriptErr.TheVariants.{Malformed};

@@ -4,7 +4,7 @@ ghost use Rattle.list_laws.specs.Members.{In};
 ghost use Rattle.tl_fault.specs.OrMemory.{OrMemory};
 ghost use Rattle.tl_text.specs.LineValue.{IsWithin, token_bytes};
 ghost use Rattle.tl_text.specs.declared.token.Token.{Token as TokenValue};
-ghost use Rattle.run_text.specs.Each.{each_of};
+ghost use Rattle.run_text.specs.EventValue.{each_of};
 ghost use Rattle.run_text.specs.Sayings.{split_last as halves, setting_of, settings_of};
 ghost use Rattle.run_text.specs.ScriptRefusals.{refusal_of};
 ghost use Rattle.run_text.specs.declared.script_err.ScriptErr.TheVariants.{Malformed};

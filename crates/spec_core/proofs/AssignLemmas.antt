@@ -1,5 +1,5 @@
 -- Parameters get new values: a sweep begins.
-use Rattle.spec_core.proofs.Common.{◌≡◌, ℕ, zero, suc, ◌+◌, ◌-◌, ◌/◌, ◌<◌, ◌≤◌, Bool, false, List, [], ◌∷◌, length, get_or, replicate, slice_set, refl, sym, ap, ◌∙◌, subst, inl, inr, arith, cases_lt, false≢true, or_from, length-set, get_or-set_same, get_or-set_other, get_or-replicate, get_or_past, length-replicate, Assign, AreAssigned, assigned, In, place_in, same_or, Pair, first_and, node_count, xor, node_value, FitsGraph, PackValue, is_marked, ReadersValue, reads_and, is_changed, is_touched, Progress, Belong, stored, with_assigned, AreMarked, IsSweeping, params_in, IsIdle}
+use Rattle.spec_core.proofs.Common.{◌≡◌, ℕ, zero, suc, ◌+◌, ◌-◌, ◌/◌, ◌<◌, ◌≤◌, Bool, false, List, [], ◌∷◌, length, get_or, replicate, slice_set, refl, sym, ap, ◌∙◌, subst, inl, inr, arith, cases_lt, false≢true, or_from, length-set, get_or-set_same, get_or-set_other, get_or-replicate, get_or_past, length-replicate, Assign, AreAssigned, assigned, In, place_in, same_or, Pair, first_and, node_count, xor, node_value, FitsGraph, PackValue, is_marked, ReadersValue, reads_and, is_changed, is_touched, Progress, Belong, stored, with_assigned, AreMarked, IsSweeping, params_in, IsIdle, rules}
 use Rattle.spec_core.proofs.MarkLemmas.{xor-same}
 use Rattle.spec_core.proofs.StoreLemmas.{stored_values, Belong-stored, AreMarked-stored}
 
@@ -67,26 +67,14 @@ module _ (pack : PackValue) (readers : ReadersValue) (old : List Bool) where
 
 -- no mark is set where none of a list is
 pub none_marked : (n i : ℕ) → is_marked (replicate n false) i ≡ false
-none_marked n i = elim (cases_lt i n) [
-  | inl l ↦ get_or-replicate n i false false l
-  | inr past ↦ get_or_past (replicate n false) i false (let l : length (replicate n false) ≡ n = length-replicate n false in omega arith)
-]
+none_marked n i = search (rules, cases_lt, get_or-replicate, get_or_past, length-replicate)
 
 untouched : (old : List Bool) (pair : Pair) → is_touched old old pair ≡ false
 untouched old pair = or_from (is_changed old old (pair.x.0 / 2)) (is_changed old old (pair.y.0 / 2)) (xor-same (node_value old (pair.x.0 / 2)) _ refl) (xor-same (node_value old (pair.y.0 / 2)) _ refl)
 
 -- between events the marks are right, since nothing has changed
 AreMarked-idle : (pack : PackValue) (now : Progress) (point : ℕ) → IsIdle pack now → AreMarked pack now.values now point
-AreMarked-idle pack now point idle = record {
-  from = λ n h. absurd (false≢true (sym (no_node n) ∙ h));
-  stale = λ n h. absurd (false≢true (sym (no_node n) ∙ h));
-  all_stale = λ n l s. absurd (false≢true (sym (untouched now.values s.pair) ∙ s.touched));
-  moved = λ a h. absurd (false≢true (sym (ap (λ ms. is_marked ms a) idle.addresses ∙ none_marked (length pack.bits) a) ∙ h));
-  all_moved = λ a m. absurd (false≢true (sym (xor-same (node_value now.values (m.lit.0 / 2)) _ refl) ∙ m.changed));
-}
-  where
-    no_node : (n : ℕ) → is_marked now.nodes n ≡ false
-    no_node n = ap (λ ms. is_marked ms n) idle.nodes ∙ none_marked (node_count pack.graph) n
+AreMarked-idle pack now point idle = search (rules, false≢true, untouched, none_marked, xor-same)
 
 -- a sweep begins
 module _ (pack : PackValue) (readers : ReadersValue) (now : Progress) (assigns : List Assign) (new : List Bool) (start : ℕ)
@@ -96,22 +84,14 @@ module _ (pack : PackValue) (readers : ReadersValue) (now : Progress) (assigns :
   count = idle.fits.given
 
   old_params : (k : ℕ) → k < length (params_in pack now.values) → node_value now.values (1 + k) ≡ get_or (params_in pack now.values) k false
-  old_params k l =
-      let c : length (params_in pack now.values) ≡ length pack.graph.kinds = count in
-      let e : 1 + k - 1 ≡ k = omega arith in
-      idle.fits.source (1 + k) (omega arith) (omega arith) ∙ ap (λ i. get_or (params_in pack now.values) i false) e
+  old_params k l = grind arith
 
   below : (n : ℕ) → n < first_and pack.graph → node_value (values_after now.values assigns) n ≡ node_value new n
   below zero l = values_kept assigns now.values 0 (λ a i e. omega arith) ∙ idle.fits.constant ∙ sym fits.constant
   below (suc k) l =
-      let c : length (params_in pack now.values) ≡ length pack.graph.kinds = count in
-      let v : length now.values ≡ node_count pack.graph = b.values in
       let e : 1 + k ≡ suc k = omega arith in
       let d : suc k - 1 ≡ k = omega arith in
-      ap (node_value (values_after now.values assigns)) (sym e)
-      ∙ values_shown assigns now.values (params_in pack now.values) (omega arith) old_params k (omega arith)
-      ∙ ap (λ i. get_or (assigned (params_in pack now.values) assigns) i false) (sym d)
-      ∙ sym (fits.source (suc k) (omega arith) l)
+      grind (arith, values_after, values_shown, old_params)
 
   above : (n : ℕ) → first_and pack.graph ≤ n → node_value (values_after now.values assigns) n ≡ node_value now.values n
   above n l = values_kept assigns now.values n (λ a i e. let p : a.param < length pack.graph.kinds = are.below a i in omega arith)

@@ -1,5 +1,5 @@
 -- What the proofs of this crate cite of other crates, and its own definitions, passed on from one place.
-pub use Rattle.std.proofs.Common.{◌≡◌, ℕ, zero, suc, ◌+◌, ◌-◌, ◌/◌, ◌<◌, ◌≤◌, Bool, false, List, [], ◌∷◌, length, get_or, replicate, slice_set, refl, sym, ap, ◌∙◌, subst, inl, inr, arith, ◌%◌, true, eqb, map, drop, Some, ◌⊎◌, Option, None, ◌&&◌, ◌||◌, take, cond, not, ◌++◌, append-nil, length-append, append_assoc, ◌*◌}
+pub use Rattle.std.proofs.Common.{◌≡◌, ℕ, zero, suc, ◌+◌, ◌-◌, ◌/◌, ◌<◌, ◌≤◌, Bool, false, List, [], ◌∷◌, length, get_or, replicate, slice_set, refl, sym, ap, ◌∙◌, subst, inl, inr, arith, ◌%◌, true, eqb, map, drop, Some, ◌⊎◌, Option, None, ◌&&◌, ◌||◌, take, cond, not, ◌++◌, append-nil, length-append, append_assoc, ◌*◌, rules}
 pub use Rattle.std.proofs.lemmas.Bool.{cases_lt, false≢true, or_from, cases_Bool, or_left, or_right, or_cases}
 pub use Rattle.std.proofs.lemmas.List.{length-set, get_or-set_same, get_or-set_other, get_or-replicate, get_or_past, length-replicate, ext_get_or, length-map, length-take, length-drop, get_or-take, get_or-drop, set-get_or, take_all, map-append, get_or_read}
 pub use Rattle.std.proofs.lemmas.List.Elements.{filter_agree, filter-append}

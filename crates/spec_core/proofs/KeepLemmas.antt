@@ -1,5 +1,5 @@
 -- What a specialiser keeps: at the start, and after an event.
-use Rattle.spec_core.proofs.Common.{◌≡◌, ℕ, ◌≤◌, Bool, false, List, [], length, replicate, refl, sym, ap, ◌∙◌, subst, length-map, Assign, AreAscending, AreBitsOf, written, first_and, node_count, AreNormal, FitsGraph, one_fit, PackValue, IsPack, IsConf, HasOneConf, inits_of, has_one_conf, kinds_count, is_marked, differs_at, IsSet, IsScrub, Progress, EvaluationValue, bits_under, DeviceValue, IsSent, params_in, IsIdle, IsChange, Keeps, length-written}
+use Rattle.spec_core.proofs.Common.{◌≡◌, ℕ, ◌≤◌, Bool, false, List, [], length, replicate, refl, sym, ap, ◌∙◌, subst, length-map, Assign, AreAscending, AreBitsOf, written, first_and, node_count, AreNormal, FitsGraph, one_fit, PackValue, IsPack, IsConf, HasOneConf, inits_of, has_one_conf, kinds_count, is_marked, differs_at, IsSet, IsScrub, Progress, EvaluationValue, bits_under, DeviceValue, IsSent, params_in, IsIdle, IsChange, Keeps, length-written, arith, rules}
 use Rattle.ppc_pack.specs.declared.pack.TheConstants.{MOST_PACK_BITS}
 use Rattle.ppc_pack.specs.declared.pack.PackParam.{PackParam}
 use Rattle.spec_core.proofs.StoreLemmas.{writes_ascend, writes_are_bits, written_differences}
@@ -11,11 +11,7 @@ start_params pack values fits = params_fit pack (inits_of pack.params) values (l
 
 -- the start
 pub IsIdle-start : (pack : PackValue) (now : Progress) → FitsGraph pack.graph (inits_of pack.params) now.values → now.nodes ≡ replicate (node_count pack.graph) false → now.addresses ≡ replicate (length pack.bits) false → IsIdle pack now
-IsIdle-start pack now fits nodes addresses = record {
-  fits = subst (λ ps. FitsGraph pack.graph ps now.values) (sym (start_params pack now.values fits)) fits;
-  nodes = nodes;
-  addresses = addresses;
-}
+IsIdle-start pack now fits nodes addresses = search (rules, start_params)
 
 -- under any values of the parameters there is one configuration
 pub one_conf_each : (pack : PackValue) → AreNormal (first_and pack.graph) pack.graph.pairs → IsPack pack.params pack.graph pack.bits → (given : List Bool) → length given ≡ length pack.params → HasOneConf pack given
@@ -24,14 +20,7 @@ one_conf_each pack normal is given same = has_one_conf pack given (one_fit pack.
 -- the device has the configuration at first, and no writes
 pub Keeps-start : (e : EvaluationValue) (device : DeviceValue) → IsIdle e.pack e.now → AreNormal (first_and e.pack.graph) e.pack.graph.pairs → IsPack e.pack.params e.pack.graph e.pack.bits
     → device ≡ record { config = bits_under e.pack e.now.values; writes = [] } → Keeps e device
-Keeps-start e device idle normal is start = subst (Keeps e) (sym start) (record {
-  idle = idle;
-  normal = normal;
-  few = is.few_bits;
-  bits = length-bits_under e.pack e.now.values;
-  ascending = tt;
-  sent = record { bits = λ w i. elim i [ ] };
-})
+Keeps-start e device idle normal is start = grind (arith, length-bits_under)
 
 -- once the marked addresses are taken, a change leaves nothing marked
 pub change_idle : (pack : PackValue) (assigns : List Assign) (old now : Progress) (start end : ℕ) → IsChange pack assigns old now start end → IsIdle pack (record { values = now.values; nodes = now.nodes; addresses = replicate (length pack.bits) false })
@@ -40,15 +29,7 @@ change_idle pack assigns old now start end change = record { fits = change.fits;
 -- what is kept after writes are sent to a device
 pub Keeps-sent : (e : EvaluationValue) (device sent : DeviceValue) (test : ℕ → Bool) → IsIdle e.pack e.now → AreNormal (first_and e.pack.graph) e.pack.graph.pairs → length e.pack.bits ≤ MOST_PACK_BITS
     → length device.config ≡ length e.pack.bits → IsSent test (bits_under e.pack e.now.values) device sent → Keeps e sent
-Keeps-sent e device sent test idle normal few bits done = record {
-  idle = idle;
-  normal = normal;
-  few = few;
-  bits = ap length done.config ∙ length-written sent.writes device.config ∙ bits;
-  ascending = subst AreAscending (sym done.writes) (writes_ascend test (bits_under e.pack e.now.values));
-  sent = subst (λ config. AreBitsOf config sent.writes) (sym done.config)
-      (subst (λ ws. AreBitsOf (written device.config ws) ws) (sym done.writes) (writes_are_bits test (bits_under e.pack e.now.values) device.config (bits ∙ sym (length-bits_under e.pack e.now.values))));
-}
+Keeps-sent e device sent test idle normal few bits done = search (rules, length-written, writes_ascend, writes_are_bits, length-bits_under)
 
 -- A change of parameters, its writes, and what is left then.
 module _ (old changed left : EvaluationValue) (device cleared sent : DeviceValue) (assigns : List Assign) (start end : ℕ) (keeps : Keeps old device) (same : changed.pack ≡ old.pack)
@@ -59,8 +40,7 @@ module _ (old changed left : EvaluationValue) (device cleared sent : DeviceValue
   left_is = taken ∙ ap (λ (p : PackValue). record { pack = p; reads = changed.reads; readers = changed.readers; now = record { values = changed.now.values; nodes = changed.now.nodes; addresses = replicate (length p.bits) false } }) same
 
   done_over : IsSent (is_marked changed.now.addresses) (bits_under old.pack changed.now.values) (record { config = device.config; writes = [] }) sent
-  done_over = subst (λ (d : DeviceValue). IsSent (is_marked changed.now.addresses) (bits_under old.pack changed.now.values) d sent) clear
-      (subst (λ (p : PackValue). IsSent (is_marked changed.now.addresses) (bits_under p changed.now.values) cleared sent) same done)
+  done_over = grind arith
 
   pub change_keeps : Keeps left sent
   change_keeps = subst (λ (e : EvaluationValue). Keeps e sent) (sym left_is)
@@ -87,7 +67,4 @@ module _ (e : EvaluationValue) (device cleared sent : DeviceValue) (keeps : Keep
   scrub_sets = record { params = refl; right = bits_under e.pack e.now.values; conf = idle_conf e.pack e.now keeps.idle; are = done_from.writes; config = done_from.config }
 
   pub scrub_rights : IsConf e.pack (params_in e.pack e.now.values) sent.config
-  scrub_rights =
-      let right : sent.config ≡ bits_under e.pack e.now.values =
-      done_from.config ∙ ap (written device.config) done_from.writes ∙ written_differences device.config (bits_under e.pack e.now.values) (keeps.bits ∙ sym (length-bits_under e.pack e.now.values)) in
-      subst (IsConf e.pack (params_in e.pack e.now.values)) (sym right) (idle_conf e.pack e.now keeps.idle)
+  scrub_rights = grind (arith, written_differences, length-bits_under, idle_conf)

@@ -1,5 +1,5 @@
 -- How many places there are from the first mark on: fewer after a visit, which marks only later ones.
-use Rattle.spec_core.proofs.Common.{◌≡◌, ℕ, zero, suc, ◌+◌, ◌<◌, ◌≤◌, Bool, true, false, List, [], ◌∷◌, length, slice_set, Some, sym, ap, ◌∙◌, inl, inr, arith, cases_Bool, cases_lt, false≢true, get_or-set_same, get_or-set_other, choose, same_or, node_count, xor, node_value, PackValue, is_marked, IsLeast, ReadersValue, nodes_of, reads_above, Progress, Belong, stored}
+use Rattle.spec_core.proofs.Common.{◌≡◌, ℕ, zero, suc, ◌+◌, ◌<◌, ◌≤◌, Bool, true, false, List, [], ◌∷◌, length, slice_set, Some, sym, ap, ◌∙◌, inl, inr, arith, cases_Bool, cases_lt, false≢true, get_or-set_same, get_or-set_other, choose, same_or, node_count, xor, node_value, PackValue, is_marked, IsLeast, ReadersValue, nodes_of, reads_above, Progress, Belong, stored, rules}
 use Rattle.spec_core.proofs.MarkLemmas.{marks_only}
 use Rattle.spec_core.proofs.StoreLemmas.{Belong-stored, Belong-without}
 
@@ -9,9 +9,8 @@ places_left (true ∷ bs) = suc (length bs)
 places_left (false ∷ bs) = places_left bs
 
 left_most : (marks : List Bool) → places_left marks ≤ length marks
-left_most [] = omega arith
-left_most (true ∷ bs) = omega arith
 left_most (false ∷ bs) = let l : places_left bs ≤ length bs = left_most bs in omega arith
+left_most marks = omega arith
 
 left_least : (marks : List Bool) (n : ℕ) → n < length marks → is_marked marks n ≡ true → ((k : ℕ) → k < n → is_marked marks k ≡ false) → places_left marks + n ≡ length marks
 left_least [] n l h none = absurd (omega arith)
@@ -33,21 +32,11 @@ module _ (pack : PackValue) (readers : ReadersValue) (now : Progress) (n : ℕ) 
 
   -- a mark that stays is later
   mark_stays : (k : ℕ) → is_marked (slice_set now.nodes n false) k ≡ true → n < k
-  mark_stays k h = elim (same_or k n) [
-    | inl e ↦ absurd (false≢true (sym (get_or-set_same now.nodes n false false least.within) ∙ ap (is_marked (slice_set now.nodes n false)) (sym e) ∙ h))
-    | inr d ↦
-        let was : is_marked now.nodes k ≡ true = sym (get_or-set_other now.nodes n k false false d) ∙ h in
-        elim (cases_lt k n) [ inl l ↦ absurd (false≢true (sym (least.least k l) ∙ was)) | inr g ↦ omega arith ]
-  ]
+  mark_stays k h = search (rules, same_or, false≢true, get_or-set_same, slice_set, get_or-set_other, cases_lt)
 
   -- what is marked after it is later
   marked_later : (k : ℕ) → is_marked (stored readers (record { values = now.values; nodes = slice_set now.nodes n false; addresses = now.addresses }) n v).nodes k ≡ true → n < k
-  marked_later k = choose (λ (s : Progress). is_marked s.nodes k ≡ true → n < k) (xor (node_value now.values n) v) _ _
-      (λ t h. elim (marks_only (nodes_of readers n) (slice_set now.nodes n false) k h) [
-        | inl i ↦ reads_above pack.graph n k b.normal ((b.read.nodes n inside).only k i)
-        | inr s ↦ mark_stays k s
-      ])
-      (λ f h. mark_stays k h)
+  marked_later k = grind (arith, marks_only, slice_set, reads_above, mark_stays)
 
   -- so fewer places are left
   pub places_fall : places_left (stored readers (record { values = now.values; nodes = slice_set now.nodes n false; addresses = now.addresses }) n v).nodes < places_left now.nodes

@@ -1,25 +1,20 @@
 -- Marks and values after a write.
-use Rattle.spec_core.proofs.Common.{◌≡◌, ℕ, ◌<◌, Bool, true, false, List, [], ◌∷◌, length, replicate, slice_set, refl, sym, ap, ◌∙◌, subst, inl, inr, ◌⊎◌, arith, cases_lt, false≢true, length-set, get_or-set_same, get_or-set_other, get_or_past, ext_get_or, length-replicate, get_or-replicate, In, same_or, xor, node_value, is_marked, IsEmpty, is_changed, with_marks}
+use Rattle.spec_core.proofs.Common.{◌≡◌, ℕ, ◌<◌, Bool, true, false, List, [], ◌∷◌, length, replicate, slice_set, refl, sym, ap, ◌∙◌, subst, inl, inr, ◌⊎◌, arith, cases_lt, false≢true, length-set, get_or-set_same, get_or-set_other, get_or_past, ext_get_or, length-replicate, get_or-replicate, In, same_or, xor, node_value, is_marked, IsEmpty, is_changed, with_marks, rules}
 
 -- two tests that do not differ are equal, and the other way round
 pub xor-false : (a b : Bool) → xor a b ≡ false → a ≡ b
-xor-false true true e = refl
-xor-false false false e = refl
 xor-false true false e = absurd (false≢true (sym e))
 xor-false false true e = absurd (false≢true (sym e))
+xor-false a b e = refl
 
 pub xor-same : (a b : Bool) → a ≡ b → xor a b ≡ false
-xor-same true true e = refl
-xor-same false false e = refl
 xor-same true false e = absurd (false≢true (sym e))
 xor-same false true e = absurd (false≢true e)
+xor-same a b e = refl
 
 -- a marked place is within the list
 pub marked_within : (marks : List Bool) (m : ℕ) → is_marked marks m ≡ true → m < length marks
-marked_within marks m h = elim (cases_lt m (length marks)) [
-  | inl l ↦ l
-  | inr past ↦ absurd (false≢true (sym (get_or_past marks m false past) ∙ h))
-]
+marked_within marks m h = search (rules, cases_lt, false≢true, get_or_past)
 
 -- a set without members
 pub unmarked : (marks : List Bool) (n : ℕ) → length marks ≡ n → IsEmpty marks → marks ≡ replicate n false
@@ -27,10 +22,7 @@ unmarked marks n same empty = ext_get_or false marks (replicate n false) (same �
 
 -- what is set stays set where one more place is
 true_kept : (marks : List Bool) (n m : ℕ) → is_marked marks m ≡ true → is_marked (slice_set marks n true) m ≡ true
-true_kept marks n m h = elim (same_or m n) [
-  | inl e ↦ subst (λ k. is_marked (slice_set marks k true) m ≡ true) e (get_or-set_same marks m true false (marked_within marks m h))
-  | inr d ↦ get_or-set_other marks n m true false d ∙ h
-]
+true_kept marks n m h = search (rules, same_or, slice_set, get_or-set_same, marked_within, get_or-set_other)
 
 -- marks stay where more are set
 pub marks_kept : (ns : List ℕ) (marks : List Bool) (m : ℕ) → is_marked marks m ≡ true → is_marked (with_marks marks ns) m ≡ true
@@ -40,20 +32,13 @@ marks_kept (n ∷ ns) marks m h = marks_kept ns (slice_set marks n true) m (true
 -- the numbers of the list are marked
 pub marks_set : (ns : List ℕ) (marks : List Bool) (m : ℕ) → In ns m → m < length marks → is_marked (with_marks marks ns) m ≡ true
 marks_set [] marks m i l = elim i [ ]
-marks_set (n ∷ ns) marks m (inl e) l =
-    marks_kept ns (slice_set marks n true) m (subst (λ k. is_marked (slice_set marks k true) m ≡ true) e (get_or-set_same marks m true false l))
+marks_set (n ∷ ns) marks m (inl e) l = grind (arith, marks_kept, slice_set, get_or-set_same)
 marks_set (n ∷ ns) marks m (inr i) l = marks_set ns (slice_set marks n true) m i (rw (length-set marks n true) l)
 
 -- no others are
 pub marks_only : (ns : List ℕ) (marks : List Bool) (m : ℕ) → is_marked (with_marks marks ns) m ≡ true → In ns m ⊎ (is_marked marks m ≡ true)
 marks_only [] marks m h = inr h
-marks_only (n ∷ ns) marks m h = elim (marks_only ns (slice_set marks n true) m h) [
-  | inl i ↦ inl (inr i)
-  | inr k ↦ elim (same_or m n) [
-    | inl e ↦ inl (inl e)
-    | inr d ↦ inr (sym (get_or-set_other marks n m true false d) ∙ k)
-  ]
-]
+marks_only (n ∷ ns) marks m h = search (rules, slice_set, same_or, get_or-set_other, marks_only ns (slice_set marks n true) m h)
 
 pub length-with_marks : (ns : List ℕ) (marks : List Bool) → length (with_marks marks ns) ≡ length marks
 length-with_marks [] marks = refl

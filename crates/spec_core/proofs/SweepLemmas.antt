@@ -233,7 +233,6 @@ params_fit pack given values count fits = ext_get_or false (params_in pack value
         ∙ fits.source (1 + k) (omega arith) (omega arith)
         ∙ ap (λ i. get_or given i false) e
 
--- one configuration
 pub one_conf : (pack : PackValue) (params a b : List Bool) → AreNormal (first_and pack.graph) pack.graph.pairs → IsConf pack params a → IsConf pack params b → a ≡ b
 one_conf pack params a b normal ca cb =
     let one = has_one_conf pack params (one_fit pack.graph params normal ca.fits.given) in

@@ -1,5 +1,5 @@
 -- Texts that are added to a writer one after another, and the writer's end.
-use Rattle.std.proofs.Common.{◌≡◌, ◌⊎◌, inl, inr, ℕ, ◌≤◌, true, false, List, [], ◌++◌, Result, Ok, Err, is_err, refl, sym, ap, subst, ◌∙◌, arith}
+use Rattle.std.proofs.Common.{◌≡◌, ◌⊎◌, inl, inr, ℕ, ◌≤◌, true, false, List, [], ◌++◌, Result, Ok, Err, is_err, refl, sym, ap, subst, ◌∙◌, arith, rules}
 use Rattle.std.specs.Borrow.{MutBor}
 use Rattle.std.proofs.lemmas.Bool.{cases_Bool}
 use Rattle.tl_io.specs.Sink.{SinkSeen, IsPut}
@@ -22,13 +22,7 @@ grows_twice h k (stays o m e) (cut p n q b) = absurd (let wrong : ⊥ = cc in wr
 grows_twice h k (stays o m e) (stays p n d) = stays o n (d ∙ e)
 
 pub added_twice : {O : Type 0} {seen : O → SinkSeen} {old mid new : Writer O} {text more : List ℕ} → IsAdded seen old text mid → IsAdded seen mid more new → IsAdded seen old (text ++ more) new
-added_twice a b = record {
-  name = b.name ∙ a.name;
-  grows = grows_twice a.later b.later a.grows b.grows;
-  later = omega (arith, a.later, b.later);
-  through = b.through ∙ a.through;
-  others = b.others ∙ a.others;
-}
+added_twice a b = search (rules, grows_twice)
 
 -- the same text in another form
 pub added_as : {O : Type 0} {seen : O → SinkSeen} {old new : Writer O} {text other : List ℕ} → text ≡ other → IsAdded seen old text new → IsAdded seen old other new
@@ -53,15 +47,7 @@ behind_grows seen old new more same e put (inl set) = stays set (same ∙ set) p
 behind_grows seen old new more same e put (inr clear) = waits clear (same ∙ clear) (adds_waiting put e)
 
 pub added_behind : {O : Type 0} (seen : O → SinkSeen) (old new : Writer O) (more : List ℕ) → new.out ≡ old.out → new.failed ≡ old.failed → new.piece.now ≡ old.piece.now ++ more → IsAdded seen old more new
-added_behind {O = O} seen old new more out same e =
-    let there : seen new.out.now ≡ seen old.out.now = ap (λ (b : MutBor O). seen b.now) out in
-    record {
-      name = ap (λ (b : MutBor O). b.ghost_name) out;
-      grows = behind_grows seen old new more same e (ap (λ (s : SinkSeen). s.bytes) there) (cases_Bool old.failed);
-      later = omega (arith, ap (λ (s : SinkSeen). s.faults) there);
-      through = ap (λ (s : SinkSeen). s.through) there;
-      others = ap (λ (s : SinkSeen). s.others) there;
-    }
+added_behind {O = O} seen old new more out same e = grind (arith, behind_grows, cases_Bool)
 
 -- what waited was put, to make room
 room_put : {O E : Type 0} (seen : O → SinkSeen) (old new : Writer O) (result : Result Unit E) → old.failed ≡ false → IsPut (seen old.out.now) old.piece.now (seen new.out.now) result
@@ -71,23 +57,12 @@ room_put seen old new (Err e) clear p empty failed = cut clear failed p.cause.fa
 
 room_made : {O E : Type 0} (seen : O → SinkSeen) (old mid new : Writer O) (result : Result Unit E) → (old.failed ≡ true) ⊎ (old.failed ≡ false) → IsFinished seen old mid result
     → new.out.ghost_name ≡ mid.out.ghost_name → seen new.out.now ≡ seen mid.out.now → new.piece.now ≡ [] → new.failed ≡ is_err result → IsAdded seen old [] new
-room_made seen old mid new result (inl set) f name there empty failed =
-    let same : seen new.out.now ≡ seen old.out.now = there ∙ ap seen (f.failed set).1 in
-    record {
-      name = name ∙ f.name;
-      grows = stays set (failed ∙ (f.failed set).0) (ap (λ (s : SinkSeen). s.bytes) same);
-      later = omega (arith, ap (λ (s : SinkSeen). s.faults) same);
-      through = ap (λ (s : SinkSeen). s.through) same;
-      others = ap (λ (s : SinkSeen). s.others) same;
-    }
-room_made seen old mid new result (inr clear) f name there empty failed =
-    let p : IsPut (seen old.out.now) old.piece.now (seen new.out.now) result = subst (λ (s : SinkSeen). IsPut (seen old.out.now) old.piece.now s result) (sym there) (f.put clear) in
-    record { name = name ∙ f.name; grows = room_put seen old new result clear p empty failed; later = p.cause.later; through = p.through; others = p.others }
+room_made seen old mid new result (inl set) f name there empty failed = grind arith
+room_made seen old mid new result (inr clear) f name there empty failed = grind (arith, room_put)
 
 pub added_room : {O E : Type 0} {seen : O → SinkSeen} {old mid new : Writer O} (result : Result Unit E) → IsFinished seen old mid result → new.out ≡ mid.out → new.piece.now ≡ [] → new.failed ≡ is_err result
     → IsAdded seen old [] new
-added_room {O = O} {seen = seen} {old = old} {mid = mid} {new = new} result f out empty failed =
-    room_made seen old mid new result (cases_Bool old.failed) f (ap (λ (b : MutBor O). b.ghost_name) out) (ap (λ (b : MutBor O). seen b.now) out) empty failed
+added_room {O = O} {seen = seen} {old = old} {mid = mid} {new = new} result f out empty failed = grind (arith, room_made, cases_Bool)
 
 -- a text that was added to a new writer, and then what waited was put: the text was put
 put_by : {O E : Type 0} (seen : O → SinkSeen) (was mid is : Writer O) (text : List ℕ) (result : Result Unit E) → was.failed ≡ false → was.piece.now ≡ [] → IsFinished seen mid is result
@@ -101,14 +76,7 @@ put_by seen was mid is text result whole empty f a (waits o m adds) =
       others = p.others ∙ a.others;
     }
 put_by seen was mid is text (Ok done) whole empty f a (cut o m rose part) = absurd (let e : false ≡ true = (f.failed m).0 in let wrong : ⊥ = cc in wrong)
-put_by seen was mid is text (Err e) whole empty f a (cut o m rose part) =
-    let same : seen is.out.now ≡ seen mid.out.now = ap seen (f.failed m).1 in
-    record {
-      cause = record { later = omega (arith, a.later, ap (λ (s : SinkSeen). s.faults) same); failed = rose_early _ _ _ rose (omega (arith, ap (λ (s : SinkSeen). s.faults) same)) };
-      grown = stops_part empty (stops_still part (ap (λ (s : SinkSeen). s.bytes) same));
-      through = ap (λ (s : SinkSeen). s.through) same ∙ a.through;
-      others = ap (λ (s : SinkSeen). s.others) same ∙ a.others;
-    }
+put_by seen was mid is text (Err e) whole empty f a (cut o m rose part) = grind arith
 put_by seen was mid is text result whole empty f a (stays o m e) = absurd (let wrong : ⊥ = cc in wrong)
 
 pub put_over : {O E : Type 0} {seen : O → SinkSeen} {out : MutBor O} {after : O} {was mid is : Writer O} {text : List ℕ} {result : Result Unit E} → after ≡ is.out.now → IsNew out was

@@ -1,5 +1,5 @@
 -- Bytes that wait, and texts that are added behind them.
-use Rattle.std.proofs.Common.{◌≡◌, ℕ, ◌+◌, ◌<◌, List, [], ◌++◌, length, take, Option, Result, Ok, Err, sym, ap, subst, ◌∙◌, arith, append_assoc, append-nil, length-append}
+use Rattle.std.proofs.Common.{◌≡◌, ℕ, ◌+◌, ◌<◌, List, [], ◌++◌, length, take, Option, Result, Ok, Err, sym, ap, subst, ◌∙◌, arith, append_assoc, append-nil, length-append, rules}
 use Rattle.std.proofs.Math.Seq.{take-append-add}
 use Rattle.std.proofs.lemmas.List.{take-append-le}
 use Rattle.tl_io.specs.Content.{extended, Puts}
@@ -20,26 +20,15 @@ adds_put_all {waiting = waiting} e empty = record { sent = waiting; put = e; res
 
 -- one text and then another
 pub adds_twice : {old mid new : Option (List ℕ)} {waiting text between more left : List ℕ} → Adds old waiting text mid between → Adds mid between more new left → Adds old waiting (text ++ more) new left
-adds_twice {old = old} {waiting = waiting} {text = text} {between = between} {more = more} {left = left} a b = record {
-  sent = a.sent ++ b.sent;
-  put = b.put ∙ ap (λ (o : Option (List ℕ)). extended o b.sent) a.put ∙ extended_twice old a.sent b.sent;
-  rest = append_assoc a.sent b.sent left ∙ ap (λ (t : List ℕ). a.sent ++ t) b.rest ∙ sym (append_assoc a.sent between more)
-      ∙ ap (λ (t : List ℕ). t ++ more) a.rest ∙ append_assoc waiting text more;
-}
+adds_twice {old = old} {waiting = waiting} {text = text} {between = between} {more = more} {left = left} a b = search (rules, extended_twice, append_assoc)
 
 -- a prefix of what waited was put
 pub stops_put : {old new : Option (List ℕ)} (waiting : List ℕ) → (n : ℕ) × (n < length waiting) × (new ≡ extended old (take n waiting)) → Stops old waiting [] new
-stops_put {old = old} waiting p =
-    let whole : waiting ≡ waiting ++ [] = sym (append-nil waiting) in
-    record { count = p.0; within = omega (arith, p.1, ap length whole); put = p.2 ∙ ap (λ (t : List ℕ). extended old (take p.0 t)) whole }
+stops_put {old = old} waiting p = grind (arith, append-nil)
 
 -- a prefix of a text is one of a longer text
 pub stops_longer : {old new : Option (List ℕ)} {waiting text : List ℕ} (more : List ℕ) → Stops old waiting text new → Stops old waiting (text ++ more) new
-stops_longer {old = old} {waiting = waiting} {text = text} more s = record {
-  count = s.count;
-  within = omega (arith, s.within, length-append waiting text, length-append waiting (text ++ more), length-append text more);
-  put = s.put ∙ ap (extended old) (sym (take-append-le s.count (waiting ++ text) more (omega (arith, s.within))) ∙ ap (take s.count) (append_assoc waiting text more));
-}
+stops_longer {old = old} {waiting = waiting} {text = text} more s = search (rules, length-append, take-append-le, append_assoc)
 
 -- a text was added, and the next one stopped
 pub stops_later : {old mid new : Option (List ℕ)} {waiting text between more : List ℕ} → Adds old waiting text mid between → Stops mid between more new → Stops old waiting (text ++ more) new
@@ -77,5 +66,4 @@ adds_then_puts {old = old} {mid = mid} {text = text} {left = left} new (Err f) e
 
 -- a text that stopped at an empty buffer left a prefix of it
 pub stops_part : {old new : Option (List ℕ)} {waiting text : List ℕ} → waiting ≡ [] → Stops old waiting text new → (m : ℕ) × (m < length text) × (new ≡ extended old (take m text))
-stops_part {old = old} {new = new} {text = text} e s =
-    let here : Stops old [] text new = subst (λ (w : List ℕ). Stops old w text new) e s in (here.count, here.within, here.put)
+stops_part {old = old} {new = new} {text = text} e s = grind arith

@@ -1,5 +1,5 @@
 -- The tokens of the logical lines of a text are clean, and stand in the text.
-use Rattle.tl_text.proofs.Common.{◌≡◌, ℕ, zero, suc, ◌+◌, ◌-◌, ◌<◌, ◌≤◌, Bool, true, false, eqb, ◌&&◌, List, [], ◌∷◌, length, take, drop, get_or, refl, sym, ap, subst, ◌∙◌, inl, inr, arith, length-drop, get_or-drop, min, list_any, suffix_len, position_or_len, slice_range, fails_before_first, list_any_at, In, choose_one, Token, IsWithin, token_bytes, is_bad, has_slash_end, words, content, before_comment, without_last, ends_in, goes_on, physical_lines, before_first, without_return, is_blank, tokens_at, IsRunAt, IsClean}
+use Rattle.tl_text.proofs.Common.{◌≡◌, ℕ, zero, suc, ◌+◌, ◌-◌, ◌<◌, ◌≤◌, Bool, true, false, eqb, ◌&&◌, List, [], ◌∷◌, length, take, drop, get_or, refl, sym, ap, subst, ◌∙◌, inl, inr, arith, length-drop, get_or-drop, min, list_any, suffix_len, position_or_len, slice_range, fails_before_first, list_any_at, In, choose_one, Token, IsWithin, token_bytes, is_bad, has_slash_end, words, content, before_comment, without_last, ends_in, goes_on, physical_lines, before_first, without_return, is_blank, tokens_at, IsRunAt, IsClean, rules}
 use Rattle.std.proofs.lemmas.List.{get_or-take, length-take}
 use Rattle.std.proofs.lemmas.Bool.{eq-eqb, ne_eqb, cases_Bool, and_from, or_left, or_right}
 use Rattle.tl_text.proofs.TokenLemmas.{tokens_are}
@@ -10,19 +10,13 @@ pub record IsPart (at : ℕ) (part whole : List ℕ) : Type 0 where
   pub each : (i : ℕ) → i < length part → get_or whole (at + i) 0 ≡ get_or part i 0
 
 take_part : (n : ℕ) (xs : List ℕ) → IsPart 0 (take n xs) xs
-take_part n xs = record {
-  short = omega (arith, length-take n xs);
-  each = λ i h. let e : 0 + i ≡ i = omega arith in ap (λ k. get_or xs k 0) e ∙ sym (get_or-take n xs i 0 (omega (arith, length-take n xs)));
-}
+take_part n xs = search (rules, length-take, get_or-take)
 
 part_same : (xs : List ℕ) → IsPart 0 xs xs
 part_same xs = record { short = omega arith; each = λ i h. let e : 0 + i ≡ i = omega arith in ap (λ k. get_or xs k 0) e }
 
 part_twice : (at : ℕ) (a b c : List ℕ) → IsPart 0 a b → IsPart at b c → IsPart at a c
-part_twice at a b c p q = record {
-  short = omega (arith, p.short, q.short);
-  each = λ i h. let e : 0 + i ≡ i = omega arith in q.each i (omega (arith, p.short)) ∙ ap (λ k. get_or b k 0) (sym e) ∙ p.each i h;
-}
+part_twice at a b c p q = search rules
 
 -- the parts of a line stand at its start
 return_part : (rest : List (List ℕ)) (line : List ℕ) → IsPart 0 (without_return rest line) line
@@ -40,13 +34,7 @@ words_part line = part_twice 0 (words line) (before_comment line) line (words_be
 
 -- no `#` stands before the comment
 comment_after : (line : List ℕ) (i : ℕ) → i < length (words line) → get_or (words line) i 0 ≡ 35 → ⊥
-comment_after line i h is =
-    let q : IsPart 0 (words line) line = words_part line in
-    let f : eqb (get_or line i 0) 35 ≡ false =
-    fails_before_first (λ b. eqb b 35) line i 0 (omega (arith, (words_before_comment line).short, length-take (position_or_len (λ b. eqb b 35) line) line)) in
-    let e : 0 + i ≡ i = omega arith in
-    let g : get_or line i 0 ≡ 35 = ap (λ k. get_or line k 0) (sym e) ∙ q.each i h ∙ is in
-    let t : eqb (get_or line i 0) 35 ≡ true = eq-eqb (get_or line i 0) 35 g in cc
+comment_after line i h is = grind (arith, words_part, eqb, fails_before_first, words_before_comment, length-take, eq-eqb)
 
 -- no byte passes a test that none passes
 passes_nowhere : (test : ℕ → Bool) (xs : List ℕ) (i : ℕ) → list_any test xs ≡ false → i < length xs → test (get_or xs i 0) ≡ false
@@ -64,21 +52,15 @@ Stand text at [] = Unit {0}
 Stand text at (line ∷ rest) = IsPart at line text × Stand text (at + length line + 1) rest
 
 part_behind : (b at : ℕ) (part whole : List ℕ) → IsPart at part whole → IsPart (suc at) part (b ∷ whole)
-part_behind b at part whole p = record {
-  short = omega (arith, p.short);
-  each = λ i h. let e : suc at + i ≡ suc (at + i) = omega arith in ap (λ k. get_or (b ∷ whole) k 0) e ∙ p.each i h;
-}
+part_behind b at part whole p = search rules
 
 stand_behind : (b at : ℕ) (text : List ℕ) (lines : List (List ℕ)) → Stand text at lines → Stand (b ∷ text) (suc at) lines
 stand_behind b at text [] h = tt
-stand_behind b at text (line ∷ rest) (p, h) =
-    let e : suc (at + length line + 1) ≡ suc at + length line + 1 = omega arith in
-    (part_behind b at line text p, subst (λ k. Stand (b ∷ text) k rest) e (stand_behind b (at + length line + 1) text rest h))
+stand_behind b at text (line ∷ rest) (p, h) = grind (arith, part_behind, stand_behind b (at + length line + 1) text rest h)
 
 longer_each : (b : ℕ) (part whole : List ℕ) → IsPart 0 part whole → (i : ℕ) → i < length (b ∷ part) → get_or (b ∷ whole) (0 + i) 0 ≡ get_or (b ∷ part) i 0
 longer_each b part whole p zero h = refl
-longer_each b part whole p (suc i) h =
-    let e : 0 + suc i ≡ suc (0 + i) = omega arith in ap (λ k. get_or (b ∷ whole) k 0) e ∙ p.each i (omega arith)
+longer_each b part whole p (suc i) h = grind arith
 
 part_longer : (b : ℕ) (part whole : List ℕ) → IsPart 0 part whole → IsPart 0 (b ∷ part) (b ∷ whole)
 part_longer b part whole p = record { short = omega (arith, p.short); each = longer_each b part whole p }
@@ -86,18 +68,14 @@ part_longer b part whole p = record { short = omega (arith, p.short); each = lon
 stand_longer : (b : ℕ) (text : List ℕ) (lines : List (List ℕ)) → Stand text 0 lines → Stand (b ∷ text) 0 (before_first b lines)
 stand_longer b text [] h = (record { short = omega arith; each = λ i l. let z : i ≡ 0 = omega arith in subst (λ k. get_or (b ∷ text) (0 + k) 0 ≡ get_or (b ∷ []) k 0) (sym z) refl }, tt)
 stand_longer b text (line ∷ rest) (p, h) =
-    let e : suc (0 + length line + 1) ≡ 0 + length (b ∷ line) + 1 = omega arith in
-    (part_longer b line text p, subst (λ k. Stand (b ∷ text) k rest) e (stand_behind b (0 + length line + 1) text rest h))
+    (part_longer b line text p, subst (λ k. Stand (b ∷ text) k rest) (omega arith) (stand_behind b (0 + length line + 1) text rest h))
 
 part_none : (text : List ℕ) → IsPart 0 [] text
 part_none text = record { short = omega arith; each = λ i l. absurd (omega arith) }
 
 pub lines_stand : (text : List ℕ) → Stand text 0 (physical_lines text)
 lines_stand [] = (part_none [], tt)
-lines_stand (b ∷ bs) =
-    choose_one (Stand (b ∷ bs) 0) (eqb b 10) ([] ∷ physical_lines bs) (before_first b (physical_lines bs))
-    (part_none (b ∷ bs), stand_behind b 0 bs (physical_lines bs) (lines_stand bs))
-    (stand_longer b bs (physical_lines bs) (lines_stand bs))
+lines_stand (b ∷ bs) = grind (arith, choose_one, eqb, part_none, stand_behind, stand_longer, lines_stand bs)
 
 -- the bytes of a range of a text
 record IsByteOf (text : List ℕ) (start end byte : ℕ) : Type 0 where
@@ -112,15 +90,7 @@ byte_in (x ∷ xs) b (inl e) = (0, (let l : 0 < length (x ∷ xs) = omega arith 
 byte_in (x ∷ xs) b (inr h) = let (i, l, e) = byte_in xs b h in (suc i, (let m : suc i < length (x ∷ xs) = omega arith in m), e)
 
 range_byte : (text : List ℕ) (start end b : ℕ) → In (slice_range text start end) b → IsByteOf text start end b
-range_byte text start end b h =
-    let p : (i : ℕ) × (i < length (slice_range text start end)) × (b ≡ get_or (slice_range text start end) i 0) = byte_in (slice_range text start end) b h in
-    let l : length (slice_range text start end) ≡ min (end - start) (length (drop start text)) = length-take (end - start) (drop start text) in
-    record {
-      place = start + p.0;
-      from = omega arith;
-      below = omega (arith, p.1);
-      is = p.2 ∙ get_or-take (end - start) (drop start text) p.0 0 (omega (arith, p.1)) ∙ get_or-drop start text p.0 0;
-    }
+range_byte text start end b h = grind (arith, byte_in, length-take, get_or-take, get_or-drop)
 
 -- a token within the text, with clean bytes
 pub record IsGood (text : List ℕ) (token : Token) : Type 0 where
@@ -130,10 +100,7 @@ pub record IsGood (text : List ℕ) (token : Token) : Type 0 where
 module _ (text : List ℕ) (at : ℕ) (line : List ℕ) (part : IsPart at line text) where
   -- a byte of a token, in the words of its line
   byte_of : (i : ℕ) → at ≤ i → i < at + length (words line) → get_or text i 0 ≡ get_or (words line) (i - at) 0
-  byte_of i l h =
-      let p : IsPart at (words line) text = part_twice at (words line) line text (words_part line) part in
-      let e : i ≡ at + (i - at) = omega arith in
-      ap (λ k. get_or text k 0) e ∙ p.each (i - at) (omega arith)
+  byte_of i l h = grind (arith, part_twice, words_part)
 
   module _ (fine : list_any is_bad line ≡ false) (ends : has_slash_end (words line) ≡ false) (token : Token) (r : IsRunAt at (words line) token) where
     fits : at + length (words line) ≤ length text

@@ -1,5 +1,5 @@
 -- What the proofs of this crate cite of other crates, and its own definitions, passed on from one place.
-pub use Rattle.std.proofs.Common.{◌≡◌, ℕ, zero, suc, ◌+◌, ◌-◌, ◌<◌, ◌≤◌, Bool, true, false, eqb, ◌&&◌, List, [], ◌∷◌, length, take, drop, get_or, refl, sym, ap, subst, ◌∙◌, inl, inr, arith, length-drop, get_or-drop, min, length-take, eq-eqb, ◌*◌, cond, Some, None, ltb, Option, ◌++◌, Result, Ok, Err, append_assoc, append-nil, not, ◌||◌, bytes_eq, map, is_some, length-append, find, codes, ◌≢◌, ◌/◌, ◌%◌, ◌^◌, leb, decimal}
+pub use Rattle.std.proofs.Common.{◌≡◌, ℕ, zero, suc, ◌+◌, ◌-◌, ◌<◌, ◌≤◌, Bool, true, false, eqb, ◌&&◌, List, [], ◌∷◌, length, take, drop, get_or, refl, sym, ap, subst, ◌∙◌, inl, inr, arith, length-drop, get_or-drop, min, length-take, eq-eqb, ◌*◌, cond, Some, None, ltb, Option, ◌++◌, Result, Ok, Err, append_assoc, append-nil, not, ◌||◌, bytes_eq, map, is_some, length-append, find, codes, ◌≢◌, ◌/◌, ◌%◌, ◌^◌, leb, decimal, rules}
 pub use Rattle.std.proofs.lemmas.Bool.{ne_eqb, cases_Bool, or_left, or_right, le-ltb, and_right, true≢false, cases_lt, cond-true, cond-false, both_ways, or_parts, or_cases, ltb-true, false≢true, eqb-false, not-true, not-false, or_from}
 pub use Rattle.std.proofs.lemmas.List.{drop_more, length-map}
 pub use Rattle.std.proofs.lemmas.List.Folds.{list_any_at, find_at, list_any-append}

@@ -8,8 +8,4 @@ number_from_least n (b ∷ bs) = let h : 10 * n + (b - 48) ≤ number_from (10 *
 
 -- the number so far with one more digit is too large
 pub decimal_stops : (text : List ℕ) (n i : ℕ) → i < length text → number_from n (drop i text) ≡ number_from 0 text → 18446744073709551616 ≤ 10 * n + (get_or text i 0 - 48) → decimal_of text ≡ None
-decimal_stops text n i within same large =
-    let m : ℕ = 10 * n + (get_or text i 0 - 48) in
-    let e : 18446744073709551616 ≤ number_from 0 text = omega (arith, number_from_least m (drop (i + 1) text), sym same ∙ ap (number_from n) (drop_more text i 0 within)) in
-    cond-false (is_decimal text && ltb (number_from 0 text) 18446744073709551616) (Some (number_from 0 text)) None
-    (and_right (is_decimal text) (ltb (number_from 0 text) 18446744073709551616) (le-ltb (number_from 0 text) 18446744073709551616 e))
+decimal_stops text n i within same large = grind (arith, number_from_least, drop_more, cond-false, ltb, and_right, le-ltb)

@@ -44,9 +44,7 @@ module _ (number place : ℕ) (s : Reading) (rest : List (List ℕ)) (more : Lin
 -- the first physical line is read, and then the others
 pub line_read : (number at : ℕ) (s : Reading) (line : List ℕ) (rest : List (List ℕ))
     → prepended s.done (lines_from number at s.unfinished (line ∷ rest)) ≡ read_on (number + 1) (at + length line + 1) rest (line_result number at (without_return rest line) s)
-line_read number at s line rest =
-    let w : List ℕ = without_return rest line in
-    read_cases number (at + length line + 1) s rest (with_physical number at s.unfinished w) (list_any is_bad w) (has_slash_end (words w)) (goes_on w)
+line_read number at s line rest = grind (arith, read_cases)
 
 module _ (text : List ℕ) (i : ℕ) (within : i < length text) where
   -- the physical lines from a line feed on, and from another byte on
@@ -92,10 +90,7 @@ reads text i number start s = prepended s.done (lines_from number start s.unfini
 
 -- it stays the same over a byte that is no line feed
 pub reads_other : (text : List ℕ) (i number start : ℕ) (s : Reading) → start ≤ i → i < length text → (get_or text i 0 ≡ 10 → ⊥) → reads text i number start s ≡ reads text (i + 1) number start s
-reads_other text i number start s le within other =
-    ap (λ (ls : List (List ℕ)). prepended s.done (lines_from number start s.unfinished ls))
-    (ap (begun (slice_range text start i)) (lines_at_other text i within other) ∙ begun-before_first (slice_range text start i) (get_or text i 0) (physical_lines (drop (i + 1) text))
-    ∙ ap (λ (l : List ℕ). begun l (physical_lines (drop (i + 1) text))) (sym (slice_range_more text start i le within)))
+reads_other text i number start s le within other = grind (arith, prepended, begun, lines_at_other, begun-before_first, slice_range_more)
 
 -- a physical line that a line feed ends gives up a carriage return
 abbrev pub chomped : List ℕ → List ℕ
@@ -117,25 +112,16 @@ reads_feed text i number start s le within feed =
     let rest : List (List ℕ) = physical_lines (drop (i + 1) text) in
     let l : length line ≡ i - start = length-slice_range text start i le (omega arith) in
     let e : start + length line + 1 ≡ i + 1 = omega arith in
-    ap (λ (ls : List (List ℕ)). prepended s.done (lines_from number start s.unfinished ls)) (ap (begun line) (lines_at_feed text i within feed) ∙ ap (λ (l : List ℕ). l ∷ rest) (append-nil line))
-    ∙ line_read number start s line rest
-    ∙ ap (λ p. read_on (number + 1) p rest (line_result number start (without_return rest line) s)) e
-    ∙ ap (λ (l : List ℕ). read_on (number + 1) (i + 1) rest (line_result number start l s)) (return_dropped (drop (i + 1) text) line)
+    grind (arith, prepended, begun, lines_at_feed, append-nil, line_read, read_on, return_dropped)
 
 -- and the next begins
 pub reads_next : (text : List ℕ) (i number : ℕ) (s : Reading) → reads text i number i s ≡ read_on number i (physical_lines (drop i text)) (Ok s)
-reads_next text i number s =
-    ap (λ (l : List ℕ). prepended s.done (lines_from number i s.unfinished (begun l (physical_lines (drop i text))))) (slice_range_none text i)
-    ∙ ap (λ (ls : List (List ℕ)). prepended s.done (lines_from number i s.unfinished ls)) (begun_none (drop i text))
+reads_next text i number s = grind (arith, prepended, begun, slice_range_none, begun_none)
 
 -- at the end of the text the last line is read
 pub reads_end : (text : List ℕ) (i number start : ℕ) (s : Reading) → i ≡ length text
     → reads text i number start s ≡ read_on (number + 1) (start + length (slice_range text start (length text)) + 1) [] (line_result number start (slice_range text start (length text)) s)
-reads_end text i number start s end =
-    let line : List ℕ = slice_range text start (length text) in
-    ap (λ (ls : List (List ℕ)). prepended s.done (lines_from number start s.unfinished ls))
-    (ap (begun (slice_range text start i)) (lines_at_end text i (omega arith)) ∙ ap (λ (b : List ℕ). b ∷ []) (append-nil (slice_range text start i) ∙ ap (slice_range text start) end))
-    ∙ line_read number start s line []
+reads_end text i number start s end = grind (arith, prepended, begun, lines_at_end, append-nil, line_read)
 
 -- a refused line refuses the text
 pub read_refused : (number at : ℕ) (rest : List (List ℕ)) (r : Result Reading TextErr) (lines : Result (List LineValue) TextErr) (e : TextErr)

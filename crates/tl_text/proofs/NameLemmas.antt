@@ -1,5 +1,5 @@
 -- Names seen as plain lists: their places, and one more of them.
-use Rattle.tl_text.proofs.Common.{◌≡◌, ℕ, ◌+◌, Bool, false, not, ◌||◌, cond, inl, inr, bytes_eq, List, [], ◌∷◌, ◌++◌, map, None, refl, sym, subst, ap, Result, Ok, Err, IfOk, OnErr, position, position_or_len, list_any, length-map, cases_Bool, cond-true, cond-false, both_ways, or_parts, In, list_any-position_none, place_of, has_name, with_name, AreOnce}
+use Rattle.tl_text.proofs.Common.{◌≡◌, ℕ, ◌+◌, Bool, false, not, ◌||◌, cond, inl, inr, bytes_eq, List, [], ◌∷◌, ◌++◌, map, None, refl, sym, subst, ap, Result, Ok, Err, IfOk, OnErr, position, position_or_len, list_any, length-map, cases_Bool, cond-true, cond-false, both_ways, or_parts, In, list_any-position_none, place_of, has_name, with_name, AreOnce, rules}
 use Rattle.std.proofs.lemmas.Slice.Eq.{bytes_eq-Decides}
 use Rattle.list_laws.proofs.Apart.{pushed_apart}
 
@@ -22,10 +22,7 @@ not_there (y ∷ ys) name h (inr i) = not_there ys name (or_parts (bytes_eq name
 
 -- the names after one is inserted
 with_one : (names : List (List ℕ)) (name : List ℕ) → AreOnce names → AreOnce (with_name names name)
-with_one names name once = elim (cases_Bool (has_name names name)) [
-  | inl t ↦ subst AreOnce (sym (cond-true (has_name names name) names (names ++ name ∷ []) t)) once
-  | inr f ↦ subst AreOnce (sym (cond-false (has_name names name) names (names ++ name ∷ []) f)) (pushed_apart names name once (not_there names name f))
-]
+with_one names name once = search (rules, cases_Bool, cond-true, cond-false, pushed_apart, not_there)
 
 -- and a new one stands behind the others
 pub with_new : (names : List (List ℕ)) (name : List ℕ) → place_of names name ≡ None → with_name names name ≡ names ++ name ∷ []

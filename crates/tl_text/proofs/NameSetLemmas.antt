@@ -1,5 +1,5 @@
 -- Names as sets: whether a name is among them, its place, and names added one by one.
-use Rattle.tl_text.proofs.Common.{◌≡◌, ℕ, ◌+◌, ◌<◌, ◌≤◌, Bool, true, false, not, ◌||◌, ltb, List, [], ◌∷◌, ◌++◌, length, is_some, Option, Some, None, refl, sym, ap, ◌∙◌, subst, inl, inr, arith, append_assoc, append-nil, length-append, filter, slice_get, bytes_eq, position_or_len, find, cases_Bool, or_cases, or_left, or_right, cond-true, cond-false, ltb-true, false≢true, none-some, same_Some, cond_some, find_at, list_any-append, In, position_none, list_any-position_none, place_of, has_name, with_name, with_names, AreOnce}
+use Rattle.tl_text.proofs.Common.{◌≡◌, ℕ, ◌+◌, ◌<◌, ◌≤◌, Bool, true, false, not, ◌||◌, ltb, List, [], ◌∷◌, ◌++◌, length, is_some, Option, Some, None, refl, sym, ap, ◌∙◌, subst, inl, inr, arith, append_assoc, append-nil, length-append, filter, slice_get, bytes_eq, position_or_len, find, cases_Bool, or_cases, or_left, or_right, cond-true, cond-false, ltb-true, false≢true, none-some, same_Some, cond_some, find_at, list_any-append, In, position_none, list_any-position_none, place_of, has_name, with_name, with_names, AreOnce, rules}
 use lib.Pointwise.{bytes_decides}
 use Rattle.std.proofs.Math.Bool.{or-false, or_assoc}
 use Rattle.list_laws.proofs.Places.{at_within}
@@ -35,17 +35,13 @@ found_is name (n ∷ ns) x e = elim (cases_Bool (bytes_eq name n)) [
 ]
 
 pub name_place_within : (names : List (List ℕ)) (name : List ℕ) (p : ℕ) → place_of names name ≡ Some p → p < length names
-name_place_within names name p e =
-    let at = cond_some (ltb (position_or_len (bytes_eq name) names) (length names)) (position_or_len (bytes_eq name) names) p e in
-    let h : position_or_len (bytes_eq name) names < length names = ltb-true (position_or_len (bytes_eq name) names) (length names) at.0 in
-    subst (λ q. q < length names) at.1 h
+name_place_within names name p e = grind arith
 
 pub place_is : (names : List (List ℕ)) (name : List ℕ) (p : ℕ) → place_of names name ≡ Some p → slice_get names p ≡ Some name
 place_is names name p e =
     let at = cond_some (ltb (position_or_len (bytes_eq name) names) (length names)) (position_or_len (bytes_eq name) names) p e in
     let x = at_within names p (name_place_within names name p e) in
-    let found : find (bytes_eq name) names ≡ Some x.0 = find_at (bytes_eq name) names ∙ ap (slice_get names) at.1 ∙ x.1 in
-    x.1 ∙ ap Some (sym (found_is name names x.0 found))
+    x.1 ∙ ap Some (sym (found_is name names x.0 (find_at (bytes_eq name) names ∙ ap (slice_get names) at.1 ∙ x.1)))
 
 -- two names that differ
 pub no_match : (a b : List ℕ) → (a ≡ b → ⊥) → bytes_eq a b ≡ false
@@ -62,12 +58,7 @@ has_one_more names n x = list_any-append (bytes_eq x) names (n ∷ [])
 -- names of which none stands twice, behind others
 once_names : (old index names : List (List ℕ)) → AreOnce names → ((x : List ℕ) → In names x → has_name index x ≡ has_name old x) → with_names index names ≡ index ++ filter (λ x. not (has_name old x)) names
 once_names old index [] once same = sym (append-nil index)
-once_names old index (n ∷ ns) once same = elim (cases_Bool (has_name old n)) [
-  | inl t ↦ ap (λ i. with_names i ns) (cond-true (has_name index n) index (index ++ n ∷ []) (same n (inl refl) ∙ t)) ∙ rw t (once_names old index ns once.1 (λ x i. same x (inr i)))
-  | inr f ↦ ap (λ i. with_names i ns) (cond-false (has_name index n) index (index ++ n ∷ []) (same n (inl refl) ∙ f))
-      ∙ once_names old (index ++ n ∷ []) ns once.1 (λ x i. has_one_more index n x ∙ or_nothing (has_name index x) (bytes_eq x n) (no_match x n (λ e. once.0 (subst (In ns) e i))) ∙ same x (inr i))
-      ∙ append_assoc index (n ∷ []) (filter (λ x. not (has_name old x)) ns) ∙ rw f refl
-]
+once_names old index (n ∷ ns) once same = search (rules, cases_Bool, cond-true, cond-false, has_one_more, or_nothing, bytes_eq, no_match, append_assoc, once_names old index ns once.1 (λ x i. same x (inr i)), once_names old (index ++ n ∷ []) ns once.1 (λ x i. has_one_more index n x ∙ or_nothing (has_name index x) (bytes_eq x n) (no_match x n (λ e. once.0 (subst (In ns) e i))) ∙ same x (inr i)))
 
 keeps_all : (names : List (List ℕ)) → filter (λ x. not (has_name [] x)) names ≡ names
 keeps_all [] = refl
@@ -85,10 +76,7 @@ or_same false true h = h refl
 or_same a b h = refl
 
 has_with_name : (names : List (List ℕ)) (n x : List ℕ) → has_name (with_name names n) x ≡ (has_name names x || bytes_eq x n)
-has_with_name names n x = elim (cases_Bool (has_name names n)) [
-  | inl t ↦ ap (λ ms. has_name ms x) (cond-true (has_name names n) names (names ++ n ∷ []) t) ∙ or_same (has_name names x) (bytes_eq x n) (λ e. ap (has_name names) ((bytes_decides x n).0 e) ∙ t)
-  | inr f ↦ ap (λ ms. has_name ms x) (cond-false (has_name names n) names (names ++ n ∷ []) f) ∙ has_one_more names n x ∙ ap (λ b. has_name names x || b) (or-false (bytes_eq x n))
-]
+has_with_name names n x = search (rules, cases_Bool, cond-true, or_same, bytes_eq, bytes_decides, cond-false, has_one_more, or-false)
 
 pub has_with_names : (names more : List (List ℕ)) (x : List ℕ) → has_name (with_names names more) x ≡ (has_name names x || has_name more x)
 has_with_names names [] x = sym (or-false (has_name names x))
@@ -101,12 +89,8 @@ with_names-append names (name ∷ some) more = with_names-append (with_name name
 
 -- and are no more than those that were added
 with_name-length : (names : List (List ℕ)) (name : List ℕ) → length (with_name names name) ≤ length names + 1
-with_name-length names name = elim (cases_Bool (has_name names name)) [
-  | inl t ↦ rw t (let z : length names ≤ length names + 1 = omega arith in z)
-  | inr f ↦ rw f (let e : length (names ++ name ∷ []) ≡ length names + 1 = length-append names (name ∷ []) in let z : length (names ++ name ∷ []) ≤ length names + 1 = omega arith in z)
-]
+with_name-length names name = search (rules, cases_Bool, length-append)
 
 pub with_names-length : (names more : List (List ℕ)) → length (with_names names more) ≤ length names + length more
 with_names-length names [] = omega arith
-with_names-length names (name ∷ more) =
-    omega (arith, with_name-length names name, with_names-length (with_name names name) more)
+with_names-length names (name ∷ more) = grind (arith, with_name-length, with_names-length (with_name names name) more)

@@ -26,8 +26,7 @@ module _ (text : List ℕ) where
   first_in line lines good others some other (inr i) = others other i
 
   counted_in : (line : LineValue) (lines : List LineValue) → AllGood line.tokens → AllFine lines → AllFine (counted line lines)
-  counted_in line lines good others =
-      choose AllFine (eqb (length line.tokens) 0) lines (line ∷ lines) (λ _. others) (λ some. let n : length line.tokens ≡ 0 → ⊥ = eqb-false (length line.tokens) 0 some in first_in line lines good others (omega arith))
+  counted_in line lines good others = grind arith
 
   put_before_in : (line : LineValue) (r : Result (List LineValue) TextErr) → AllGood line.tokens → IfOk r AllFine → IfOk (put_before line r) AllFine
   put_before_in line (Ok lines) good others = counted_in line lines good others
@@ -41,13 +40,12 @@ module _ (text : List ℕ) where
   lines_fine number at unfinished [] good stand = closed_in unfinished good
   lines_fine number at unfinished (line ∷ rest) good (part, stand) =
       let w : List ℕ = without_return rest line in
-      let place : ℕ = at + length line + 1 in
       let more : LineValue = with_physical number at unfinished w in
       let P = λ (r : Result (List LineValue) TextErr). IfOk r AllFine in
       choose P (list_any is_bad w) _ _ (λ _. tt) (λ fine. choose P (has_slash_end (words w)) _ _ (λ _. tt) (λ ends.
       let inside : AllGood more.tokens = extended_good number unfinished (tokens_at at (words w)) good (tokens_good text at rest line part fine ends) in
-      choose_one P (goes_on w) (lines_from (number + 1) place (Some more) rest) (put_before more (lines_from (number + 1) place None rest))
-      (lines_fine (number + 1) place (Some more) rest inside stand) (put_before_in more (lines_from (number + 1) place None rest) inside (lines_fine (number + 1) place None rest tt stand))))
+      choose_one P (goes_on w) (lines_from (number + 1) _ (Some more) rest) (put_before more (lines_from (number + 1) _ None rest))
+      (lines_fine (number + 1) _ (Some more) rest inside stand) (put_before_in more (lines_from (number + 1) _ None rest) inside (lines_fine (number + 1) _ None rest tt stand))))
 
   -- the lines that the text has
   has_fine : (lines : List LineValue) → lines_of text ≡ Ok lines → AllFine lines

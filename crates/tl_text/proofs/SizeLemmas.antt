@@ -1,5 +1,5 @@
 -- The words of a text's lines are no more than its bytes.
-use Rattle.tl_text.proofs.Common.{◌≡◌, ℕ, ◌+◌, ◌-◌, ◌≤◌, ◌<◌, cond, eqb, List, [], ◌∷◌, ◌++◌, length, map, take, Option, Some, None, Result, Ok, Err, refl, subst, arith, list_any, position_or_len, suffix_len, choose_one, Token, TextErr, BadByte, TrailingSlash, LineValue, token_bytes, words_line, before_first, physical_lines, is_bad, ends_in, without_last, without_return, before_comment, content, goes_on, words, has_slash_end, extended, with_physical, counted, put_before, closed, lines_from, lines_of, is_blank, tokens_at, spans}
+use Rattle.tl_text.proofs.Common.{◌≡◌, ℕ, ◌+◌, ◌-◌, ◌≤◌, ◌<◌, cond, eqb, List, [], ◌∷◌, ◌++◌, length, map, take, Option, Some, None, Result, Ok, Err, refl, subst, arith, list_any, position_or_len, suffix_len, choose_one, Token, TextErr, BadByte, TrailingSlash, LineValue, token_bytes, words_line, before_first, physical_lines, is_bad, ends_in, without_last, without_return, before_comment, content, goes_on, words, has_slash_end, extended, with_physical, counted, put_before, closed, lines_from, lines_of, is_blank, tokens_at, spans, rules}
 use Rattle.std.proofs.lemmas.List.{length-take}
 use Rattle.tl_text.proofs.SpanLemmas.{spans_tokens}
 
@@ -44,14 +44,7 @@ record AreShort (bs : List ℕ) : Type 0 where
 
 spans_short : (bs : List ℕ) → AreShort bs
 spans_short [] = record { outside = λ at. omega arith; inside = λ at start h. omega arith }
-spans_short (b ∷ bs) = record {
-  outside = λ at.
-      choose_one (λ ts. tokens_size ts ≤ length (b ∷ bs) + 1) (is_blank b) (spans (at + 1) None bs) (spans (at + 1) (Some at) bs)
-      (omega (arith, (spans_short bs).outside (at + 1))) (omega (arith, (spans_short bs).inside (at + 1) at (omega arith)));
-  inside = λ at start h.
-      choose_one (λ ts. tokens_size ts ≤ (at - start) + length (b ∷ bs) + 1) (is_blank b) (record { start = start; end = at } ∷ spans (at + 1) None bs) (spans (at + 1) (Some start) bs)
-      (omega (arith, (spans_short bs).outside (at + 1))) (omega (arith, (spans_short bs).inside (at + 1) start (omega arith)));
-}
+spans_short (b ∷ bs) = search (rules, choose_one, tokens_size, spans_short bs)
 
 tokens_short : (at : ℕ) (bs : List ℕ) → tokens_size (tokens_at at bs) ≤ length bs + 1
 tokens_short at bs = subst (λ ts. tokens_size ts ≤ length bs + 1) (spans_tokens at bs) ((spans_short bs).outside at)
@@ -65,14 +58,10 @@ return_short [] line = omega arith
 return_short (next ∷ rest) line = choose_one (λ xs. length xs ≤ length line) (ends_in 13 line) (without_last line) line (take_short (length line - 1) line) (omega arith)
 
 content_short : (line : List ℕ) → length (content line) ≤ length line
-content_short line =
-    let b : length (before_comment line) ≤ length line = take_short (position_or_len (λ x. eqb x 35) line) line in
-    let t : length (content line) ≤ length (before_comment line) = take_short (length (before_comment line) - suffix_len is_blank (before_comment line)) (before_comment line) in omega arith
+content_short line = grind (arith, take_short, eqb)
 
 words_short : (line : List ℕ) → length (words line) ≤ length line
-words_short line =
-    choose_one (λ xs. length xs ≤ length line) (goes_on line) (without_last (content line)) (content line)
-    (omega (arith, content_short line, take_short (length (content line) - 1) (content line))) (content_short line)
+words_short line = grind (arith, choose_one, content_short, take_short)
 
 -- a line that goes on, and what follows
 abbrev unfinished_size : Option LineValue → ℕ
@@ -84,9 +73,7 @@ extended_size number None tokens = omega arith
 extended_size number (Some line) tokens = tokens-append line.tokens tokens
 
 physical_size : (number at : ℕ) (unfinished : Option LineValue) (rest : List (List ℕ)) (line : List ℕ) → tokens_size (with_physical number at unfinished (without_return rest line)).tokens ≤ unfinished_size unfinished + (length line + 1)
-physical_size number at unfinished rest line =
-    let kept : List ℕ = without_return rest line in
-    omega (arith, extended_size number unfinished (tokens_at at (words kept)), tokens_short at (words kept), words_short kept, return_short rest line)
+physical_size number at unfinished rest line = grind (arith, extended_size, tokens_short, words_short, return_short)
 
 counted_size : (line : LineValue) (lines : List LineValue) → places_size (counted line lines) ≤ tokens_size line.tokens + places_size lines
 counted_size line lines = choose_one (λ ls. places_size ls ≤ tokens_size line.tokens + places_size lines) (eqb (length line.tokens) 0) lines (line ∷ lines) (omega arith) (omega arith)
@@ -109,30 +96,15 @@ within_err most e = record { each = λ lines h. absurd (let f : ⊥ = cc in f) }
 
 within_put : (most here later : ℕ) (line : LineValue) (result : Result (List LineValue) TextErr) → tokens_size line.tokens ≤ here → here + later ≤ most → AreWithin later result → AreWithin most (put_before line result)
 within_put most here later line (Err e) h m w = within_err most e
-within_put most here later line (Ok lines) h m w = record {
-  each = λ ls e.
-      let same : counted line lines ≡ ls = cc in
-      subst (λ xs. places_size xs ≤ most) same (omega (arith, w.each lines refl, counted_size line lines));
-}
+within_put most here later line (Ok lines) h m w = search (rules, places_size, counted_size)
 
 lines_within : (number at : ℕ) (unfinished : Option LineValue) (ps : List (List ℕ)) (most : ℕ) → unfinished_size unfinished + bytes_size ps ≤ most → AreWithin most (lines_from number at unfinished ps)
-lines_within number at unfinished [] most h = record {
-  each = λ lines e.
-      let same : closed unfinished ≡ lines = cc in
-      subst (λ xs. places_size xs ≤ most) same (omega (arith, closed_size unfinished));
-}
+lines_within number at unfinished [] most h = search (rules, places_size, closed_size)
 lines_within number at unfinished (line ∷ rest) most h =
     let kept : List ℕ = without_return rest line in
     let made : LineValue = with_physical number at unfinished kept in
     let size : tokens_size made.tokens ≤ unfinished_size unfinished + (length line + 1) = physical_size number at unfinished rest line in
-    let on : Result (List LineValue) TextErr = lines_from (number + 1) (at + length line + 1) (Some made) rest in
-    let after : Result (List LineValue) TextErr = put_before made (lines_from (number + 1) (at + length line + 1) None rest) in
-    choose_one (AreWithin most) (list_any is_bad kept) (Err (BadByte number)) (cond (has_slash_end (words kept)) (Err (TrailingSlash number)) (cond (goes_on kept) on after)) (within_err most (BadByte number))
-    (choose_one (AreWithin most) (has_slash_end (words kept)) (Err (TrailingSlash number)) (cond (goes_on kept) on after) (within_err most (TrailingSlash number))
-    (choose_one (AreWithin most) (goes_on kept) on after
-    (lines_within (number + 1) (at + length line + 1) (Some made) rest most (omega arith))
-    (within_put most (unfinished_size unfinished + (length line + 1)) (bytes_size rest) made (lines_from (number + 1) (at + length line + 1) None rest) size (omega arith)
-    (lines_within (number + 1) (at + length line + 1) None rest (bytes_size rest) (omega arith)))))
+    grind (arith, choose_one, cond, within_err, within_put, unfinished_size, bytes_size, lines_within (number + 1) (at + length line + 1) (Some made) rest most (omega arith), lines_within (number + 1) (at + length line + 1) None rest (bytes_size rest) (omega arith))
 
 -- physical lines have all bytes, and an end each
 before_first_size : (b : ℕ) (ps : List (List ℕ)) → 0 < bytes_size ps → bytes_size (before_first b ps) ≡ bytes_size ps + 1
@@ -141,10 +113,7 @@ before_first_size b (p ∷ ps) h = omega arith
 
 physical_lines_size : (text : List ℕ) → bytes_size (physical_lines text) ≡ length text + 1
 physical_lines_size [] = omega arith
-physical_lines_size (b ∷ bs) =
-    let r : bytes_size (physical_lines bs) ≡ length bs + 1 = physical_lines_size bs in
-    let f : bytes_size (before_first b (physical_lines bs)) ≡ bytes_size (physical_lines bs) + 1 = before_first_size b (physical_lines bs) (omega arith) in
-    choose_one (λ ps. bytes_size ps ≡ length (b ∷ bs) + 1) (eqb b 10) ([] ∷ physical_lines bs) (before_first b (physical_lines bs)) (omega arith) (omega arith)
+physical_lines_size (b ∷ bs) = grind (arith, bytes_size, before_first_size, choose_one, eqb, physical_lines_size bs)
 
 -- the words of the lines of a text are at most its bytes and one
 pub lines_small : (text : List ℕ) (lines : List LineValue) → lines_of text ≡ Ok lines → lines_size text lines ≤ length text + 1

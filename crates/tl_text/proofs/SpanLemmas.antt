@@ -1,5 +1,5 @@
 -- The scan for tokens finds the tokens.
-use Rattle.tl_text.proofs.Common.{◌≡◌, ℕ, ◌+◌, Bool, true, false, cond, not, List, [], ◌∷◌, Some, None, refl, sym, ap, ◌∙◌, Token, is_blank, begins_run, lengthened, tokens_at, spans}
+use Rattle.tl_text.proofs.Common.{◌≡◌, ℕ, ◌+◌, Bool, true, false, cond, not, List, [], ◌∷◌, Some, None, refl, sym, ap, ◌∙◌, Token, is_blank, begins_run, lengthened, tokens_at, spans, rules}
 
 -- an unfinished token before bytes
 abbrev joined : ℕ → ℕ → Bool → List Token → List Token
@@ -29,10 +29,7 @@ more_scanned at start b bs h false = h.inside (at + 1) start ∙ sym (lengthened
 
 scans : (bytes : List ℕ) → Scans bytes
 scans [] = record { outside = λ at. refl; inside = λ at start. refl }
-scans (b ∷ bs) = record {
-  outside = λ at. first_scanned at b bs (scans bs) (is_blank b);
-  inside = λ at start. more_scanned at start b bs (scans bs) (is_blank b);
-}
+scans (b ∷ bs) = search (rules, first_scanned, more_scanned, scans bs)
 
 pub spans_tokens : (at : ℕ) (bytes : List ℕ) → spans at None bytes ≡ tokens_at at bytes
 spans_tokens at bytes = (scans bytes).outside at

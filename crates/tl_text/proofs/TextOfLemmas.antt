@@ -1,5 +1,5 @@
 -- A text has one meaning at most, or one refusal at most, and never both, where lines have.
-use Rattle.tl_text.proofs.Common.{◌≡◌, ℕ, List, map, Option, None, Result, Ok, Err, IfOk, refl, sym, subst, Unless, OrMemory, LineValue, WordsLine, words_line, lines_of, refusal_of, TextErr, Memory}
+use Rattle.tl_text.proofs.Common.{◌≡◌, ℕ, List, map, Option, None, Result, Ok, Err, IfOk, refl, sym, subst, Unless, OrMemory, LineValue, WordsLine, words_line, lines_of, refusal_of, TextErr, Memory, arith}
 use Rattle.std.specs.Prelude.{IfErr}
 use Rattle.std.proofs.lemmas.Result.{IfOk-weaker, IfErr-weaker}
 use Rattle.tl_fault.specs.RefusalValue.{RefusalValue}
@@ -27,21 +27,13 @@ module _ {V E : Type 0} (own : TextErr → E) (Is : List WordsLine → V → Typ
   fault_behind e (at_line lines a b) = here lines a b
 
   pub text_settled : ((lines : List WordsLine) → IsSettled (Is lines) (IsFault lines)) → IsSettled (IsTextOf Is text) (IsTextFault own IsFault text)
-  text_settled settled =
-      let s = after_settled HasLines (λ error. lines_of text ≡ Err error) own LinesAre AreRefused (result_settled (lines_of text)) (λ lines _. settled (map (words_line text) lines)) in
-      record {
-        one_value = λ v w a b. s.one_value v w (behind v a) (behind w b);
-        one_fault = λ e f a b. s.one_fault e f (fault_behind e a) (fault_behind f b);
-        not_both = λ v e a b. s.not_both v e (behind v a) (fault_behind e b);
-      }
+  text_settled settled = grind arith
 
 -- the error of a reader that stands for a refusal of the lines
 pub lines_fault : {E : Type 0} (own : TextErr → E) (told : E → Option RefusalValue) (IsFault : List WordsLine → E → Type 0) (text : List ℕ) (error : TextErr) (e : E) → e ≡ own error → told (own Memory) ≡ None
     → OrMemory refusal_of (λ x. lines_of text ≡ Err x) error → OrMemory told (IsTextFault own IsFault text) e
 lines_fault own told IsFault text Memory e is none said = subst (OrMemory told (IsTextFault own IsFault text)) (sym is) (subst (λ o. Unless o (IsTextFault own IsFault text (own Memory))) (sym none) tt)
-lines_fault own told IsFault text error e is none said =
-    subst (OrMemory told (IsTextFault own IsFault text)) (sym is)
-    (Unless-of {P = IsTextFault own IsFault text (own error)} (told (own error)) (by_lines (record { error = error; lines_are = said; is = refl })))
+lines_fault own told IsFault text error e is none said = grind arith
 
 -- what a reader makes of the lines of a text is what it makes of the text
 module _ {E T : Type 0} (text : List ℕ) (lines : List LineValue) (are : lines_of text ≡ Ok lines) (r : Result T E) where

@@ -1,5 +1,5 @@
 -- The tokens of bytes are exactly their runs.
-use Rattle.tl_text.proofs.Common.{◌≡◌, ℕ, zero, suc, ◌+◌, ◌<◌, ◌≤◌, Bool, true, false, List, [], ◌∷◌, length, map, get_or, refl, sym, ap, subst, ◌∙◌, inl, inr, arith, not-true, not-false, In, In-map, choose, Token, is_blank, IsRun, begins_run, lengthened, tokens_at, IsRunAt, AreRuns}
+use Rattle.tl_text.proofs.Common.{◌≡◌, ℕ, zero, suc, ◌+◌, ◌<◌, ◌≤◌, Bool, true, false, List, [], ◌∷◌, length, map, get_or, refl, sym, ap, subst, ◌∙◌, inl, inr, arith, not-true, not-false, In, In-map, choose, Token, is_blank, IsRun, begins_run, lengthened, tokens_at, IsRunAt, AreRuns, rules}
 
 abbrev token_of : ℕ → ℕ → Token
 token_of start end = record { start = start; end = end }
@@ -20,13 +20,7 @@ behind_before b bs first past blank r (suc i) e = r.before i (omega arith)
 
 -- a run behind one more byte
 behind_byte : (b : ℕ) (bs : List ℕ) (first past : ℕ) → (first ≡ 0 → is_blank b ≡ true) → IsRun bs first past → IsRun (b ∷ bs) (suc first) (suc past)
-behind_byte b bs first past blank r = record {
-  some = omega arith;
-  within = omega arith;
-  inside = behind_inside b bs first past r;
-  before = behind_before b bs first past blank r;
-  behind = λ l. r.behind (omega arith);
-}
+behind_byte b bs first past blank r = search (rules, behind_inside, behind_before)
 
 -- and without it
 without_byte : (b : ℕ) (bs : List ℕ) (first past : ℕ) → IsRun (b ∷ bs) (suc first) (suc past) → IsRun bs first past
@@ -44,14 +38,7 @@ lengthened_inside b bs past dark r zero l m = dark
 lengthened_inside b bs past dark r (suc i) l m = r.inside i (omega arith) (omega arith)
 
 lengthen_run : (b : ℕ) (bs : List ℕ) (first past : ℕ) → is_blank b ≡ false → first ≡ 0 → IsRun bs first past → IsRun (b ∷ bs) 0 (suc past)
-lengthen_run b bs first past dark e given =
-    let r : IsRun bs 0 past = subst (λ n. IsRun bs n past) e given in record {
-      some = omega arith;
-      within = omega arith;
-      inside = lengthened_inside b bs past dark r;
-      before = λ i h. absurd (omega arith);
-      behind = λ l. r.behind (omega arith);
-    }
+lengthen_run b bs first past dark e given = grind arith
 
 begins : (bs : List ℕ) → begins_run bs ≡ true → is_blank (get_or bs 0 0) ≡ false
 begins [] h = absurd (let e : ⊥ = cc in e)
@@ -66,9 +53,7 @@ stops [] h l = absurd (omega arith)
 stops (b ∷ bs) h l = not-false (is_blank b) h
 
 no_first_run : {A : Type 0} (bs : List ℕ) (first past : ℕ) → begins_run bs ≡ false → IsRun bs first past → first ≡ 0 → A
-no_first_run bs first past ends given e =
-    let r : IsRun bs 0 past = subst (λ n. IsRun bs n past) e given in
-    true_false (is_blank (get_or bs 0 0)) (stops bs ends (omega arith)) (r.inside 0 (omega arith) (omega arith))
+no_first_run bs first past ends given e = grind arith
 
 shorten_run : (b : ℕ) (bs : List ℕ) (past : ℕ) → begins_run bs ≡ true → IsRun (b ∷ bs) 0 (suc past) → IsRun bs 0 past
 shorten_run b bs zero runs r = let s : 0 < length bs = begins_some bs runs in true_false (is_blank (get_or bs 0 0)) (r.behind (omega arith)) (begins bs runs)
@@ -112,23 +97,11 @@ module _ (at b : ℕ) (bs : List ℕ) where
 
   -- a byte that is a run alone
   one_run : is_blank b ≡ false → begins_run bs ≡ false → IsRun (b ∷ bs) 0 1
-  one_run dark ends = record {
-    some = omega arith;
-    within = omega arith;
-    inside = λ i l m. let z : i ≡ 0 = omega arith in subst (λ k. is_blank (get_or (b ∷ bs) k 0) ≡ false) (sym z) dark;
-    before = λ i e. absurd (omega arith);
-    behind = λ l. stops bs ends (omega arith);
-  }
+  one_run dark ends = search (rules, stops)
 
   only_one : (tokens : List Token) → is_blank b ≡ false → begins_run bs ≡ false → AreRuns (at + 1) bs tokens
       → (token : Token) → In (token_of at (at + 1) ∷ tokens) token → IsRunAt at (b ∷ bs) token
-  only_one tokens dark ends h token (inl e) = record {
-    first = 0;
-    past = 1;
-    run = one_run dark ends;
-    start = ap (λ t. t.start) e ∙ omega arith;
-    end = ap (λ t. t.end) e;
-  }
+  only_one tokens dark ends h token (inl e) = search (rules, one_run)
   only_one tokens dark ends h token (inr i) =
       let r : IsRunAt (at + 1) bs token = h.only token i in further token r (no_first_run bs r.first r.past ends r.run)
 
@@ -162,13 +135,10 @@ module _ (at b : ℕ) (bs : List ℕ) where
         end = ap (λ t. t.end) e ∙ omega (arith, r.end);
       }
   only_longer t ts here dark h token (inr i) =
-      let r : IsRunAt (at + 1) bs token = h.only token (inr i) in
-      further token r (λ z. absurd (omega (arith, h.ascending.0 token.start (In-map (λ t. t.start) ts token i), r.start)))
+      further token (h.only token (inr i)) (λ z. absurd (omega (arith, h.ascending.0 token.start (In-map (λ t. t.start) ts token i), (h.only token (inr i)).start)))
 
   first_longer : (t : Token) (ts : List Token) (past : ℕ) → t.start ≡ at + 1 → AreRuns (at + 1) bs (t ∷ ts) → In (t ∷ ts) (token_of (at + 1 + 0) (at + 1 + past)) → In (token_of at t.end ∷ ts) (token_of (at + 0) (at + suc past))
-  first_longer t ts past here h (inl e) =
-      let f : at + 1 + past ≡ t.end = ap (λ t. t.end) e in
-      inl (ap (λ n. token_of n (at + suc past)) (omega arith) ∙ ap (λ n. token_of at n) (omega arith))
+  first_longer t ts past here h (inl e) = grind arith
   first_longer t ts past here h (inr i) = absurd (omega (arith, h.ascending.0 (at + 1 + 0) (In-map (λ t. t.start) ts _ i)))
 
   later_longer : (t : Token) (ts : List Token) (first past : ℕ) → t.start ≡ at + 1 → In (t ∷ ts) (token_of (at + 1 + suc first) (at + 1 + past)) → In (token_of at t.end ∷ ts) (token_of (at + suc (suc first)) (at + suc past))
@@ -206,11 +176,7 @@ begins_token at (b ∷ bs) h =
 
 -- The tokens of bytes are exactly the runs.
 pub tokens_are : (at : ℕ) (bytes : List ℕ) → AreRuns at bytes (tokens_at at bytes)
-tokens_are at [] = record {
-  only = λ token i. absurd i;
-  all = λ first past r. absurd (omega (arith, r.some, r.within));
-  ascending = tt;
-}
+tokens_are at [] = search rules
 tokens_are at (b ∷ bs) =
     let h : AreRuns (at + 1) bs (tokens_at (at + 1) bs) = tokens_are (at + 1) bs in
     choose (AreRuns at (b ∷ bs)) (is_blank b) _ _ (λ blank. behind_blank at b bs (tokens_at (at + 1) bs) blank h)

@@ -36,14 +36,8 @@ first_byte at b bs h = ap (λ (t : Bool). cond t (tokens_at (at + 1) bs) (joined
 
 one_word : (at b : ℕ) (w rest : List ℕ) → ((c : ℕ) → In (b ∷ w) c → is_blank c ≡ false) → begins_run rest ≡ false
     → tokens_at at ((b ∷ w) ++ rest) ≡ record { start = at; end = at + length (b ∷ w) } ∷ tokens_at (at + length (b ∷ w)) rest
-one_word at b [] rest h r =
-    first_byte at b rest (h b (inl refl)) ∙ ap (λ (t : Bool). joined at (at + 1) t (tokens_at (at + 1) rest)) r
-one_word at b (c ∷ w) rest h r =
-    let e : at + 1 + length (c ∷ w) ≡ at + length (b ∷ c ∷ w) = omega arith in
-    first_byte at b ((c ∷ w) ++ rest) (h b (inl refl))
-    ∙ ap (λ (t : Bool). joined at (at + 1) (not t) (tokens_at (at + 1) ((c ∷ w) ++ rest))) (h c (inr (inl refl)))
-    ∙ ap (lengthened at) (one_word (at + 1) c w rest (λ d i. h d (inr i)) r)
-    ∙ ap (λ (k : ℕ). record { start = at; end = k } ∷ tokens_at k rest) e
+one_word at b [] rest h r = grind arith
+one_word at b (c ∷ w) rest h r = grind (arith, first_byte, joined, one_word (at + 1) c w rest (λ d i. h d (inr i)) r)
 
 line_tokens : (at : ℕ) (w : List ℕ) (ws : List (List ℕ)) → IsCleanLine (w ∷ ws) → tokens_at at (w ++ words_text ws) ≡ tokens_of at (w ∷ ws)
 line_tokens at [] ws h = absurd (let s : 0 < length {A = ℕ} [] = (h [] (inl refl)).bytes.some in omega (arith, s))
@@ -56,21 +50,16 @@ line_tokens at (b ∷ w) (v ∷ vs) h =
 -- the bytes of the tokens
 range_there : (pre w post : List ℕ) → slice_range (pre ++ (w ++ post)) (length pre) (length pre + length w) ≡ w
 range_there pre w post =
-    let e : length pre + length w - length pre ≡ length w = omega arith in
-    ap (take (length pre + length w - length pre)) (drop-append_seam pre (w ++ post)) ∙ ap (λ (k : ℕ). take k (w ++ post)) e ∙ take-append_seam w post
+    ap (take (length pre + length w - length pre)) (drop-append_seam pre (w ++ post)) ∙ ap (λ (k : ℕ). take k (w ++ post)) (omega arith) ∙ take-append_seam w post
 
 words_there : (text pre post : List ℕ) (at : ℕ) (w : List ℕ) (ws : List (List ℕ)) → text ≡ pre ++ ((w ++ words_text ws) ++ post) → at ≡ length pre
     → map (token_bytes text) (tokens_of at (w ∷ ws)) ≡ w ∷ ws
-words_there text pre post at w [] is start =
-    let here : text ≡ pre ++ (w ++ post) = is ∙ ap (λ (t : List ℕ). pre ++ (t ++ post)) (append-nil w) in
-    ap (λ (t : List ℕ). t ∷ []) (ap (λ (t : List ℕ). slice_range t at (at + length w)) here ∙ ap (λ (k : ℕ). slice_range (pre ++ (w ++ post)) k (k + length w)) start ∙ range_there pre w post)
+words_there text pre post at w [] is start = grind (arith, append-nil, range_there)
 words_there text pre post at w (v ∷ vs) is start =
     let rest : List ℕ = (v ++ words_text vs) ++ post in
     let here : text ≡ pre ++ (w ++ (32 ∷ rest)) = is ∙ ap (λ (t : List ℕ). pre ++ t) (append_assoc w (32 ∷ (v ++ words_text vs)) post) in
-    let first : slice_range text at (at + length w) ≡ w =
-    ap (λ (t : List ℕ). slice_range t at (at + length w)) here ∙ ap (λ (k : ℕ). slice_range (pre ++ (w ++ (32 ∷ rest))) k (k + length w)) start ∙ range_there pre w (32 ∷ rest) in
-    let longer : text ≡ (pre ++ (w ++ 32 ∷ [])) ++ rest =
-    here ∙ ap (λ (t : List ℕ). pre ++ t) (sym (append_assoc w (32 ∷ []) rest)) ∙ sym (append_assoc pre (w ++ 32 ∷ []) rest) in
+    let first : slice_range text at (at + length w) ≡ w = grind (arith, range_there) in
+    let longer = here ∙ ap (λ (t : List ℕ). pre ++ t) (sym (append_assoc w (32 ∷ []) rest)) ∙ sym (append_assoc pre (w ++ 32 ∷ []) rest) in
     let past : at + length w + 1 ≡ length (pre ++ (w ++ 32 ∷ [])) = omega (arith, start, length-append pre (w ++ 32 ∷ []), length-append w (32 ∷ [])) in
     let others : map (token_bytes text) (tokens_of (at + length w + 1) (v ∷ vs)) ≡ v ∷ vs = words_there text (pre ++ (w ++ 32 ∷ [])) post (at + length w + 1) v vs longer past in
     ap (λ (t : List ℕ). t ∷ map (token_bytes text) (tokens_of (at + length w + 1) (v ∷ vs))) first ∙ ap (λ (t : List (List ℕ)). w ∷ t) others
@@ -81,9 +70,7 @@ IsFree test bytes = list_any test bytes ≡ false
 
 one_physical : (body more : List ℕ) → IsFree (λ b. eqb b 10) body → physical_lines (body ++ 10 ∷ more) ≡ body ∷ physical_lines more
 one_physical [] more h = refl
-one_physical (b ∷ bs) more h =
-    ap (λ (t : Bool). cond t ([] ∷ physical_lines (bs ++ 10 ∷ more)) (before_first b (physical_lines (bs ++ 10 ∷ more)))) (or_parts (eqb b 10) (list_any (λ b. eqb b 10) bs) h).0
-    ∙ ap (before_first b) (one_physical bs more (or_parts (eqb b 10) (list_any (λ b. eqb b 10) bs) h).1)
+one_physical (b ∷ bs) more h = grind (arith, cond, or_parts, eqb, one_physical bs more (or_parts (eqb b 10) (list_any (λ b. eqb b 10) bs) h).1)
 
 -- what the bytes of words pass, where a blank does
 none_there : (test : ℕ → Bool) (w : List ℕ) → ((b : ℕ) → In w b → test b ≡ false) → IsFree test w
@@ -92,29 +79,18 @@ none_there test (b ∷ w) h = or_from (test b) (list_any test w) (h b (inl refl)
 
 words_free : (test : ℕ → Bool) (ws : List (List ℕ)) → test 32 ≡ false → ((w : List ℕ) → In ws w → (b : ℕ) → In w b → test b ≡ false) → IsFree test (words_text ws)
 words_free test [] blank h = refl
-words_free test (w ∷ ws) blank h =
-    or_from (test 32) (list_any test (w ++ words_text ws)) blank
-    (list_any-append test w (words_text ws) ∙ or_from (list_any test w) (list_any test (words_text ws)) (none_there test w (h w (inl refl))) (words_free test ws blank (λ u i. h u (inr i))))
+words_free test (w ∷ ws) blank h = grind (arith, or_from, list_any-append, none_there, words_free test ws blank (λ u i. h u (inr i)))
 
 body_free : (test : ℕ → Bool) (w : List ℕ) (ws : List (List ℕ)) → test 32 ≡ false → ((u : List ℕ) → In (w ∷ ws) u → (b : ℕ) → In u b → test b ≡ false) → IsFree test (w ++ words_text ws)
-body_free test w ws blank h =
-    list_any-append test w (words_text ws) ∙ or_from (list_any test w) (list_any test (words_text ws)) (none_there test w (h w (inl refl))) (words_free test ws blank (λ u i. h u (inr i)))
+body_free test w ws blank h = grind (arith, list_any-append, or_from, none_there, words_free)
 
 -- the last byte of a line is its last word's
 pub last_later : (xs ys : List ℕ) → 0 < length ys → get_or (xs ++ ys) (length (xs ++ ys) - 1) 0 ≡ get_or ys (length ys - 1) 0
-last_later xs ys h =
-    let e : length (xs ++ ys) - 1 - length xs ≡ length ys - 1 = omega (arith, length-append xs ys) in
-    get_or-append_right xs ys (length (xs ++ ys) - 1) 0 (omega (arith, length-append xs ys)) ∙ ap (λ (k : ℕ). get_or ys k 0) e
+last_later xs ys h = grind (arith, length-append, get_or-append_right)
 
 last_is : (P : ℕ → Type 0) (w : List ℕ) (ws : List (List ℕ)) → ((u : List ℕ) → In (w ∷ ws) u → (0 < length u) × P (get_or u (length u - 1) 0)) → P (get_or (w ++ words_text ws) (length (w ++ words_text ws) - 1) 0)
 last_is P w [] h = subst (λ (t : List ℕ). P (get_or t (length t - 1) 0)) (sym (append-nil w)) (h w (inl refl)).1
-last_is P w (v ∷ vs) h =
-    let some : 0 < length v = (h v (inr (inl refl))).0 in
-    let l : length (v ++ words_text vs) ≡ length v + length (words_text vs) = length-append v (words_text vs) in
-    let rest : P (get_or (v ++ words_text vs) (length (v ++ words_text vs) - 1) 0) = last_is P v vs (λ u i. h u (inr i)) in
-    let later : get_or (w ++ words_text (v ∷ vs)) (length (w ++ words_text (v ∷ vs)) - 1) 0 ≡ get_or (v ++ words_text vs) (length (v ++ words_text vs) - 1) 0 =
-    last_later w (32 ∷ (v ++ words_text vs)) (omega arith) ∙ last_later (32 ∷ []) (v ++ words_text vs) (omega arith) in
-    subst P (sym later) rest
+last_is P w (v ∷ vs) h = grind (arith, length-append, last_later, last_is P v vs (λ u i. h u (inr i)))
 
 -- no word ends in `\`
 behind_blank : (bs : List ℕ) → has_slash_end bs ≡ false → has_slash_end (32 ∷ bs) ≡ false
@@ -128,23 +104,17 @@ data Follows (rest : List ℕ) : Type 0 where
 
 one_follows : (b : ℕ) (rest : List ℕ) → eqb b 92 ≡ false → Follows rest → has_slash_end (b ∷ rest) ≡ false
 one_follows b rest h (nothing e) = ap (λ (t : List ℕ). has_slash_end (b ∷ t)) e ∙ h
-one_follows b rest h (blank bs e f) =
-    ap (λ (t : List ℕ). has_slash_end (b ∷ t)) e
-    ∙ or_from (eqb b 92 && true) (has_slash_end (32 ∷ bs)) (ap (λ (x : Bool). x && true) h) (behind_blank bs f)
+one_follows b rest h (blank bs e f) = grind arith
 
 slash_free : (w rest : List ℕ) → 0 < length w → ((b : ℕ) → In w b → is_blank b ≡ false) → eqb (get_or w (length w - 1) 0) 92 ≡ false → Follows rest → has_slash_end (w ++ rest) ≡ false
 slash_free [] rest some h last r = absurd (omega (arith, some))
 slash_free (b ∷ []) rest some h last r = one_follows b rest last r
 slash_free (b ∷ c ∷ w) rest some h last r =
-    let end : eqb (get_or (c ∷ w) (length (c ∷ w) - 1) 0) 92 ≡ false = ap (λ (k : ℕ). eqb k 92) (sym (last_later (b ∷ []) (c ∷ w) (omega arith))) ∙ last in
-    let others : has_slash_end ((c ∷ w) ++ rest) ≡ false = slash_free (c ∷ w) rest (omega arith) (λ d i. h d (inr i)) end r in
-    let this : (eqb b 92 && is_blank c) ≡ false = and_right (eqb b 92) (is_blank c) (h c (inr (inl refl))) in
-    or_from (eqb b 92 && is_blank c) (has_slash_end ((c ∷ w) ++ rest)) this others
+    let others : has_slash_end ((c ∷ w) ++ rest) ≡ false = slash_free (c ∷ w) rest (omega arith) (λ d i. h d (inr i)) (ap (λ (k : ℕ). eqb k 92) (sym (last_later (b ∷ []) (c ∷ w) (omega arith))) ∙ last) r in
+    or_from (eqb b 92 && is_blank c) (has_slash_end ((c ∷ w) ++ rest)) (and_right (eqb b 92) (is_blank c) (h c (inr (inl refl)))) others
 
 line_slash_free : (w : List ℕ) (ws : List (List ℕ)) → IsCleanLine (w ∷ ws) → has_slash_end (w ++ words_text ws) ≡ false
-line_slash_free w [] h =
-    let c : IsClean w = h w (inl refl) in
-    slash_free w [] c.bytes.some c.bytes.no_blank c.no_slash (nothing refl)
+line_slash_free w [] h = grind (arith, slash_free)
 line_slash_free w (v ∷ vs) h =
     let c : IsClean w = h w (inl refl) in
     slash_free w (words_text (v ∷ vs)) c.bytes.some c.bytes.no_blank c.no_slash (blank (v ++ words_text vs) refl (line_slash_free v vs (λ u i. h u (inr i))))
@@ -177,12 +147,7 @@ clean_line w ws h = record {
 }
 
 same_content : (body : List ℕ) → IsLine body → content body ≡ body
-same_content body h =
-    let front : before_comment body ≡ body = ap (λ (k : ℕ). take k body) (none_pass (λ b. eqb b 35) body h.comment) ∙ take-length body in
-    let none : suffix_len is_blank (take (length body) body) ≡ 0 = suffix_len-take_no is_blank body (length body) 0 h.some (omega arith) h.blank in
-    let all : length body - 0 ≡ length body = omega arith in
-    let same : trimmed body ≡ body = ap (λ (t : List ℕ). take (length body - suffix_len is_blank t) body) (sym (take-length body)) ∙ ap (λ (k : ℕ). take (length body - k) body) none ∙ ap (λ (k : ℕ). take k body) all ∙ take-length body in
-    ap trimmed front ∙ same
+same_content body h = grind (arith, none_pass, eqb, take-length, suffix_len-take_no)
 
 ends_line : (body : List ℕ) → IsLine body → goes_on body ≡ false
 ends_line body h = ap (ends_in 92) (same_content body h) ∙ h.slash
@@ -210,10 +175,7 @@ feed_free w ws h = body_free (λ b. eqb b 10) w ws refl (λ u i b j. ne_eqb b 10
 
 -- the first physical line of written lines
 first_physical : (w : List ℕ) (ws : List (List ℕ)) (more : List ℕ) → IsCleanLine (w ∷ ws) → physical_lines (line_text (w ∷ ws) ++ more) ≡ (w ++ words_text ws) ∷ physical_lines more
-first_physical w ws more h =
-    let shape : line_text (w ∷ ws) ++ more ≡ (w ++ words_text ws) ++ 10 ∷ more =
-    ap (λ (t : List ℕ). t ++ more) (sym (append_assoc w (words_text ws) (10 ∷ []))) ∙ append_assoc (w ++ words_text ws) (10 ∷ []) more in
-    ap physical_lines shape ∙ one_physical (w ++ words_text ws) more (feed_free w ws h)
+first_physical w ws more h = grind (arith, append_assoc, one_physical, feed_free)
 
 abbrev goes : ℕ → ℕ → List ℕ → List (List ℕ) → Bool → Bool → Bool → Result (List LineValue) TextErr
 goes number at line rest bad slash on =
@@ -224,20 +186,7 @@ goes number at line rest bad slash on =
 
 one_line : (number at : ℕ) (w : List ℕ) (ws : List (List ℕ)) (rest : List (List ℕ)) (lines : List LineValue) → IsCleanLine (w ∷ ws) → lines_from (number + 1) (at + length (w ++ words_text ws) + 1) None rest ≡ Ok lines
     → lines_from number at None ((w ++ words_text ws) ∷ rest) ≡ Ok (line_at number at (w ∷ ws) ∷ lines)
-one_line number at w ws rest lines h later =
-    let body : List ℕ = w ++ words_text ws in
-    let l : IsLine body = clean_line w ws h in
-    let r : without_return rest body ≡ body = no_return rest body l in
-    let bad : list_any is_bad (without_return rest body) ≡ false = ap (list_any is_bad) r ∙ l.bad in
-    let slash : has_slash_end (words (without_return rest body)) ≡ false = ap (λ (t : List ℕ). has_slash_end (words t)) r ∙ ap has_slash_end (same_words body l) ∙ l.slash_end in
-    let on : goes_on (without_return rest body) ≡ false = ap goes_on r ∙ ends_line body l in
-    let tokens : tokens_at at (words (without_return rest body)) ≡ tokens_of at (w ∷ ws) = ap (λ (t : List ℕ). tokens_at at (words t)) r ∙ ap (tokens_at at) (same_words body l) ∙ line_tokens at w ws h in
-    ap (λ (t : Bool). goes number at body rest t (has_slash_end (words (without_return rest body))) (goes_on (without_return rest body))) bad
-    ∙ ap (λ (t : Bool). goes number at body rest false t (goes_on (without_return rest body))) slash
-    ∙ ap (λ (t : Bool). goes number at body rest false false t) on
-    ∙ ap (λ (t : List Token). put_before (record { number = number; tokens = t }) (lines_from (number + 1) (at + length body + 1) None rest)) tokens
-    ∙ ap (put_before (line_at number at (w ∷ ws))) later
-    ∙ ap (λ (t : Bool). Ok (cond t lines (line_at number at (w ∷ ws) ∷ lines))) (ne_eqb (length (tokens_of at (w ∷ ws))) 0 (λ e. omega (arith, e)))
+one_line number at w ws rest lines h later = grind (arith, clean_line, no_return, same_words, ends_line, tokens_of, line_tokens, goes, line_at, cond, ne_eqb)
 
 -- written lines are these logical lines
 pub lines_written : (number at : ℕ) (lines : List (List (List ℕ))) → AreCleanLines lines → lines_from number at None (physical_lines (flat_map line_text lines)) ≡ Ok (lines_at number at lines)
@@ -245,8 +194,7 @@ lines_written number at [] h = refl
 lines_written number at ([] ∷ lines) h = absurd (h [] (inl refl))
 lines_written number at ((w ∷ ws) ∷ lines) h =
     let this : IsCleanLine (w ∷ ws) = h (w ∷ ws) (inl refl) in
-    let later : lines_from (number + 1) (at + length (w ++ words_text ws) + 1) None (physical_lines (flat_map line_text lines)) ≡ Ok (lines_at (number + 1) (at + length (w ++ words_text ws) + 1) lines) =
-    lines_written (number + 1) (at + length (w ++ words_text ws) + 1) lines (λ u i. h u (inr i)) in
+    let later = lines_written (number + 1) (at + length (w ++ words_text ws) + 1) lines (λ u i. h u (inr i)) in
     ap (lines_from number at None) (first_physical w ws (flat_map line_text lines) this) ∙ one_line number at w ws (physical_lines (flat_map line_text lines)) (lines_at (number + 1) (at + length (w ++ words_text ws) + 1) lines) this later
 
 -- and their words are the words
@@ -256,16 +204,13 @@ lines_there text pre number at ([] ∷ lines) h is start = absurd (h [] (inl ref
 lines_there text pre number at ((w ∷ ws) ∷ lines) h is start =
     let body : List ℕ = w ++ words_text ws in
     let more : List ℕ = flat_map line_text lines in
-    let shape : text ≡ pre ++ (body ++ (10 ∷ more)) =
-    is ∙ ap (λ (t : List ℕ). pre ++ (t ++ more)) (sym (append_assoc w (words_text ws) (10 ∷ []))) ∙ ap (λ (t : List ℕ). pre ++ t) (append_assoc body (10 ∷ []) more) in
-    let this : map (token_bytes text) (tokens_of at (w ∷ ws)) ≡ w ∷ ws = words_there text pre (10 ∷ more) at w ws shape start in
-    let next : text ≡ (pre ++ (body ++ 10 ∷ [])) ++ more =
-    shape ∙ ap (λ (t : List ℕ). pre ++ t) (sym (append_assoc body (10 ∷ []) more)) ∙ sym (append_assoc pre (body ++ 10 ∷ []) more) in
+    let shape : text ≡ pre ++ (body ++ (10 ∷ more)) = grind (arith, append_assoc) in
+    let next = shape ∙ ap (λ (t : List ℕ). pre ++ t) (sym (append_assoc body (10 ∷ []) more)) ∙ sym (append_assoc pre (body ++ 10 ∷ []) more) in
     let past : at + length body + 1 ≡ length (pre ++ (body ++ 10 ∷ [])) = omega (arith, start, length-append pre (body ++ 10 ∷ []), length-append body (10 ∷ [])) in
     let one : number + 1 ≡ suc number = omega arith in
     let others : map (words_line text) (lines_at (number + 1) (at + length body + 1) lines) ≡ numbered (number + 1) lines =
     lines_there text (pre ++ (body ++ 10 ∷ [])) (number + 1) (at + length body + 1) lines (λ u i. h u (inr i)) next past in
-    ap (λ (t : List (List ℕ)). record { number = number; words = t } ∷ map (words_line text) (lines_at (number + 1) (at + length body + 1) lines)) this
+    ap (λ (t : List (List ℕ)). record { number = number; words = t } ∷ map (words_line text) (lines_at (number + 1) (at + length body + 1) lines)) (words_there text pre (10 ∷ more) at w ws shape start)
     ∙ ap (λ (t : List WordsLine). record { number = number; words = w ∷ ws } ∷ t) (others ∙ ap (λ (k : ℕ). numbered k lines) one)
 
 -- Lines that are written and read again: the text has these logical lines, with their words and numbers.

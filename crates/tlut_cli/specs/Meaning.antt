@@ -52,8 +52,8 @@ HasOutcome rule ports words before after err later s = (outcome : Outcome) × (s
 
 -- Both of a call, from what is passed in: the arguments, and the shelf, the output, the ports and the error output, each before and after. A port is seen by a function.
 module _ {P : Type 0} (seen : P → PortSeen) (rule : Rule) (words : List (String Global)) where
-  abbrev pub HasCallMeaning : ShelfSeen → ShelfSeen → SinkSeen → SinkSeen → Vec P → Vec P → Status → Type 0
-  HasCallMeaning shelf later out put ports others s = HasMeaning rule (length ports.items) (map string_bytes words) (world_of shelf out (map seen ports.items)) (world_of later put (map seen others.items)) s
+  abbrev pub CallMeans : ShelfSeen → ShelfSeen → SinkSeen → SinkSeen → Vec P → Vec P → Status → Type 0
+  CallMeans shelf later out put ports others s = HasMeaning rule (length ports.items) (map string_bytes words) (world_of shelf out (map seen ports.items)) (world_of later put (map seen others.items)) s
 
-  abbrev pub HasCallOutcome : ShelfSeen → ShelfSeen → SinkSeen → SinkSeen → Vec P → Vec P → SinkSeen → SinkSeen → Status → Type 0
-  HasCallOutcome shelf later out put ports others err told s = HasOutcome rule (length ports.items) (map string_bytes words) (world_of shelf out (map seen ports.items)) (world_of later put (map seen others.items)) err told s
+  abbrev pub CallEnds : ShelfSeen → ShelfSeen → SinkSeen → SinkSeen → Vec P → Vec P → SinkSeen → SinkSeen → Status → Type 0
+  CallEnds shelf later out put ports others err told s = HasOutcome rule (length ports.items) (map string_bytes words) (world_of shelf out (map seen ports.items)) (world_of later put (map seen others.items)) err told s

@@ -4,7 +4,7 @@ ghost use Rattle.cover_pick.specs.declared.rule.Rule.TheVariants.{FewestLeaves};
 ghost use Rattle.tlut_cli.specs.Commands.{command_of, command_seen, HasRange};
 ghost use Rattle.tlut_cli.specs.CommandEnds.{HasEnded, HasWalkLaws};
 ghost use Rattle.tlut_cli.specs.Call.{world_of, IsEnd, fault_file, word_at, fault_word, IsQuiet, WritesFiles};
-ghost use Rattle.tlut_cli.specs.Meaning.{HasCallMeaning, HasCallOutcome};
+ghost use Rattle.tlut_cli.specs.Meaning.{CallMeans, CallEnds};
 
 use crate::command::{Subcommand, file_name, read_command, report};
 use cmd_base::{File, Outcome, Status};
@@ -142,7 +142,7 @@ pub fn tlut_by<S: Shelf, O: Sink, E: Sink>(
     ensures usage { result ≡ Status.Usage ↔ command_of rule (length ports.old.items) (map string_bytes words.now) ≡ None }
 
     // What the status means, clause by clause: the record is in `specs/Meaning.antt`.
-    ensures meaning { HasCallMeaning (λ p. port_seen p) rule words.now (S.seen shelf.old) (S.seen shelf.new) (O.seen out.old) (O.seen out.new) ports.old ports.new result }
+    ensures meaning { CallMeans (λ p. port_seen p) rule words.now (S.seen shelf.old) (S.seen shelf.new) (O.seen out.old) (O.seen out.new) ports.old ports.new result }
 
     // What is unchanged.
     ensures quiet { IsQuiet result → (O.seen out.new).bytes ≡ (O.seen out.old).bytes }
@@ -151,7 +151,7 @@ pub fn tlut_by<S: Shelf, O: Sink, E: Sink>(
     ensures no_files { ((S.seen shelf.new).files ≡ (S.seen shelf.old).files) ⊎ WritesFiles rule (length ports.old.items) (map string_bytes words.now) }
 
     // The outcome, its cause, and the fault line.
-    ensures told { HasCallOutcome (λ p. port_seen p) rule words.now (S.seen shelf.old) (S.seen shelf.new) (O.seen out.old) (O.seen out.new) ports.old ports.new
+    ensures told { CallEnds (λ p. port_seen p) rule words.now (S.seen shelf.old) (S.seen shelf.new) (O.seen out.old) (O.seen out.new) ports.old ports.new
         (E.seen err.old) (E.seen err.new) result }
 {
     let ended = run_words(alloc, rule, words, shelf, out, ports);
@@ -171,7 +171,7 @@ pub fn tlut<S: Shelf, O: Sink, E: Sink>(
     ensures usage { result ≡ Status.Usage ↔ command_of FewestLeaves (length ports.old.items) (map string_bytes words.now) ≡ None }
 
     // What the status means, clause by clause: the record is in `specs/Meaning.antt`.
-    ensures meaning { HasCallMeaning (λ p. port_seen p) FewestLeaves words.now (S.seen shelf.old) (S.seen shelf.new) (O.seen out.old) (O.seen out.new) ports.old ports.new result }
+    ensures meaning { CallMeans (λ p. port_seen p) FewestLeaves words.now (S.seen shelf.old) (S.seen shelf.new) (O.seen out.old) (O.seen out.new) ports.old ports.new result }
 
     // What is unchanged.
     ensures quiet { IsQuiet result → (O.seen out.new).bytes ≡ (O.seen out.old).bytes }
@@ -180,7 +180,7 @@ pub fn tlut<S: Shelf, O: Sink, E: Sink>(
     ensures no_files { ((S.seen shelf.new).files ≡ (S.seen shelf.old).files) ⊎ WritesFiles FewestLeaves (length ports.old.items) (map string_bytes words.now) }
 
     // The outcome, its cause, and the fault line.
-    ensures told { HasCallOutcome (λ p. port_seen p) FewestLeaves words.now (S.seen shelf.old) (S.seen shelf.new) (O.seen out.old) (O.seen out.new) ports.old ports.new
+    ensures told { CallEnds (λ p. port_seen p) FewestLeaves words.now (S.seen shelf.old) (S.seen shelf.new) (O.seen out.old) (O.seen out.new) ports.old ports.new
         (E.seen err.old) (E.seen err.new) result }
 {
     tlut_by(alloc, Rule::FewestLeaves, words, shelf, out, err, ports)

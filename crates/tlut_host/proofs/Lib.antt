@@ -1,5 +1,4 @@
 mod Common
-pub mod CopyLemmas
 pub mod HeldValues
 mod HostExample
 pub mod PacedLemmas

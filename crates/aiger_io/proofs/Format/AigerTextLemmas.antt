@@ -22,7 +22,6 @@ module _ (h : Header) (items : List Item) (s : AreInSections h items) where
 
   pub sections_kinds : HaveKinds h items
   sections_kinds p item e =
-      let l : length s.latches ≡ h.latches = (s.latches_are).count_is in
       elim (append_at s.inputs (s.latches ++ (s.outputs ++ s.ands)) p item (subst (λ xs. slice_get xs p ≡ Some item) s.are e)) [
         | inl r ↦ (let n : p < length s.inputs = r.0 in (s.inputs_are).each item (In-get s.inputs p item r.1) ∙ input_here h p (omega arith))
         | inr r ↦ (let at : p ≡ length s.inputs + r.0 = r.1 in elim (append_at s.latches (s.outputs ++ s.ands) r.0 item r.2) [
@@ -43,7 +42,6 @@ one_cut n m items = sym (take-append-drop m (drop n items)) ∙ ap (λ l. take m
 
 pub in_sections : (h : Header) (items : List Item) → length items ≡ item_count h → HaveKinds h items → AreInSections h items
 in_sections h items count kinds =
-    let c : length items ≡ h.inputs + h.latches + h.outputs + h.ands = count in
     let first : items ≡ take h.inputs (drop 0 items) ++ drop h.inputs items = one_cut 0 h.inputs items ∙ ap (λ n. take h.inputs (drop 0 items) ++ drop n items) (sym (omega arith)) in
     let second : drop h.inputs items ≡ take h.latches (drop h.inputs items) ++ drop (h.inputs + h.latches) items = one_cut h.inputs h.latches items in
     let third : drop (h.inputs + h.latches) items ≡ take h.outputs (drop (h.inputs + h.latches) items) ++ drop (h.inputs + h.latches + h.outputs) items = one_cut (h.inputs + h.latches) h.outputs items in
@@ -75,11 +73,7 @@ one_kind h from item items here behind zero other e = let same : item ≡ other 
 one_kind h from item items here behind (suc q) other e = let z : from + 1 + q ≡ from + suc q = omega arith in subst (λ n. kind_of_item other ≡ kind_at h n) z (behind q other e)
 
 stretch_more : (h : Header) (from : ℕ) (row : List ℕ) (rows : List (List ℕ)) (item : Item) (items : List Item) → IsItemRow row item → kind_of_item item ≡ kind_at h from → is_in_range h.variables item ≡ true → IsStretch h (from + 1) rows items → IsStretch h from (row ∷ rows) (item ∷ items)
-stretch_more h from row rows item items is of within s = record {
-  are = (is, s.are);
-  kinds = one_kind h from item items of s.kinds;
-  range = λ other i. elim i [ inl e ↦ subst (λ o. is_in_range h.variables o ≡ true) (sym e) within | inr j ↦ s.range other j ];
-}
+stretch_more h from row rows item items is of within s = search (rules, one_kind)
 
 stretch_tail : (h : Header) (from : ℕ) (row : List ℕ) (rows : List (List ℕ)) (item : Item) (items : List Item) → IsStretch h from (row ∷ rows) (item ∷ items) → IsStretch h (from + 1) rows items
 stretch_tail h from row rows item items s = record {
@@ -138,7 +132,6 @@ walk_step h before row rows (Some item) low is behind = elim (cases_Bool (is_in_
       let n : length (before ++ item ∷ []) ≡ length before + length {A = Item} (item ∷ []) = length-append before (item ∷ []) in
       let w = behind item (omega arith) in
       let y : length (before ++ item ∷ []) ≡ length before + 1 = omega arith in
-      let m : length (before ++ item ∷ []) + length w.items ≤ item_count h = w.few in
       record {
         item_rows = row ∷ w.item_rows;
         items = item ∷ w.items;
@@ -153,10 +146,7 @@ walk_step h before row rows (Some item) low is behind = elim (cases_Bool (is_in_
 ]
 
 pub items_walk : (h : Header) (before : List Item) (rows : List (List ℕ)) → length before ≤ item_count h → IsItemsWalk h before rows
-items_walk h before [] few = elim (cases_lt (length before) (item_count h)) [
-  | inl l ↦ walk_ended h before [] few (gone l refl)
-  | inr l ↦ walk_ended h before [] few (whole l)
-]
+items_walk h before [] few = search (rules, cases_lt, walk_ended)
 items_walk h before (row ∷ rows) few = elim (cases_lt (length before) (item_count h)) [
   | inl l ↦ walk_step h before row rows (item_of (kind_at h (length before)) (words_of row)) l refl (λ item more. items_walk h (before ++ item ∷ []) rows more)
   | inr l ↦ walk_ended h before (row ∷ rows) few (whole l)
@@ -271,7 +261,6 @@ no_symbol : (h : Header) (line : ℕ) (said : SymbolsValue) (row : List ℕ) (o 
 no_symbol h line said row None is none = ap (symbol_at h line said) is
 no_symbol h line said row (Some s) is none = absurd (none s (symbol_spelled row s is))
 
--- names that are alike
 pub named_alike : (text : List ℕ) (c : Circuit) (said : SymbolsValue) (e : AagErr) → IsParsed text c said → first_twice c.header said (item_count c.header + 2) said.places ≡ Some e → circuit_of text ≡ Err e
 named_alike text c said e p is = grind arith
 

@@ -251,7 +251,6 @@ blank_at w rest clean = position_or_len_is (λ b. eqb b 32) (w ++ 32 ∷ rest) (
 pub symbol_split : (key name : List ℕ) → HasNoBlank key → symbol_of (key ++ 32 ∷ name) ≡ symbol_with key name
 symbol_split key name clean =
     let at : position_or_len (λ b. eqb b 32) (key ++ 32 ∷ name) ≡ length key = blank_at key name clean in
-    let z : length key + 1 ≡ suc (length key) = omega arith in
     grind (arith, take-append_seam, drop_behind)
 
 letter_read : (k : LineKind) (letter : ℕ) → IsLetterOf k letter → kind_of letter ≡ Some k
@@ -295,8 +294,7 @@ parts_are key name s e = grind (arith, by_parts)
 pub symbol_spelled : (row : List ℕ) (s : Symbol) → symbol_of row ≡ Some s → IsSymbolRow row s
 symbol_spelled row s e =
     let p = parts_are (before_first (λ b. eqb b 32) row) (after_first (λ b. eqb b 32) row) s e in
-    let n : length (after_first (λ b. eqb b 32) row) ≡ length s.name = ap length p.name_is in
-    let within : position_or_len (λ b. eqb b 32) row < length row = omega (arith, length-drop (position_or_len (λ b. eqb b 32) row + 1) row) in
+    let within : position_or_len (λ b. eqb b 32) row < length row = omega (arith, ap length p.name_is, length-drop (position_or_len (λ b. eqb b 32) row + 1) row) in
     let blank : get_or row (position_or_len (λ b. eqb b 32) row) 0 ≡ 32 = eqb-true (get_or row (position_or_len (λ b. eqb b 32) row) 0) 32 (passes_at_first (λ b. eqb b 32) row 0 within) in
     record {
       letter = p.letter;

@@ -50,8 +50,7 @@ module _ (h : Header) (symbols : List Symbol) (said : SymbolsValue) (says : Says
   pub may_read : MayStand h symbols s → may_stand h said s ≡ true
   may_read may =
       let o = at_within said.names (place_of h s) (let l : place_of h s < named_count h = place_within h s.kind s.ordinal may.below in let n : length said.names ≡ named_count h = says.size in omega arith) in
-      and_from (ltb s.ordinal (count_of h s.kind)) _ (lt-ltb s.ordinal (count_of h s.kind) may.below)
-      (and_from (not (is_some (slice_index_or said.names (place_of h s) None))) (not (is_bad_name s.name)) (ap not (free_place may o.0 o.1)) (ap not may.good))
+      grind (arith, and_from, ltb, lt-ltb, free_place)
 
   pub read_may : may_stand h said s ≡ true → MayStand h symbols s
   read_may t = grind (arith, and_parts, ltb, not-true, ltb-true, true≢false, get_or_from_slice_get)

@@ -1,5 +1,5 @@
 -- The walk over the controls: what the net of one control says, and where the walk comes to.
-use Rattle.blif_flat.proofs.Common.{◌≡◌, ℕ, ◌+◌, ◌<◌, ◌≤◌, List, [], ◌∷◌, length, drop, drop_of_length-le, Option, Some, None, refl, sym, ap, ◌∙◌, subst, inl, inr, arith, slice_get, same_Some, slice_get_within, at_within, drop_get, Bool, true, false, Result, Ok, Err, ap₂, IfOk, IfErr, option_map, slice_get-map, OrMemory-map, suc, ltb, not, ◌||◌, ◌++◌, map, bytes_eq, filter, IsTrue, option_and_then, ltb-true, ltb-false, lt-ltb, le-ltb, or_parts, cases_Bool, both_ways, none-some, some_then, bytes_decides, list_any-append, list_any-position_none, LibraryValue, position_or_len, net_of_driver, one_net, latch_at-some, flat_all, has_with_names, LatchValue, ModelValue, Path, model_at, inputs_of, LatchAt, input_net, latch_net, cover_net, Drives, IsDriven, IsRead, latch_control, Place, latch_at, is_cover, is_latch, Latch as LatchBody, FlatErr, ClockNotInput, Gate, Instance, places_at, AreInstances, paths_of, IsWritten, Clocks, free, no_input, second, same, IsControl, some_latch, no_latch, NetsValue, table_of, AreAllNets, IsGateAt, AreGatesAt, IsControlled, IsWrittenAt, input_at, IsKeptInput, IsSecond, IsMetInput, IsRefused, not_input, another, ControlNext, ControlFault, IsControlSoFar, CameTo, OrMemory, IsClock, FlatNet, refusal_of, is_gate, data_of, ClockAmong, ClockData, outputs, here as clock_here, AreClockMarks, or_later, Tells, marked_name, clock_named, clock_fault, names_fault, place_of as index_place, has_name, listed, controls, FlatOrder, with_names, input_name, is_control, clock_test, TellsClocks, fun_ext}
+use Rattle.blif_flat.proofs.Common.{◌≡◌, ℕ, ◌+◌, ◌<◌, ◌≤◌, List, [], ◌∷◌, length, drop, drop_of_length-le, Option, Some, None, refl, sym, ap, ◌∙◌, subst, inl, inr, arith, slice_get, same_Some, slice_get_within, at_within, drop_get, Bool, true, false, Result, Ok, Err, ap₂, IfOk, IfErr, option_map, slice_get-map, OrMemory-map, suc, ltb, not, ◌||◌, ◌++◌, map, bytes_eq, filter, IsTrue, option_and_then, ltb-true, ltb-false, lt-ltb, le-ltb, or_parts, cases_Bool, both_ways, none-some, some_then, bytes_decides, list_any-append, list_any-position_none, LibraryValue, position_or_len, net_of_driver, one_net, latch_at-some, flat_all, has_with_names, LatchValue, ModelValue, Path, model_at, inputs_of, LatchAt, input_net, latch_net, cover_net, Drives, IsDriven, IsRead, latch_control, Place, latch_at, is_cover, is_latch, Latch as LatchBody, FlatErr, ClockNotInput, Gate, Instance, places_at, AreInstances, paths_of, IsWritten, Clocks, free, no_input, second, same, IsControl, some_latch, no_latch, NetsValue, table_of, AreAllNets, IsGateAt, AreGatesAt, IsControlled, IsWrittenAt, input_at, IsKeptInput, IsSecond, IsMetInput, IsRefused, not_input, another, ControlNext, ControlFault, IsControlSoFar, CameTo, OrMemory, IsClock, FlatNet, refusal_of, is_gate, data_of, ClockAmong, ClockData, outputs, here as clock_here, AreClockMarks, or_later, Tells, marked_name, clock_named, clock_fault, names_fault, place_of as index_place, has_name, listed, controls, FlatOrder, with_names, input_name, is_control, clock_test, TellsClocks, fun_ext, rules}
 use Rattle.blif_flat.specs.ClockFaults.{stop, none, first as clock_first, later}
 use Rattle.netlist.specs.declared.flat.FlatNet.TheVariants.{Input, Latch, Cover}
 use Rattle.blif_flat.proofs.Clocking.ControlLemmas.{clocks-one}
@@ -166,8 +166,7 @@ module _ (library : LibraryValue) (driven : IsDriven library) (instances : List 
   marked = marks_are are.main are.first
 
   mark_at : (j : ℕ) (input : List ℕ) → slice_get inputs j ≡ Some input → slice_get marks j ≡ Some (marked.test input)
-  mark_at j input e = ap (λ (l : List Bool). slice_get l j) marked.marks_are ∙ slice_get-map marked.test (inputs_of are.main) j
-      ∙ ap (option_map marked.test) (ap (λ (l : List (List ℕ)). slice_get l j) (sym (inputs_are are.main are.first)) ∙ e)
+  mark_at j input e = grind (arith, slice_get-map, inputs_of, option_map)
 
   module _ (row : ℕ) (path : Path) (at : slice_get (paths_of instances) row ≡ Some path) where
     -- the name's net is this clock net, or none
@@ -239,17 +238,11 @@ module _ (library : LibraryValue) (driven : IsDriven library) (instances : List 
 
 -- the first place of a name in joined lists is in the first one exactly where the name is
 both_more : (p n : ℕ) → ltb (1 + p) (suc n) ≡ ltb p n
-both_more p n = elim (cases_Bool (ltb p n)) [
-  | inl t ↦ lt-ltb (1 + p) (suc n) (let h : p < n = ltb-true p n t in omega arith) ∙ sym t
-  | inr f ↦ le-ltb (1 + p) (suc n) (let h : n ≤ p = ltb-false p n f in omega arith) ∙ sym f
-]
+both_more p n = search (rules, cases_Bool, ltb, lt-ltb, ltb-true, le-ltb, ltb-false)
 
 place_among : (names more : List (List ℕ)) (x : List ℕ) → ltb (position_or_len (bytes_eq x) (names ++ more)) (length names) ≡ has_name names x
 place_among [] more x = le-ltb (position_or_len (bytes_eq x) more) 0 (omega arith)
-place_among (n ∷ names) more x = elim (cases_Bool (bytes_eq x n)) [
-  | inl t ↦ rw t (lt-ltb 0 (suc (length names)) (omega arith))
-  | inr f ↦ rw f (both_more (position_or_len (bytes_eq x) (names ++ more)) (length names) ∙ place_among names more x)
-]
+place_among (n ∷ names) more x = search (rules, cases_Bool, bytes_eq, lt-ltb, both_more, place_among names more x)
 
 module _ (m : ModelValue) where
   pub unlisted : (x : List ℕ) → index_place (inputs_of m) x ≡ None → has_name m.inputs x ≡ false
@@ -258,16 +251,12 @@ module _ (m : ModelValue) where
       (or_parts (has_name m.inputs x) (has_name clocks x) (sym (list_any-append (bytes_eq x) m.inputs clocks) ∙ list_any-position_none (bytes_eq x) (inputs_of m) h)).0
 
   pub listed_at : (x : List ℕ) (place : ℕ) → index_place (inputs_of m) x ≡ Some place → ltb place (length m.inputs) ≡ has_name m.inputs x
-  listed_at x place h =
-      let first : ℕ = position_or_len (bytes_eq x) (inputs_of m) in
-      let found = some_then (ltb first (length (inputs_of m))) (Some first) place h in
-      ap (λ p. ltb p (length m.inputs)) (sym (same_Some first place found.1)) ∙ place_among m.inputs (filter (λ name. not (has_name m.inputs name)) m.clocks) x
+  listed_at x place h = grind (arith, bytes_eq, inputs_of, some_then, ltb, same_Some, place_among, filter, has_name)
 
   pub marked_inputs : (control : Option ℕ) (given clocks inputs : List (List ℕ)) → given ≡ m.clocks → clocks ≡ with_names [] given → inputs ≡ inputs_of m
       → map (λ name. has_name clocks name || is_control (option_and_then (slice_get inputs) control) name) inputs ≡ map (clock_test m (input_name m control)) (inputs_of m)
   marked_inputs control given clocks inputs b e f =
-      let same : (λ (name : List ℕ). has_name clocks name || is_control (input_name m control) name) ≡ clock_test m (input_name m control) =
-      fun_ext (λ x. ap (λ t. t || is_control (input_name m control) x) (ap (λ ns. has_name ns x) (e ∙ ap (with_names []) b) ∙ has_with_names [] m.clocks x)) in
+      let same = fun_ext (λ x. ap (λ t. t || is_control (input_name m control) x) (ap (λ ns. has_name ns x) (e ∙ ap (with_names []) b) ∙ has_with_names [] m.clocks x)) in
       ap (λ (xs : List (List ℕ)). map (λ name. has_name clocks name || is_control (option_and_then (slice_get xs) control) name) xs) f ∙ ap (λ (test : List ℕ → Bool). map test (inputs_of m)) same
 
 module _ (library : LibraryValue) (main : ModelValue) (at : model_at library [] ≡ Some main) where
@@ -275,8 +264,7 @@ module _ (library : LibraryValue) (main : ModelValue) (at : model_at library [] 
   control_clock : (name : List ℕ) (control : Option (List ℕ)) → IsControl library control → is_control control name ≡ true → IsClock library name
   control_clock name None c t = absurd (both_ways false refl t)
   control_clock name (Some own) (some_latch path i l read net a e d q) t =
-      let same : net ≡ name = sym (same_Some own net q) ∙ sym ((bytes_decides name own).0 t) in
-      controls path i l read a e (subst (λ n. Drives library path read (input_net n)) same d)
+      controls path i l read a e (subst (λ n. Drives library path read (input_net n)) (sym (same_Some own net q) ∙ sym ((bytes_decides name own).0 t)) d)
   control_clock name (Some own) (no_latch h q) t = absurd (none-some own (sym q))
 
   test_clock : (control : Option (List ℕ)) → IsControl library control → (name : List ℕ) → clock_test main control name ≡ true → IsClock library name

@@ -1,5 +1,5 @@
 -- Where the walks of the clocks and of the data find no fault, every latch control has one main input as its net, and no clock net is data; at a sound library they find none.
-use Rattle.blif_flat.proofs.Common.{IsControlNet, ◌≡◌, ◌⊎◌, ℕ, List, [], ◌∷◌, Option, Some, None, refl, sym, ap, ◌∙◌, subst, inl, inr, option_and_then, none-some, same_Some, option_and_then_some, In, In-right, ap₂, subst₂, ◌++◌, LibraryValue, CoverValue, one_net, flat_all, not_empty, same_first, same_rest, Latch, Cover, LatchValue, ModelValue, Body, Path, model_at, body_at, LatchAt, CoverAt, input_net, Drives, IsClock, IsDriven, Place, is_latch, FlatOrder, cover_in, latch_in, cover_at, latch_at, FlatErr, SecondClock, ClockNotInput, ClockAsData, Clocks, free, no_input, second, same, is_gate, data_of, ClockAmong, ClockData, outputs, here, data_inputs, IsData, cover_data, latch_data, IsSound, IsWritten, IsMetInput, ControlNext, ControlFault, not_input, another}
+use Rattle.blif_flat.proofs.Common.{IsControlNet, ◌≡◌, ◌⊎◌, ℕ, List, [], ◌∷◌, Option, Some, None, refl, sym, ap, ◌∙◌, subst, inl, inr, option_and_then, none-some, same_Some, option_and_then_some, In, In-right, ap₂, subst₂, ◌++◌, LibraryValue, CoverValue, one_net, flat_all, not_empty, same_first, same_rest, Latch, Cover, LatchValue, ModelValue, Body, Path, model_at, body_at, LatchAt, CoverAt, input_net, Drives, IsClock, IsDriven, Place, is_latch, FlatOrder, cover_in, latch_in, cover_at, latch_at, FlatErr, SecondClock, ClockNotInput, ClockAsData, Clocks, free, no_input, second, same, is_gate, data_of, ClockAmong, ClockData, outputs, here, data_inputs, IsData, cover_data, latch_data, IsSound, IsWritten, IsMetInput, ControlNext, ControlFault, not_input, another, arith, rules}
 use Rattle.blif_flat.specs.ClockFaults.{stop, none, first, later}
 use Rattle.netlist.proofs.PlaceLemmas.{place_of, one_latch}
 use Rattle.blif_flat.proofs.Hierarchy.PlaceLemmas.{written_once}
@@ -116,12 +116,10 @@ module _ (library : LibraryValue) where
   latch_body path i m at b e l f = absurd (none-some l f)
 
   pub is_cover_at : (p : Place) (c : CoverValue) → cover_at library p ≡ Some c → CoverAt library p.path p.command c
-  is_cover_at p c e = option_and_then_some (λ (m : ModelValue). option_and_then cover_in (body_at m p.command)) (model_at library p.path) c e (λ m a b.
-      option_and_then_some cover_in (body_at m p.command) c b (λ y d f. cover_body p.path p.command m a y d c f))
+  is_cover_at p c e = grind arith
 
   pub is_latch_at : (p : Place) (l : LatchValue) → latch_at library p ≡ Some l → LatchAt library p.path p.command l
-  is_latch_at p l e = option_and_then_some (λ (m : ModelValue). option_and_then latch_in (body_at m p.command)) (model_at library p.path) l e (λ m a b.
-      option_and_then_some latch_in (body_at m p.command) l b (λ y d f. latch_body p.path p.command m a y d l f))
+  is_latch_at p l e = grind arith
 
   data_from : (p : Place) (name : List ℕ) (o : Option CoverValue) → cover_at library p ≡ o → (u : Option LatchValue) → latch_at library p ≡ u → In (data_inputs o u) name → IsData library p.path name
   data_from p name (Some c) e u f i = cover_data p.command c (is_cover_at p c e) i
@@ -201,30 +199,22 @@ module _ (library : LibraryValue) (driven : IsDriven library) where
 
   fault_once : (path : Path) (o chosen : Option (List ℕ)) (fault other : FlatErr) → ControlFault library path o chosen fault → ControlFault library path o chosen other → fault ≡ other
   fault_once path None chosen fault other a b = absurd a
-  fault_once path (Some control) chosen fault other (not_input net text t off w q) (not_input own last u on v r) =
-      q ∙ ap ClockNotInput (written_once library own text last (subst (λ n. IsWritten library n text) (one_net library driven t u) w) v) ∙ sym r
+  fault_once path (Some control) chosen fault other (not_input net text t off w q) (not_input own last u on v r) = grind (arith, written_once, one_net)
   fault_once path (Some control) chosen fault other (not_input net text t off w q) (another name earlier u f on r) = absurd (off name (one_net library driven t u))
   fault_once path (Some control) chosen fault other (another name earlier t f off q) (not_input net text u on w r) = absurd (on name (one_net library driven u t))
-  fault_once path (Some control) chosen fault other (another name earlier t f off q) (another last before u g on r) =
-      q ∙ ap₂ (λ (x y : List ℕ). SecondClock x y) (same_Some earlier before (sym f ∙ g)) (same_input path control name last t u) ∙ sym r
+  fault_once path (Some control) chosen fault other (another name earlier t f off q) (another last before u g on r) = grind (arith, ap₂, same_Some, same_input)
 
   next_or_fault : (path : Path) (o chosen next : Option (List ℕ)) (fault : FlatErr) → ControlNext library path o chosen next → ControlFault library path o chosen fault → ⊥
   next_or_fault path None chosen next fault m r = r
   next_or_fault path (Some control) chosen next fault m (not_input net text t off w q) = off m.name (one_net library driven t m.drives)
-  next_or_fault path (Some control) chosen next fault m (another name earlier t f off q) = elim m.before [
-    | inl e ↦ none-some earlier (sym e ∙ f)
-    | inr e ↦ off (same_input path control name m.name t m.drives ∙ same_Some m.name earlier (sym e ∙ f))
-  ]
+  next_or_fault path (Some control) chosen next fault m (another name earlier t f off q) = search (rules, none-some, same_input, same_Some)
 
   step_once : (rest : List Place) → Once rest → (chosen : Option (List ℕ)) (p : Place) (result other : Option FlatErr) → Step chosen p rest result → Step chosen p rest other → result ≡ other
   step_once rest once chosen p result other (goes_on l next a m c) (goes_on k last b n d) =
       once next result other c (subst (λ x. Clocks library x rest other) (next_once p.path l.control chosen last next (subst (λ o. ControlNext library p.path o chosen last) (same_control library p k l b a) n) m) d)
-  step_once rest once chosen p result other (goes_on l next a m c) (is_refused k f b n q) =
-      absurd (next_or_fault p.path l.control chosen next f m (subst (λ o. ControlFault library p.path o chosen f) (same_control library p k l b a) n))
-  step_once rest once chosen p result other (is_refused k f b n q) (goes_on l next a m c) =
-      absurd (next_or_fault p.path l.control chosen next f m (subst (λ o. ControlFault library p.path o chosen f) (same_control library p k l b a) n))
-  step_once rest once chosen p result other (is_refused l f a m q) (is_refused k g b n r) =
-      q ∙ ap Some (fault_once p.path l.control chosen f g m (subst (λ o. ControlFault library p.path o chosen g) (same_control library p k l b a) n)) ∙ sym r
+  step_once rest once chosen p result other (goes_on l next a m c) (is_refused k f b n q) = grind (arith, next_or_fault, same_control)
+  step_once rest once chosen p result other (is_refused k f b n q) (goes_on l next a m c) = grind (arith, next_or_fault, same_control)
+  step_once rest once chosen p result other (is_refused l f a m q) (is_refused k g b n r) = grind (arith, fault_once, same_control)
 
   pub clocks_once : (places : List Place) (chosen : Option (List ℕ)) (result other : Option FlatErr) → Clocks library chosen places result → Clocks library chosen places other → result ≡ other
   clocks_once [] chosen result other c k = end_of c refl ∙ sym (end_of k refl)
@@ -236,8 +226,7 @@ first_once : {A : Type 0} (P : A → Type 0) (before others : List A) (x y : A) 
 first_once P [] [] x y xs ys e h k p q = same_first x y xs ys refl e
 first_once P [] (z ∷ others) x y xs ys e h k p q = absurd (k z (inl refl) (subst P (same_first x z xs (others ++ y ∷ ys) refl e) p))
 first_once P (z ∷ before) [] x y xs ys e h k p q = absurd (h z (inl refl) (subst P (sym (same_first z y (before ++ x ∷ xs) ys refl e)) q))
-first_once P (z ∷ before) (w ∷ others) x y xs ys e h k p q =
-    first_once P before others x y xs ys (same_rest z w (before ++ x ∷ xs) (others ++ y ∷ ys) refl e) (λ v i. h v (inr i)) (λ v i. k v (inr i)) p q
+first_once P (z ∷ before) (w ∷ others) x y xs ys e h k p q = grind (arith, same_rest, first_once P before others x y xs ys (same_rest z w (before ++ x ∷ xs) (others ++ y ∷ ys) refl e) (λ v i. h v (inr i)) (λ v i. k v (inr i)) p q)
 
 module _ (library : LibraryValue) (driven : IsDriven library) where
   -- the net of a name is a clock
@@ -253,8 +242,7 @@ module _ (library : LibraryValue) (driven : IsDriven library) where
   among_once {path} (first before rest name net a b t c q) (first others end last own d f u g r) =
       let e : name ≡ last = first_once (HasClock path) before others name last rest end (sym a ∙ d) (λ y i h. among_none library b refl y h.net i h.drives h.clock)
       (λ y i h. among_none library f refl y h.net i h.drives h.clock) (record { net = net; drives = t; clock = c }) (record { net = own; drives = u; clock = g }) in
-      let n : net ≡ own = ap name_of (one_net library driven (subst (λ y. Drives library path y (input_net net)) e t) u) in
-      q ∙ ap (λ y. Some (ClockAsData y)) n ∙ sym r
+      q ∙ ap (λ y. Some (ClockAsData y)) (ap name_of (one_net library driven (subst (λ y. Drives library path y (input_net net)) e t) u)) ∙ sym r
 
   module _ (main : ModelValue) where
     again : (p q : Place) (result : Option FlatErr) → p ≡ q → ClockAmong library q.path (data_of library q) result → ClockAmong library p.path (data_of library p) result

@@ -1,5 +1,5 @@
 -- How the instances of rows are connected: an inner one by the line that places it, and the main model's own by none.
-use Rattle.blif_flat.proofs.Common.{◌≡◌, ℕ, zero, suc, ◌<◌, List, [], ◌∷◌, ◌++◌, length, map, Option, Some, None, refl, sym, ap, ◌∙◌, subst, inl, inr, arith, slice_get, option_and_then, none-some, same_Some, slice_get_within, In, In-left, In-right, In-map, at_within, item_there, ◌≤◌, get_or, IsTrue, or_cases, slice_get_read, apart_once, Body, Cover, Latch, Subckt, Command, Connection, ModelValue, Path, with_subckt, subckts_of, model_at, ConnectionAt, Instance, path_of, paths_of, IsRow, AreInstances, body_names, commands_names, Link, line_of, link_of, link_under, link_at, has_name, is_input, is_output, inputs_of, IsDriven, is_cover, is_latch, Gate, places_at, AreGatesAt, IsSoundTable, HasOwn, HasOutputs, HasInputs, AreNetsAt, net_places, HasSlots, AreEmptyNets, IsNext, AreAllNets, NetsValue, table_of, IsNets, output_of_cover, output_of_latch, with_covers, with_latches, with_inputs, linked_out, linked_in, formal_of, actual_of, links_out, links_in, AreLinesOf, IsWellFormed, Ports, ports_value, IsLight, SubcktValue, LibraryValue, Places, Inside, inside, child_at, has_in}
+use Rattle.blif_flat.proofs.Common.{◌≡◌, ℕ, zero, suc, ◌<◌, List, [], ◌∷◌, ◌++◌, length, map, Option, Some, None, refl, sym, ap, ◌∙◌, subst, inl, inr, arith, slice_get, option_and_then, none-some, same_Some, slice_get_within, In, In-left, In-right, In-map, at_within, item_there, ◌≤◌, get_or, IsTrue, or_cases, slice_get_read, apart_once, Body, Cover, Latch, Subckt, Command, Connection, ModelValue, Path, with_subckt, subckts_of, model_at, ConnectionAt, Instance, path_of, paths_of, IsRow, AreInstances, body_names, commands_names, Link, line_of, link_of, link_under, link_at, has_name, is_input, is_output, inputs_of, IsDriven, is_cover, is_latch, Gate, places_at, AreGatesAt, IsSoundTable, HasOwn, HasOutputs, HasInputs, AreNetsAt, net_places, HasSlots, AreEmptyNets, IsNext, AreAllNets, NetsValue, table_of, IsNets, output_of_cover, output_of_latch, with_covers, with_latches, with_inputs, linked_out, linked_in, formal_of, actual_of, links_out, links_in, AreLinesOf, IsWellFormed, Ports, ports_value, IsLight, SubcktValue, LibraryValue, Places, Inside, inside, child_at, has_in, rules}
 use Rattle.netlist.specs.declared.flat.FlatNet.TheVariants.{Latch as LatchNumber, Cover as CoverNumber}
 use Rattle.blif_flat.proofs.Connections.NetCopyLemmas.{sound_empty, own_kept, inputs_start, outputs_start, inputs_step, outputs_step, next_same, next_on, pairs_next, pairs_known, IsConnection, passes_out, passes_in}
 use Rattle.blif_flat.proofs.Connections.NetLemmas.{HasParent, has_parent, formal_known, actual_known, table_found}
@@ -43,21 +43,15 @@ module _ (library : LibraryValue) (instances : List Instance) (are : AreInstance
       let child : model_at library (k ∷ path) ≡ Some r.model = ap (model_at library) (sym same) ∙ r.there in
       let w : Inside library path k r.model = inside library path k r.model child in
       let model : q.model ≡ w.model = same_Some q.model w.model (sym q.there ∙ ap (model_at library) (same_Some q.path path (sym q.at ∙ h.at)) ∙ w.at) in
-      let line : line_of library instances h.place (row.0).ordinal ≡ Some w.subckt =
-      ap (option_and_then (λ (x : Instance). option_and_then (λ (m : ModelValue). slice_get (subckts_of m.commands) (row.0).ordinal) (slice_get library.models x.model))) outer.1
-      ∙ ap (option_and_then (λ (m : ModelValue). slice_get (subckts_of m.commands) (row.0).ordinal)) q.number
-      ∙ ap (λ (m : ModelValue). slice_get (subckts_of m.commands) (row.0).ordinal) model ∙ ap (slice_get (subckts_of (w.model).commands)) h.ordinal ∙ w.is in
+      let line : line_of library instances h.place (row.0).ordinal ≡ Some w.subckt = grind (arith, option_and_then, subckts_of) in
       record {
         link = record { outer = h.place; child = r.model; pairs = (w.subckt).pairs };
-        is = ap (option_and_then (λ (x : Instance). link_under library instances x x.parent)) row.1 ∙ ap (link_under library instances row.0) h.parent
-            ∙ ap (λ o. link_of h.place o (slice_get library.models (row.0).model)) line ∙ ap (link_of h.place (Some w.subckt)) r.number;
+        is = grind (arith, option_and_then, link_under, link_of);
         outside = h.at;
         there = child;
         earlier = r.earlier h.place h.parent;
         connects = λ pair i. (record { model = w.model; subckt = w.subckt; child = r.model; at = w.at; is = w.is; member = i; places = w.places }, refl);
-        all = λ pair a. (let m : a.model ≡ w.model = same_Some a.model w.model (sym a.at ∙ w.at) in
-            let s : a.subckt ≡ w.subckt = same_Some a.subckt w.subckt (sym a.is ∙ ap (λ (x : ModelValue). slice_get (subckts_of x.commands) k) m ∙ w.is) in
-            subst (λ (x : SubcktValue). In x.pairs pair) s a.member);
+        all = λ pair a. grind (arith, same_Some, subckts_of);
       }
 
   -- the main model's own instance stands in no other one

@@ -1,16 +1,12 @@
 -- Slots of nets: the slot of a name, and the table when one more slot is filled.
-use Rattle.blif_flat.proofs.Common.{◌≡◌, ℕ, ◌+◌, ◌<◌, ◌≤◌, Bool, eqb, List, length, Option, Some, None, refl, sym, ap, ◌∙◌, inl, inr, bytes_eq, arith, slice_get, slice_set, ◌&&◌, option_map, option_and_then, get_or, slice_get_read, cases_Bool, cases_lt, both_ways, cond-true, cond-false, and_parts, and_from, bytes_decides, set_here, set_other, set_length, [], subst, suc, ◌∷◌, ◌⊎◌, IsTrue, none-some, same_Some, slice_get_within, In, place_of, Connection, FlatNet, Start, with_net, NetsValue, name_place, slot_number, slot_at, table_of, with_slot, with_found, copied, pair_copied, pairs_copied, IsNets, most_weight, ModelValue, Path, model_at, inputs_of, Net, input_net, latch_net, cover_net, Drives, Place, is_cover, is_latch, Instance, places_at, AreInstances, paths_of, IsNumbered, an_input, a_latch, a_cover, net_places, IsNetFound, AreAllNets, is_input, is_output, ConnectionAt, IsNetOf, IsSoundTable, HasOwn, HasOutputs, HasInputs, IsKeptIn, IsNext, LibraryValue, Places, eqb-true, eq-eqb}
+use Rattle.blif_flat.proofs.Common.{◌≡◌, ℕ, ◌+◌, ◌<◌, ◌≤◌, Bool, eqb, List, length, Option, Some, None, refl, sym, ap, ◌∙◌, inl, inr, bytes_eq, arith, slice_get, slice_set, ◌&&◌, option_map, option_and_then, get_or, slice_get_read, cases_Bool, cases_lt, both_ways, cond-true, cond-false, and_parts, and_from, bytes_decides, set_here, set_other, set_length, [], subst, suc, ◌∷◌, ◌⊎◌, IsTrue, none-some, same_Some, slice_get_within, In, place_of, Connection, FlatNet, Start, with_net, NetsValue, name_place, slot_number, slot_at, table_of, with_slot, with_found, copied, pair_copied, pairs_copied, IsNets, most_weight, ModelValue, Path, model_at, inputs_of, Net, input_net, latch_net, cover_net, Drives, Place, is_cover, is_latch, Instance, places_at, AreInstances, paths_of, IsNumbered, an_input, a_latch, a_cover, net_places, IsNetFound, AreAllNets, is_input, is_output, ConnectionAt, IsNetOf, IsSoundTable, HasOwn, HasOutputs, HasInputs, IsKeptIn, IsNext, LibraryValue, Places, eqb-true, eq-eqb, rules}
 use Rattle.netlist.specs.declared.flat.FlatNet.TheVariants.{Input, Latch, Cover}
 use Rattle.blif_flat.proofs.Connections.NetLemmas.{outer_number, inner_number}
 
 -- the slot of a name
 pub slot_found : (n : NetsValue) (i : ℕ) (name : List ℕ) (starts : List Start) (names : List (List (List ℕ))) (s : Start) (o : Option ℕ) → starts ≡ n.starts → names ≡ n.names → i < length starts → s ≡ get_or starts i s
     → o ≡ option_and_then (λ (ns : List (List ℕ)). place_of ns name) (slice_get names s.model) → option_map (λ (p : ℕ). s.first + p) o ≡ slot_number n i name
-slot_found n i name starts names s o a b h e f =
-    let at : slice_get n.starts i ≡ Some s = subst (λ l. slice_get l i ≡ Some s) a (slice_get_read starts (length starts) i s refl h e) in
-    let place : o ≡ option_and_then (λ (ns : List (List ℕ)). place_of ns name) (slice_get n.names s.model) =
-    f ∙ ap (λ (l : List (List (List ℕ))). option_and_then (λ (ns : List (List ℕ)). place_of ns name) (slice_get l s.model)) b in
-    sym (ap (option_and_then (λ (x : Start). name_place n.names x name)) at ∙ ap (option_map (λ (p : ℕ). s.first + p)) (sym place))
+slot_found n i name starts names s o a b h e f = grind (arith, slice_get_read, option_and_then, place_of, name_place, option_map)
 
 -- a slot has a small number
 pub slot_fits : (n : NetsValue) (is : IsNets n) (i : ℕ) (name : List ℕ) (k : ℕ) → Some k ≡ slot_number n i name → k < most_weight
@@ -23,18 +19,7 @@ option_apart slots k number (Some j) h = ap (option_and_then (λ (o : Option Fla
 
 pub with_slot-table : (n : NetsValue) (is : IsNets n) (i : ℕ) (name : List ℕ) (k : ℕ) (number : FlatNet) → slot_number n i name ≡ Some k → (j : ℕ) (other : List ℕ)
     → table_of (with_slot n k number) j other ≡ with_net (table_of n) i name number j other
-with_slot-table n is i name k number e j other = elim (cases_Bool (eqb j i && bytes_eq other name)) [
-  | inl t ↦ (let b = and_parts (eqb j i) (bytes_eq other name) t in
-      let place : j ≡ i = eqb-true j i b.0 in
-      let same : other ≡ name = (bytes_decides other name).0 b.1 in
-      let here : slot_number n j other ≡ Some k = ap (λ x. slot_number n x other) place ∙ ap (slot_number n i) same ∙ e in
-      ap (slot_at (slice_set n.slots k (Some number))) here ∙ ap (option_and_then (λ (o : Option FlatNet). o)) (set_here n.slots k (Some number) (is.within i name k e))
-      ∙ sym (cond-true (eqb j i && bytes_eq other name) (Some number) (table_of n j other) t))
-  | inr f ↦ option_apart n.slots k number (slot_number n j other) (λ g.
-      let q = is.apart i j name other k e g in
-      both_ways (eqb j i && bytes_eq other name) f (and_from (eqb j i) (bytes_eq other name) (eq-eqb j i (sym q.0)) ((bytes_decides other name).1 (sym q.1))))
-      ∙ sym (cond-false (eqb j i && bytes_eq other name) (Some number) (table_of n j other) f)
-]
+with_slot-table n is i name k number e j other = search (rules, cases_Bool, eqb, bytes_eq, and_parts, eqb-true, bytes_decides, slot_number, slot_at, slice_set, option_and_then, set_here, cond-true, table_of, option_apart, both_ways, and_from, eq-eqb, cond-false)
 
 -- and names keep their own slots
 pub with_slot-nets : (n : NetsValue) (k : ℕ) (number : FlatNet) → IsNets n → IsNets (with_slot n k number)
@@ -93,9 +78,7 @@ module _ (library : LibraryValue) (instances : List Instance) (are : AreInstance
   none_found e = found None e
 
   pub input_found : (inputs : List (List ℕ)) → ((main : ModelValue) → model_at library [] ≡ Some main → inputs ≡ inputs_of main) → (j : ℕ) → table_of nets row name ≡ Some (Input j) → ByInput library inputs path name j
-  input_found inputs inputs_are j e =
-      let r = found (Some (Input j)) e in
-      subst (λ l. ByInput library l path name j) (sym (inputs_are are.main are.first)) (by_number library (net_places library are.main (paths_of instances)) path name (Input j) r.net r.drives r.numbered)
+  input_found inputs inputs_are j e = grind (arith, found, by_number, net_places, paths_of)
 
   pub latch_found : (k : ℕ) → table_of nets row name ≡ Some (Latch k) → ByPlace library latch_of (places_at library is_latch (paths_of instances)) path name k
   latch_found k e = let r = found (Some (Latch k)) e in by_number library (net_places library are.main (paths_of instances)) path name (Latch k) r.net r.drives r.numbered
@@ -114,32 +97,16 @@ Table = ℕ → List ℕ → Option FlatNet
 
 -- a number that is put in stands there, and nothing is lost
 pub with_net-known : (table : Table) (i : ℕ) (name : List ℕ) (number : FlatNet) → with_net table i name number i name ≡ None → ⊥
-with_net-known table i name number =
-    λ b. none-some number (sym b ∙ cond-true (eqb i i && bytes_eq name name) (Some number) (table i name) (and_from (eqb i i) (bytes_eq name name) (eq-eqb i i refl) ((bytes_decides name name).1 refl)))
+with_net-known table i name number = grind (arith, none-some, cond-true, eqb, bytes_eq, and_from, eq-eqb, bytes_decides)
 
 pub with_net-kept : (table : Table) (i : ℕ) (name : List ℕ) (number : FlatNet) → IsKeptIn table (with_net table i name number)
-with_net-kept table i name number = record {
-  each = λ j other known. elim (cases_Bool (eqb j i && bytes_eq other name)) [
-    | inl t ↦ λ b. none-some number (sym b ∙ (cond-true (eqb j i && bytes_eq other name) (Some number) (table j other) t))
-    | inr f ↦ (λ n. known (sym (cond-false (eqb j i && bytes_eq other name) (Some number) (table j other) f) ∙ n))
-  ];
-}
+with_net-kept table i name number = search (rules, cases_Bool, eqb, bytes_eq, none-some, cond-true, cond-false)
 
 module _ (library : LibraryValue) (at : Places) (paths : List Path) where
   -- a right number may be put in
   pub sound_with : (table : Table) (i : ℕ) (path : Path) (name : List ℕ) (number : FlatNet) → IsSoundTable library at paths table → slice_get paths i ≡ Some path → IsNetOf library at path name number
       → IsSoundTable library at paths (with_net table i name number)
-  sound_with table i path name number sound e o = record {
-    each = λ j p other n f g. elim (cases_Bool (eqb j i && bytes_eq other name)) [
-      | inl t ↦ (let b = and_parts (eqb j i) (bytes_eq other name) t in
-          let place : j ≡ i = eqb-true j i b.0 in
-          let same : name ≡ other = sym ((bytes_decides other name).0 b.1) in
-          let there : path ≡ p = same_Some path p (sym e ∙ subst (λ x. slice_get paths x ≡ Some p) place f) in
-          let it : number ≡ n = same_Some number n (sym (cond-true (eqb j i && bytes_eq other name) (Some number) (table j other) t) ∙ g) in
-          subst (λ x. IsNetOf library at p other x) it (subst (λ x. IsNetOf library at p x number) same (subst (λ x. IsNetOf library at x name number) there o)))
-      | inr t ↦ sound.each j p other n f (sym (cond-false (eqb j i && bytes_eq other name) (Some number) (table j other) t) ∙ g)
-    ];
-  }
+  sound_with table i path name number sound e o = search (rules, cases_Bool, eqb, bytes_eq, and_parts, eqb-true, bytes_decides, same_Some, cond-true, cond-false)
 
 -- a table without numbers
 pub sound_empty : (library : LibraryValue) (at : Places) (paths : List Path) (table : Table) → ((i : ℕ) (name : List ℕ) → table i name ≡ None) → IsSoundTable library at paths table
@@ -163,15 +130,7 @@ module _ (library : LibraryValue) (paths : List Path) where
   -- one more instance is done
   pub inputs_step : (table next : Table) (t : ℕ) (path : Path) (m : ModelValue) → HasInputs library paths table t → IsKeptIn table next → slice_get paths t ≡ Some path → model_at library path ≡ Some m
       → ((name : List ℕ) → IsTrue (is_input m name) → next t name ≡ None → ⊥) → HasInputs library paths next (suc t)
-  inputs_step table next t path m inputs kept here there all = record {
-    each = λ i p x name h e g is n. elim (before_or_at i t h) [
-      | inl b ↦ kept.each i name (inputs.each i p x name b e g is) n
-      | inr q ↦ (let f : slice_get paths t ≡ Some p = subst (λ y. slice_get paths y ≡ Some p) q e in
-          let same : p ≡ path = same_Some p path (sym f ∙ here) in
-          let model : x ≡ m = same_Some x m (sym g ∙ ap (model_at library) same ∙ there) in
-          all name (subst (λ y. IsTrue (is_input y name)) model is) (subst (λ y. next y name ≡ None) q n))
-    ];
-  }
+  inputs_step table next t path m inputs kept here there all = search (rules, before_or_at, same_Some, model_at, is_input)
 
   pub outputs_step : (table next : Table) (t : ℕ) → HasOutputs library paths table (suc t) → IsKeptIn table next
       → ((i : ℕ) (path : Path) (k : ℕ) (pair : Connection) (a : ConnectionAt library path k pair) → IsTrue (is_output a.child pair.formal) → slice_get paths i ≡ Some path → slice_get paths t ≡ Some (k ∷ path) → next i pair.actual ≡ None → ⊥)

@@ -11,39 +11,20 @@ use Rattle.netlist.proofs.NetLemmas.{no_input}
 own_at : (kind : Body → Bool) (path : Path) (i : ℕ) (cs : List Command) (j : ℕ) (c : Command) → slice_get cs j ≡ Some c → IsTrue (kind c.body)
     → slice_get (own_places kind path i cs) (kind_count kind (take j cs)) ≡ Some (place_of path (i + j))
 own_at kind path i [] j c e t = absurd (none-some c e)
-own_at kind path i (d ∷ cs) zero c e t =
-    let n : i ≡ i + 0 = omega arith in
-    let y : kind d.body ≡ true = ap (λ (b : Command). kind b.body) (same_Some d c e) ∙ t in
-    subst (λ l. slice_get l 0 ≡ Some (place_of path (i + 0))) (sym (cond-true (kind d.body) (place_of path i ∷ own_places kind path (suc i) cs) (own_places kind path (suc i) cs) y)) (ap (λ x. Some (place_of path x)) n)
-own_at kind path i (d ∷ cs) (suc j) c e t =
-    let n : suc i + j ≡ i + suc j = omega arith in
-    let count : ℕ = kind_count kind (take j cs) in
-    let r : slice_get (own_places kind path (suc i) cs) count ≡ Some (place_of path (i + suc j)) = own_at kind path (suc i) cs j c e t ∙ ap (λ x. Some (place_of path x)) n in
-    elim (cases_Bool (kind d.body)) [
-      | inl y ↦ (let one : suc count ≡ 1 + count = omega arith in
-          rw y (subst (λ x. slice_get (place_of path i ∷ own_places kind path (suc i) cs) x ≡ Some (place_of path (i + suc j))) one r))
-      | inr y ↦ (let none : count ≡ 0 + count = omega arith in
-          rw y (subst (λ x. slice_get (own_places kind path (suc i) cs) x ≡ Some (place_of path (i + suc j))) none r))
-    ]
+own_at kind path i (d ∷ cs) zero c e t = grind arith
+own_at kind path i (d ∷ cs) (suc j) c e t = grind (arith, kind_count, own_places, place_of, cases_Bool, own_at kind path (suc i) cs j c e t)
 
 module _ (library : LibraryValue) where
   -- the instances before one have its base as the number of their places, and its own ones stand behind them
   places_own : (kind : Body → Bool) (paths : List Path) (i : ℕ) (path : Path) (m : ModelValue) → slice_get paths i ≡ Some path → model_at library path ≡ Some m
       → (n : ℕ) (p : Place) → slice_get (own_places kind path 0 m.commands) n ≡ Some p → slice_get (places_at library kind paths) (base_of library kind paths i + n) ≡ Some p
   places_own kind [] i path m e at n p q = absurd (none-some path e)
-  places_own kind (x ∷ paths) zero path m e at n p q =
-      let same : path ≡ x = sym (same_Some x path e) in
-      let there : model_at library x ≡ Some m = subst (λ y. model_at library y ≡ Some m) same at in
-      let own : slice_get (own_places kind x 0 m.commands) n ≡ Some p = subst (λ y. slice_get (own_places kind y 0 m.commands) n ≡ Some p) same q in
-      let r : slice_get (model_places kind x (model_at library x)) n ≡ Some p = ap (λ o. slice_get (model_places kind x o) n) there ∙ own in
-      let zero_first : n ≡ 0 + n = omega arith in
-      subst (λ k. slice_get (places_at library kind (x ∷ paths)) k ≡ Some p) zero_first (get_left (model_places kind x (model_at library x)) (places_at library kind paths) n p r)
+  places_own kind (x ∷ paths) zero path m e at n p q = grind (arith, same_Some, model_at, own_places, model_places, places_at, get_left)
   places_own kind (x ∷ paths) (suc i) path m e at n p q =
       let these : List Place = model_places kind x (model_at library x) in
       let r : slice_get (places_at library kind paths) (base_of library kind paths i + n) ≡ Some p = places_own kind paths i path m e at n p q in
-      let s : slice_get (these ++ places_at library kind paths) (length these + (base_of library kind paths i + n)) ≡ Some p = get_right these (places_at library kind paths) (base_of library kind paths i + n) p r in
       let k : length these + (base_of library kind paths i + n) ≡ length (these ++ places_at library kind (take i paths)) + n = omega (arith, length-append these (places_at library kind (take i paths))) in
-      subst (λ j. slice_get (these ++ places_at library kind paths) j ≡ Some p) k s
+      subst (λ j. slice_get (these ++ places_at library kind paths) j ≡ Some p) k (get_right these (places_at library kind paths) (base_of library kind paths i + n) p r)
 
   pub gate_place_at : (kind : Body → Bool) (paths : List Path) (i : ℕ) (path : Path) (m : ModelValue) (c : ℕ) (command : Command) → slice_get paths i ≡ Some path → model_at library path ≡ Some m
       → slice_get m.commands c ≡ Some command → IsTrue (kind command.body) → slice_get (places_at library kind paths) (own_number library kind paths i m c) ≡ Some (place_of path c)
@@ -75,11 +56,7 @@ pub record HasParent (paths : List Path) (row : Instance) (k : ℕ) (outer : Pat
 
 parent_path : (paths : List Path) (row : Instance) (k : ℕ) (outer : Path) (p : ℕ) (o : Option Path) → row.parent ≡ Some p → slice_get paths p ≡ o → path_under row.ordinal o ≡ k ∷ outer → HasParent paths row k outer
 parent_path paths row k outer p None is at e = absurd (cc)
-parent_path paths row k outer p (Some q) is at e =
-    let f : row.ordinal ∷ q ≡ k ∷ outer = e in
-    let same : q ≡ outer = cc in
-    let number : row.ordinal ≡ k = cc in
-    record { place = p; parent = is; ordinal = number; at = at ∙ ap Some same }
+parent_path paths row k outer p (Some q) is at e = grind arith
 
 parent_from : (paths : List Path) (row : Instance) (k : ℕ) (outer : Path) (parent : Option ℕ) → row.parent ≡ parent → path_under row.ordinal (option_and_then (slice_get paths) parent) ≡ k ∷ outer → HasParent paths row k outer
 parent_from paths row k outer None is e = absurd (let f : ◌≡◌ {A = Path} [] (k ∷ outer) = e in cc)
@@ -94,8 +71,7 @@ module _ (library : LibraryValue) (instances : List Instance) (are : AreInstance
   parent_earlier i j k outer e f =
       let row = item_there (paths_of instances) instances j (k ∷ outer) (paths_of-length instances) f in
       let r : IsRow library (paths_of instances) j row.0 = are.each j row.0 row.1 in
-      let same : k ∷ outer ≡ r.path = same_Some (k ∷ outer) r.path (sym f ∙ r.at) in
-      let h : HasParent (paths_of instances) row.0 k outer = has_parent (paths_of instances) row.0 k outer (sym r.is ∙ sym same) in
+      let h : HasParent (paths_of instances) row.0 k outer = has_parent (paths_of instances) row.0 k outer (sym r.is ∙ sym (same_Some (k ∷ outer) r.path (sym f ∙ r.at))) in
       omega (arith, apart_once (paths_of instances) h.place i outer (instances_apart library are.order) h.at e, r.earlier h.place h.parent)
 
   -- every instance has a place

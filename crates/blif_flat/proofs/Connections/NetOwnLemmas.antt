@@ -114,7 +114,6 @@ module _ (library : LibraryValue) (main : ModelValue) (instances : List Instance
       let k : IsCommandOf g (p.0).path b = gate_command g (p.0).path b at.row h in
       let is : body_at k.model (p.0).command ≡ Some b = ap (body_at k.model) (sym at.command) ∙ k.is in
       let d = drives b p.0 k.model name t k.there is in
-      let z : i ≡ 0 + i = omega arith in
       record {
         path = (p.0).path;
         here = at.row;
@@ -123,7 +122,7 @@ module _ (library : LibraryValue) (main : ModelValue) (instances : List Instance
         named =
             let c = command_of (slice_get (k.model).commands (p.0).command) b is in
             commands_within k.model name (command_named (k.model).commands (p.0).command c.0 name c.1 (subst (λ x. In (body_names x) name) (sym c.2) d.0));
-        right = record { net = net p.0; drives = d.1; numbered = subst (λ j. IsNumbered (net_places library main (paths_of instances)) (net p.0) (number j)) z (numbered i p.0 p.1) };
+        right = record { net = net p.0; drives = d.1; numbered = subst (λ j. IsNumbered (net_places library main (paths_of instances)) (net p.0) (number j)) (omega arith) (numbered i p.0 p.1) };
       })
 
   cover_drives : (b : Body) (p : Place) (m : ModelValue) (name : List ℕ) → output_of_cover b ≡ Some name → model_at library p.path ≡ Some m → body_at m p.command ≡ Some b → In (body_names b) name × Drives library p.path name (cover_net p.path p.command)
@@ -160,13 +159,11 @@ module _ (library : LibraryValue) (main : ModelValue) (instances : List Instance
       → slice_get (paths_of instances) i ≡ Some path → model_at library path ≡ Some m → body_at m c ≡ Some b → IsTrue (kind b) → IsGateOf gates i c b
   gate_of kind gates stand i path m c b here there is t =
       let command = command_of (slice_get m.commands c) b is in
-      let number : ℕ = own_number library kind (paths_of instances) i m c in
-      let place : slice_get (places_at library kind (paths_of instances)) number ≡ Some (place_of path c) =
-      gate_place_at library kind (paths_of instances) i path m c command.0 here there command.1 (ap kind command.2 ∙ t) in
-      let g = item_there (places_at library kind (paths_of instances)) gates number (place_of path c) (sym stand.count) place in
-      let stands : IsGateAt (paths_of instances) g.0 (place_of path c) = stand.each number g.0 (place_of path c) g.1 place in
+      let place = gate_place_at library kind (paths_of instances) i path m c command.0 here there command.1 (ap kind command.2 ∙ t) in
+      let g = item_there (places_at library kind (paths_of instances)) gates _ (place_of path c) (sym stand.count) place in
+      let stands : IsGateAt (paths_of instances) g.0 (place_of path c) = stand.each _ g.0 (place_of path c) g.1 place in
       record {
-        number = number;
+        number = _;
         gate = g.0;
         at = g.1;
         row = apart_once (paths_of instances) (g.0).row i path (instances_apart library are.order) stands.row here;
@@ -202,8 +199,7 @@ module _ (library : LibraryValue) (main : ModelValue) (instances : List Instance
 
   place_known : (n : NetsValue) → IsNets n → HasSlots library (paths_of instances) n → (name : List ℕ) (o : Option ℕ) → index_place (inputs_of main) name ≡ o → IsTrue (is_input main name) → table_of (with_place n name o) 0 name ≡ None → ⊥
   place_known n is slots name None e t g =
-      let has : is_some (index_place (inputs_of main) name) ≡ true = place_some (inputs_of main) name ∙ in_has (inputs_of main) name (input_in main name t) in
-      false≢true (sym (ap is_some e) ∙ has)
+      false≢true (sym (ap is_some e) ∙ (place_some (inputs_of main) name ∙ in_has (inputs_of main) name (input_in main name t)))
   place_known n is slots name (Some j) e t g = named_known library at (paths_of instances) n is slots 0 (Some name) name (InputNumber j) refl (input_own name j e) g
 
   pub main_next : (names : List (List ℕ)) (n : NetsValue) → IsNets n → IsSoundTable library at (paths_of instances) (table_of n) → IsNext library at (paths_of instances) n (with_inputs (inputs_of main) n names)
@@ -219,9 +215,8 @@ module _ (library : LibraryValue) (main : ModelValue) (instances : List Instance
   main_known (x ∷ names) n is sound slots name (inl e) t g =
       let middle : NetsValue = with_place n x (index_place (inputs_of main) x) in
       let one : IsNext library at (paths_of instances) n middle = place_next n is sound x (index_place (inputs_of main) x) refl in
-      let rest : IsNext library at (paths_of instances) middle (with_inputs (inputs_of main) middle names) = main_next names middle one.nets one.sound in
       let known : table_of middle 0 x ≡ None → ⊥ = place_known n is slots x (index_place (inputs_of main) x) refl (subst (λ y. IsTrue (is_input main y)) e t) in
-      rest.kept.each 0 name (subst (λ y. table_of middle 0 y ≡ None → ⊥) (sym e) known) g
+      (main_next names middle one.nets one.sound).kept.each 0 name (subst (λ y. table_of middle 0 y ≡ None → ⊥) (sym e) known) g
   main_known (x ∷ names) n is sound slots name (inr i) t g =
       let middle : NetsValue = with_place n x (index_place (inputs_of main) x) in
       let one : IsNext library at (paths_of instances) n middle = place_next n is sound x (index_place (inputs_of main) x) refl in

@@ -54,8 +54,7 @@ module _ (names : List (List (List ℕ))) where
 
   slots_below : (instances : List Instance) (first i : ℕ) (name : List ℕ) (k : ℕ) → slot_in (starts_from names first instances) i name ≡ Some k → k < first + slot_count names instances
   slots_below [] first i name k e = absurd (none-some k e)
-  slots_below (row ∷ instances) first zero name k e =
-      omega (arith, slot_below names (record { model = row.model; first = first }) name k (slot_parts names (record { model = row.model; first = first }) name k e))
+  slots_below (row ∷ instances) first zero name k e = grind arith
   slots_below (row ∷ instances) first (suc i) name k e = let h : k < (first + name_count names row.model) + slot_count names instances = slots_below instances (first + name_count names row.model) i name k e in omega arith
 
   -- each name of each row has its own slot
@@ -84,9 +83,8 @@ module _ (names : List (List (List ℕ))) where
 
 -- slots without nets
 none_at : (n k : ℕ) → option_and_then (λ (o : Option FlatNet). o) (slice_get (replicate n None) k) ≡ None
-none_at zero k = refl
-none_at (suc n) zero = refl
 none_at (suc n) (suc k) = none_at n k
+none_at n k = refl
 
 no_net : (n : ℕ) (o : Option ℕ) → slot_at (replicate n None) o ≡ None
 no_net n None = refl

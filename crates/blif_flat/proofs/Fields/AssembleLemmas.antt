@@ -1,5 +1,5 @@
 -- The parts of a flat circuit make its fields.
-use Rattle.blif_flat.proofs.Common.{◌≡◌, ℕ, ◌≤◌, List, [], ◌++◌, map, length, reverse, filter, Some, refl, sym, ap, ◌∙◌, subst, subst₂, arith, Bool, Option, not, slice_get, same_Some, length-map, ◌<◌, inl, inr, is_some, option_map, slice_get_within, slice_get-map, In, In-get, at_within, apart_once, reversed_in, in_reversed, nodes_done, LibraryValue, CoverValue, Places, none, more, FlatCoverValue, FlatValue, behind_is, nodes_only, nodes_after, reversed_forward, reversed_apart, reads_earlier, filtered_apart, length-filter_le, ModelValue, Path, model_at, inputs_of, is_cover, is_latch, Circuit, ClockNets, Instance, OutPort, FlatLatch, paths_of, IsLight, places_at, is_gate, input_name, clock_test, cover_reads, PostsAll, most_weight, own_weight, AreNetsOf, IsControl, with_control_net, most_underscores, IsFlat, regular_numbers, IsRegular, regular_places, AreFlatCovers, AreFlatLatches, IsLogic, AreCounted, root_numbers, IsCircuit, AreClockNets, input_ports, AreOnce, IsWellFormed, FlatNet as Net, IsNumbered, an_input, a_latch, a_cover, reads_at, IsFlatLatch, IsThere, IsWithinBounds}
+use Rattle.blif_flat.proofs.Common.{◌≡◌, ℕ, ◌≤◌, List, [], ◌++◌, map, length, reverse, filter, Some, refl, sym, ap, ◌∙◌, subst, subst₂, arith, Bool, Option, not, slice_get, same_Some, length-map, ◌<◌, inl, inr, is_some, option_map, slice_get_within, slice_get-map, In, In-get, at_within, apart_once, reversed_in, in_reversed, nodes_done, LibraryValue, CoverValue, Places, none, more, FlatCoverValue, FlatValue, behind_is, nodes_only, nodes_after, reversed_forward, reversed_apart, reads_earlier, filtered_apart, length-filter_le, ModelValue, Path, model_at, inputs_of, is_cover, is_latch, Circuit, ClockNets, Instance, OutPort, FlatLatch, paths_of, IsLight, places_at, is_gate, input_name, clock_test, cover_reads, PostsAll, most_weight, own_weight, AreNetsOf, IsControl, with_control_net, most_underscores, IsFlat, regular_numbers, IsRegular, regular_places, AreFlatCovers, AreFlatLatches, IsLogic, AreCounted, root_numbers, IsCircuit, AreClockNets, input_ports, AreOnce, IsWellFormed, FlatNet as Net, IsNumbered, an_input, a_latch, a_cover, reads_at, IsFlatLatch, IsThere, IsWithinBounds, rules}
 use Rattle.blif_flat.proofs.Clocking.ControlLemmas.{data-output, data-clock}
 use Rattle.blif_flat.proofs.Hierarchy.OrderLemmas.{rows_order}
 use Rattle.blif_flat.proofs.Fields.NumberWalkLemmas.{flat_walked, in_range, root_below, IsHere, here}

@@ -15,16 +15,11 @@ kept_next : {A : Type 0} (test : A → Bool) (n : ℕ) (y : A) (ys : List A) (j 
 kept_next test n y ys j x true e rest = let r = rest n in record { place = r.place; number = rw e r.number; at = rw e r.at }
 kept_next test n y ys j x false e rest =
     let r = rest (1 + n) in
-    let z : 1 + n + r.place ≡ n + suc r.place = omega arith in
-    record { place = suc r.place; number = rw e (r.number ∙ ap Some z); at = rw e r.at }
+    record { place = suc r.place; number = rw e (r.number ∙ ap Some (omega arith)); at = rw e r.at }
 
 kept_at : {A : Type 0} (test : A → Bool) (n : ℕ) (xs : List A) (j : ℕ) (x : A) → slice_get xs j ≡ Some x → test x ≡ false → IsKept test n xs j x
 kept_at test n [] j x e off = absurd (none-some x e)
-kept_at test n (y ∷ ys) zero x e off =
-    let same : y ≡ x = same_Some y x e in
-    let here : test y ≡ false = ap test same ∙ off in
-    let z : n ≡ n + 0 = omega arith in
-    record { place = 0; number = ap Some z; at = rw here (ap Some same) }
+kept_at test n (y ∷ ys) zero x e off = grind arith
 kept_at test n (y ∷ ys) (suc j) x e off = kept_next test n y ys j x (test y) refl (λ m. kept_at test m ys j x e off)
 
 -- what a test passes in every case is left out
@@ -62,9 +57,7 @@ module _ (library : LibraryValue) (numbers : List ℕ) (r : IsRegular library nu
       → IsNumbered (regular_places library r.main r.test paths) e (renumbered numbers (Input j))
   input_renumbered paths name j e q g f =
       let k = kept_at r.test 0 (inputs_of r.main) j name g f in
-      let z : 0 + k.place ≡ k.place = omega arith in
-      let number : slice_get numbers j ≡ Some k.place = ap (λ l. slice_get l j) r.numbers_are ∙ k.number ∙ ap Some z in
-      an_input name k.place q (ap (λ l. slice_get l k.place) (sym unmarked_inputs) ∙ k.at) (ap (λ o. Input (number_or_zero o)) number)
+      an_input name k.place q (ap (λ l. slice_get l k.place) (sym unmarked_inputs) ∙ k.at) (ap (λ o. Input (number_or_zero o)) (ap (λ l. slice_get l j) r.numbers_are ∙ k.number ∙ ap Some (omega arith)))
 
   net_renumbered : (paths : List Path) (e : Net) (number : FlatNet) → IsNumbered (net_places library r.main paths) e number → ((name : List ℕ) → e ≡ input_net name → IsClock library name → ⊥)
       → IsNumbered (regular_places library r.main r.test paths) e (renumbered numbers number)
@@ -112,8 +105,7 @@ module _ (library : LibraryValue) (instances : List Instance) (are : AreInstance
   pub cover_there : (p : Place) → In (places_at library is_cover (paths_of instances)) p → (c : CoverValue) × CoverAt library p.path p.command c
   cover_there p i =
       let o : IsOfKind library is_cover p = flat_only library is_cover are.main (places_at library is_cover (paths_of instances)) are.first (order_places library is_cover are.order are.first) p i in
-      let c = is_cover-some o.body o.kind_is in
-      (c.0, record { model = o.model; at = o.at; is = o.is ∙ ap Some c.1 })
+      ((is_cover-some o.body o.kind_is).0, record { model = o.model; at = o.at; is = o.is ∙ ap Some (is_cover-some o.body o.kind_is).1 })
 
   module _ (driven : IsDriven library) (numbers : List ℕ) (r : IsRegular library numbers) (n : NetsValue) (nets : AreAllNets library instances n) where
     abbrev gates_at : Places
@@ -197,8 +189,7 @@ module _ (library : LibraryValue) (instances : List Instance) (are : AreInstance
   output_driven name i = elim (cases_Bool (is_input r.main name)) [
     | inl t ↦ (input_net name, main_input refl (record { model = r.main; at = r.is_main; is = t }) refl)
     | inr f ↦ (
-        let out : is_output r.main name ≡ true = and_from (not (is_input r.main name)) (has_name r.main.outputs name) (ap not f) (in_has r.main.outputs name i) in
-        let d = driven.driven [] name (model_output r.main r.is_main out) in
+        let d = driven.driven [] name (model_output r.main r.is_main (and_from (not (is_input r.main name)) (has_name r.main.outputs name) (ap not f) (in_has r.main.outputs name i))) in
         net_of_driver library driven [] name d.0 d.1)
   ]
 
@@ -231,10 +222,7 @@ unmarked_next kept (x ∷ xs) (m ∷ ms) (suc i) name e = unmarked_next kept xs 
 
 pub unmarked_step : (kept new whole names : List (List ℕ)) (marks : List Bool) (i : ℕ) (name : List ℕ) → i < length names → name ≡ get_or names i name → new ≡ with_unmarked kept (slice_get marks i) name
     → unmarked_after kept (drop i names) (drop i marks) ≡ whole → unmarked_after new (drop (i + 1) names) (drop (i + 1) marks) ≡ whole
-unmarked_step kept new whole names marks i name h e f g =
-    let next : suc i ≡ i + 1 = omega arith in
-    subst (λ j. unmarked_after new (drop j names) (drop j marks) ≡ whole) next
-    (ap (λ k. unmarked_after k (drop (suc i) names) (drop (suc i) marks)) f ∙ unmarked_next kept names marks i name (slice_get_read names (length names) i name refl h e) ∙ g)
+unmarked_step kept new whole names marks i name h e f g = grind (arith, unmarked_after, unmarked_next, slice_get_read)
 
 unmarked_head : (test : List ℕ → Bool) (kept : List (List ℕ)) (name : List ℕ) (names : List (List ℕ)) (b : Bool) → test name ≡ b
     → with_unmarked kept (Some b) name ++ filter (λ y. not (test y)) names ≡ kept ++ filter (λ y. not (test y)) (name ∷ names)
@@ -248,8 +236,7 @@ unmarked_are test kept (name ∷ names) others = unmarked_are test (with_unmarke
 
 pub regular_names : (test : List ℕ → Bool) (kept given : List (List ℕ)) (marks : List Bool) (m : ModelValue)
     → kept ≡ unmarked_after [] given marks → given ≡ m.inputs → marks ≡ map test (inputs_of m) → kept ≡ filter (λ name. not (test name)) m.inputs
-regular_names test kept given marks m e f g =
-    e ∙ ap₂ (unmarked_after []) f g ∙ unmarked_are test [] m.inputs (filter (λ name. not (has_name m.inputs name)) m.clocks)
+regular_names test kept given marks m e f g = grind (arith, ap₂, unmarked_after, unmarked_are, filter, has_name)
 
 pub most_of_three : (xs ys zs : List (List ℕ)) (a b c : ℕ) → a ≡ max 0 (most_underscores xs) → b ≡ max a (most_underscores ys) → c ≡ max b (most_underscores zs) → c ≡ most_underscores (xs ++ (ys ++ zs))
 most_of_three xs ys zs a b c e f g = omega (arith, most-append xs (ys ++ zs) ∙ ap (max (most_underscores xs)) (most-append ys zs))

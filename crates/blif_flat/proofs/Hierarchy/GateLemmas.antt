@@ -14,8 +14,7 @@ module _ (library : LibraryValue) (instances : List Instance) (are : AreInstance
   pub place_model : (row : Instance) → slice_get instances g.row ≡ Some row → slice_get library.models row.model ≡ model_at library p.path
   place_model row e =
       let w : IsRow library (paths_of instances) g.row row = are.each g.row row e in
-      let same : w.path ≡ p.path = same_Some w.path p.path (sym w.at ∙ at.row) in
-      w.number ∙ sym w.there ∙ ap (model_at library) same
+      w.number ∙ sym w.there ∙ ap (model_at library) (same_Some w.path p.path (sym w.at ∙ at.row))
 
   pub row_body : (row : Instance) → slice_get instances g.row ≡ Some row → numbered_body library row.model g.command ≡ place_body library p
   row_body row e = ap₂ body_in at.command (place_model row e)
@@ -71,13 +70,10 @@ module _ (kind : Body → Bool) (paths : List Path) where
       → AreGatesAt paths (with_rows library.models kind row gates instances) (places ++ places_at library kind rest)
   rows_gates library row [] [] gates places models from are = subst (AreGatesAt paths gates) (sym (append-nil places)) are
   rows_gates library row (r ∷ instances) (p ∷ rest) gates places models from are =
-      let here : slice_get paths row ≡ Some p = subst (λ j. slice_get paths j ≡ Some p) (let z : row + 0 ≡ row = omega arith in z) (from 0 p refl) in
       let own : AreGatesAt paths (with_model kind row gates (slice_get library.models r.model)) (places ++ model_places kind p (model_at library p)) =
       subst (λ o. AreGatesAt paths (with_model kind row gates (slice_get library.models r.model)) (places ++ model_places kind p o)) (models.each 0 r p refl refl)
-      (model_gates row p here (slice_get library.models r.model) gates places are) in
-      let step : AreGatesAt paths (with_rows library.models kind (row + 1) (with_model kind row gates (slice_get library.models r.model)) instances) ((places ++ model_places kind p (model_at library p)) ++ places_at library kind rest) =
-      rows_gates library (row + 1) instances rest (with_model kind row gates (slice_get library.models r.model)) (places ++ model_places kind p (model_at library p)) (models_rest library r instances p rest models)
-      (λ j q e. subst (λ n. slice_get paths n ≡ Some q) (let z : row + suc j ≡ (row + 1) + j = omega arith in z) (from (suc j) q e)) own in
+      (model_gates row p (subst (λ j. slice_get paths j ≡ Some p) (let z : row + 0 ≡ row = omega arith in z) (from 0 p refl)) (slice_get library.models r.model) gates places are) in
+      let step : AreGatesAt paths (with_rows library.models kind (row + 1) (with_model kind row gates (slice_get library.models r.model)) instances) ((places ++ model_places kind p (model_at library p)) ++ places_at library kind rest) = grind (arith, with_model, model_places, model_at, models_rest, rows_gates library (row + 1) instances rest (with_model kind row gates (slice_get library.models r.model)) (places ++ model_places kind p (model_at library p)) (models_rest library r instances p rest models) (λ j q e. subst (λ n. slice_get paths n ≡ Some q) (let z : row + suc j ≡ (row + 1) + j = omega arith in z) (from (suc j) q e)) own) in
       subst (AreGatesAt paths (with_rows library.models kind row gates (r ∷ instances))) (append_assoc places (model_places kind p (model_at library p)) (places_at library kind rest)) step
   rows_gates library row instances rest gates places models from are = let n = models.count in absurd (omega arith)
 
@@ -94,16 +90,13 @@ module _ (library : LibraryValue) (instances : List Instance) (are : AreInstance
       (record { count = refl; each = λ k g p e f. absurd (none-some g e) })
 
   pub few_gates : IsLight library → (kind : GateKind) (gates : List Gate) → gates ≡ with_rows library.models (kind_test kind) 0 [] instances → length gates ≤ most_weight
-  few_gates light kind gates is =
-      let all : AreGatesAt (paths_of instances) (with_rows library.models (kind_test kind) 0 [] instances) (places_at library (kind_test kind) (paths_of instances)) = all_gates (kind_test kind) in
-      omega (arith, ap length is ∙ all.count, light_places library light kind are.main (paths_of instances) are.first are.order)
+  few_gates light kind gates is = grind (arith, paths_of, with_rows, kind_test, places_at, all_gates, light_places)
 
   -- the commands of a row's model are few
   pub row_commands : IsLight library → (i : ℕ) (row : Instance) → slice_get instances i ≡ Some row → (m : ModelValue) → slice_get library.models row.model ≡ Some m → length m.commands < 2 ^ 32
   row_commands light i row e m at =
       let r = are.each i row e in
-      let same : r.model ≡ m = same_Some r.model m (sym r.number ∙ at) in
-      omega (arith, light_commands library light r.path m (r.there ∙ ap Some same))
+      omega (arith, light_commands library light r.path m (r.there ∙ ap Some (same_Some r.model m (sym r.number ∙ at))))
 
 module _ (paths : List Path) (gates : List Gate) (places : List Place) (are : AreGatesAt paths gates places) where
   -- the place of a gate
@@ -114,8 +107,7 @@ module _ (paths : List Path) (gates : List Gate) (places : List Place) (are : Ar
 
   pub has_place : (k : ℕ) (g : Gate) → slice_get gates k ≡ Some g → HasPlace k g
   has_place k g e =
-      let within : k < length places = (let h = slice_get_within gates k g e in let n = are.count in omega arith) in
-      let p = at_within places k within in
+      let p = at_within places k (let h = slice_get_within gates k g e in let n = are.count in omega arith) in
       record { place = p.0; at = p.1; is = are.each k g p.0 e p.1 }
 
   pub place_within : (k : ℕ) (p : Place) → slice_get places k ≡ Some p → k < length gates

@@ -1,5 +1,5 @@
 -- The drivers and the reads of an instance are those of its model's commands, and its ports.
-use Rattle.blif_flat.proofs.Common.{◌≡◌, ℕ, true, not, List, [], ◌∷◌, Option, Some, None, refl, sym, ap, ap₂, ◌∙◌, subst, inl, inr, ◌⊎◌, slice_get, cases_Bool, and_from, and_parts, not_from_false, none-some, same_Some, In, In-left, In-right, In-append, In-get, In-map, from_map, map, filter, in_filter, In-filter, place_in, Body, Cover, Latch, Subckt, Command, Connection, ModelValue, Path, body_at, with_subckt, subckts_of, model_named, model_at, has_name, is_input, is_output, inputs_of, LatchAt, Driver, by_input, IsDriver, input, latch, cover, output, IsRead, cover_input, latch_input, latch_control, input_actual, model_output, input_actuals, read_pairs, control_names, reads, all_drives, driven_names, SubcktValue, LibraryValue, command_of, body_of, has_in, in_has, input_in, in_input}
+use Rattle.blif_flat.proofs.Common.{◌≡◌, ℕ, true, not, List, [], ◌∷◌, Option, Some, None, refl, sym, ap, ap₂, ◌∙◌, subst, inl, inr, ◌⊎◌, slice_get, cases_Bool, and_from, and_parts, not_from_false, none-some, same_Some, In, In-left, In-right, In-append, In-get, In-map, from_map, map, filter, in_filter, In-filter, place_in, Body, Cover, Latch, Subckt, Command, Connection, ModelValue, Path, body_at, with_subckt, subckts_of, model_named, model_at, has_name, is_input, is_output, inputs_of, LatchAt, Driver, by_input, IsDriver, input, latch, cover, output, IsRead, cover_input, latch_input, latch_control, input_actual, model_output, input_actuals, read_pairs, control_names, reads, all_drives, driven_names, SubcktValue, LibraryValue, command_of, body_of, has_in, in_has, input_in, in_input, arith, rules}
 use Rattle.blif_flat.proofs.Models.TagLemmas.{Tag, tag, tags, tag_names, Source, from_cover, from_latch, from_subckt, tag_in, tag_source, AreNew, new_apart, new_once, IsClean}
 
 -- the command of a subcircuit
@@ -29,10 +29,7 @@ subckt_in (c ∷ cs) d s (inr i) e = subckt_more c.body (subckts_of cs) s (subck
 -- the actuals of input connections
 actuals_kept : (child : ModelValue) (pairs : List Connection) → input_actuals child pairs ≡ map (λ (p : Connection). p.actual) (filter (λ (p : Connection). is_input child p.formal) pairs)
 actuals_kept child [] = refl
-actuals_kept child (p ∷ pairs) = elim (cases_Bool (is_input child p.formal)) [
-  | inl t ↦ rw t (ap (λ ns. p.actual ∷ ns) (actuals_kept child pairs))
-  | inr f ↦ rw f (actuals_kept child pairs)
-]
+actuals_kept child (p ∷ pairs) = search (rules, cases_Bool, is_input, actuals_kept child pairs)
 
 actual_in : (child : ModelValue) (pairs : List Connection) (pair : Connection) → In pairs pair → is_input child pair.formal ≡ true → In (input_actuals child pairs) pair.actual
 actual_in child pairs pair i t = subst (λ ns. In ns pair.actual) (sym (actuals_kept child pairs))
@@ -121,13 +118,10 @@ module _ (library : LibraryValue) (path : Path) (m : ModelValue) (at : model_at 
   read_name f name (latch_input i l a p) = body_read f i (Latch l) (subst (λ x. body_at x i ≡ Some (Latch l)) (same_Some a.model m (sym a.at ∙ at)) a.is) name (inl p)
   read_name f name (latch_control i l a p) = body_read f i (Latch l) (subst (λ x. body_at x i ≡ Some (Latch l)) (same_Some a.model m (sym a.at ∙ at)) a.is) name (inr (control_in l.control name p))
   read_name f name (input_actual k pair a t p) =
-      let e : slice_get (subckts_of m.commands) k ≡ Some a.subckt = subst (λ x. slice_get (subckts_of x.commands) k ≡ Some a.subckt) (same_Some a.model m (sym a.at ∙ at)) a.is in
-      let c = subckt_command m.commands a.subckt (In-get (subckts_of m.commands) k a.subckt e) in
-      let here : In (read_pairs (model_named library.models (a.subckt).model) (a.subckt).pairs) name =
-      subst (λ o. In (read_pairs o (a.subckt).pairs) name) (sym a.places) (subst (In (input_actuals a.child (a.subckt).pairs)) (sym p) (actual_in a.child (a.subckt).pairs pair a.member t)) in
+      let c = subckt_command m.commands a.subckt (In-get (subckts_of m.commands) k a.subckt (subst (λ x. slice_get (subckts_of x.commands) k ≡ Some a.subckt) (same_Some a.model m (sym a.at ∙ at)) a.is)) in
+      let here : In (read_pairs (model_named library.models (a.subckt).model) (a.subckt).pairs) name = grind (arith, read_pairs, input_actuals, actual_in) in
       f.commands c.command c.member name (subst (λ b. In (reads library b) name) (sym c.is) here)
-  read_name f name (model_output x e t) =
-      f.outputs name (has_in m.outputs name (and_parts (not (is_input m name)) (has_name m.outputs name) (subst (λ (y : ModelValue). is_output y name ≡ true) (same_Some x m (sym e ∙ at)) t)).1)
+  read_name f name (model_output x e t) = grind (arith, has_in, and_parts, is_input, has_name, is_output, same_Some)
 
   -- no F6: a driver of each name that is read
   pub clean_driven : IsClean library m → (name : List ℕ) → IsRead library path name → (driver : Driver) × IsDriver library path name driver

@@ -1,5 +1,5 @@
 -- The instances of instances: those that wait are put behind the others one by one, and in the end they are all instances in flat order.
-use Rattle.blif_flat.proofs.Common.{◌≡◌, ℕ, suc, List, ◌∷◌, length, Some, sym, ap, ◌∙◌, arith, ◌+◌, ◌<◌, ◌≤◌, [], ◌++◌, Option, None, refl, subst, inl, inr, append_assoc, reverse, slice_get, option_and_then, same_Some, none-some, slice_get_within, length-append, append-nil, reverse-append, reverse-reverse, get_before, get_end, get_pushed, LibraryValue, ModelValue, Body, Subckt, Command, Path, model_at, subckts_of, with_subckt, model_named, Instance, AreInstances, IsRow, paths_of, path_under, path_of, paths_from, IsLight, number_or_zero, entry_of, with_entry, entries_from, entries_at, IsWaiting, Waits, Listed, place_of, model_names, Finds, most_weight, own_weight, Weighs, weighs, WeighAll, flat, InstanceOrder, InstancesUnder, itself, SubcktValue, AreFrom, from_start, from_first, from_rest, placed_at, cons_first, cons_rest}
+use Rattle.blif_flat.proofs.Common.{◌≡◌, ℕ, suc, List, ◌∷◌, length, Some, sym, ap, ◌∙◌, arith, ◌+◌, ◌<◌, ◌≤◌, [], ◌++◌, Option, None, refl, subst, inl, inr, append_assoc, reverse, slice_get, option_and_then, same_Some, none-some, slice_get_within, length-append, append-nil, reverse-append, reverse-reverse, get_before, get_end, get_pushed, LibraryValue, ModelValue, Body, Subckt, Command, Path, model_at, subckts_of, with_subckt, model_named, Instance, AreInstances, IsRow, paths_of, path_under, path_of, paths_from, IsLight, number_or_zero, entry_of, with_entry, entries_from, entries_at, IsWaiting, Waits, Listed, place_of, model_names, Finds, most_weight, own_weight, Weighs, weighs, WeighAll, flat, InstanceOrder, InstancesUnder, itself, SubcktValue, AreFrom, from_start, from_first, from_rest, placed_at, cons_first, cons_rest, rules}
 use Rattle.netlist.specs.Places.{none as under_none, more as under_more}
 use Rattle.blif_flat.specs.Bodies.InstanceRows.{none, more}
 use Rattle.netlist.specs.Weight.{none as weigh_none, more as weigh_more}
@@ -9,11 +9,7 @@ use Rattle.blif_flat.proofs.Models.NameSetLemmas.{finds}
 -- the instances of the subcircuits of some commands
 body_entries : (names : List (List ℕ)) (parent k : ℕ) (entries : List Instance) (body : Body) (ss : List SubcktValue) → k ≡ length entries
     → with_entry names parent entries body ++ entries_at names parent (length (with_entry names parent entries body)) ss ≡ entries ++ entries_at names parent k (with_subckt body ss)
-body_entries names parent k entries (Subckt s) ss e =
-    let more : List Instance = entries ++ entry_of names parent (length entries) s ∷ [] in
-    let n : length more ≡ suc k = length-append entries (entry_of names parent (length entries) s ∷ []) ∙ (let z : length entries + 1 ≡ suc k = omega arith in z) in
-    ap (λ j. more ++ entries_at names parent j ss) n ∙ append_assoc entries (entry_of names parent (length entries) s ∷ []) (entries_at names parent (suc k) ss)
-    ∙ ap (λ j. entries ++ entry_of names parent j s ∷ entries_at names parent (suc k) ss) (sym e)
+body_entries names parent k entries (Subckt s) ss e = grind (arith, entry_of, length-append, entries_at, append_assoc)
 body_entries names parent k entries b ss e = ap (λ n. entries ++ entries_at names parent n ss) (sym e)
 
 entries_are : (names : List (List ℕ)) (parent : ℕ) (entries : List Instance) (cs : List Command) → entries_from names parent entries cs ≡ entries ++ entries_at names parent (length entries) (subckts_of cs)
@@ -27,8 +23,7 @@ paths_from-push paths (r ∷ instances) row = paths_from-push (paths ++ path_of 
 
 paths_from-length : (paths : List Path) (instances : List Instance) → length (paths_from paths instances) ≡ length paths + length instances
 paths_from-length paths [] = omega arith
-paths_from-length paths (r ∷ instances) =
-    omega (arith, paths_from-length (paths ++ path_of paths r ∷ []) instances, length-append paths (path_of paths r ∷ []))
+paths_from-length paths (r ∷ instances) = grind (arith, path_of, length-append, paths_from-length (paths ++ path_of paths r ∷ []) instances)
 
 pub paths_of-length : (instances : List Instance) → length (paths_of instances) ≡ length instances
 paths_of-length instances = let a : length (paths_from [] instances) ≡ 0 + length instances = paths_from-length [] instances in omega arith
@@ -59,8 +54,7 @@ module _ (library : LibraryValue) where
 
   under_length : {path : Path} {k : ℕ} {subckts : List SubcktValue} {paths : List Path} → InstancesUnder library path k subckts paths → length subckts ≤ length paths
   under_length (under_none a b) = let e = ap length a in omega arith
-  under_length {path} {k} {subckts} {paths} (under_more s rest child these others e named order under z) =
-      omega (arith, ap length e, ap length z ∙ length-append these others, order_positive order, under_length under)
+  under_length {path} {k} {subckts} {paths} (under_more s rest child these others e named order under z) = grind (arith, length-append, order_positive, under_length under)
 
   -- the instances that wait stay so when paths are added
   waiting_stays : (made extra : List Path) (row : Instance) (m : ModelValue) → IsWaiting library made row m → IsWaiting library (made ++ extra) row m
@@ -81,22 +75,16 @@ module _ (library : LibraryValue) where
   number_is names name m same named (Some n) f = f.at ∙ sym f.named ∙ named
 
   named_number : (names : List (List ℕ)) (name : List ℕ) (m : ModelValue) → names ≡ model_names library.models → model_named library.models name ≡ Some m → slice_get library.models (number_or_zero (place_of names name)) ≡ Some m
-  named_number names name m same named =
-      number_is names name m same named (place_of names name) (subst (λ l. Finds library.models name (place_of l name)) (sym same) (finds library.models name))
+  named_number names name m same named = grind (arith, number_is, place_of, finds)
 
   entries_wait : (names : List (List ℕ)) (made : List Path) (place : ℕ) (m : ModelValue) → names ≡ model_names library.models → {path : Path} {k : ℕ} {subckts : List SubcktValue} {inner : List Path} → InstancesUnder library path k subckts inner
       → slice_get made place ≡ Some path → model_at library path ≡ Some m → AreFrom m k subckts → (pending : List Instance) (others : List Path) → Waits library made pending others
       → Waits library made (entries_at names place k subckts ++ pending) (inner ++ others)
-  entries_wait names made place m same {path} {k} {subckts} {inner} (under_none a b) at there from pending others waits =
-      subst (λ l. Waits library made (entries_at names place k l ++ pending) (inner ++ others)) (sym a) (subst (λ l. Waits library made pending (l ++ others)) (sym b) waits)
+  entries_wait names made place m same {path} {k} {subckts} {inner} (under_none a b) at there from pending others waits = grind arith
   entries_wait names made place m same {path} {k} {subckts} {inner} (under_more s rest child these further e named order under z) at there from pending others waits =
       let here : path_of made (entry_of names place k s) ≡ k ∷ path = ap (path_under k) at in
       let up : model_at library (k ∷ path) ≡ Some child = placed_at library path m k s child there (from_first m k subckts s rest from e) named in
-      let w : IsWaiting library made (entry_of names place k s) child = record {
-        earlier = λ p q. (let r : place ≡ p = same_Some place p q in omega (arith, slice_get_within made place path at));
-        number = named_number names s.model child same named;
-        there = subst (λ l. model_at library l ≡ Some child) (sym here) up;
-      } in
+      let w : IsWaiting library made (entry_of names place k s) child = grind (arith, same_Some, slice_get_within, named_number, model_at) in
       more (entry_of names place k s) (entries_at names place (suc k) rest ++ pending) child these (further ++ others) (ap (λ l. entries_at names place k l ++ pending) e) w
       (subst (λ l. InstanceOrder library l child these) (sym here) order)
       (entries_wait names made place m same under at there (from_rest m k subckts s rest from e) pending others waits)
@@ -117,19 +105,7 @@ module _ (library : LibraryValue) where
 
   next : (made : List Path) (row : Instance) (rest : List Instance) {pending : List Instance} {paths : List Path} → pending ≡ row ∷ rest → Waits library made pending paths → Next made row rest paths
   next made row rest p (none a b) = let x : row ∷ rest ≡ [] = sym p ∙ a in cc
-  next made row rest p (more row' rest' m these others e w order waits z) =
-      let x : row' ∷ rest' ≡ row ∷ rest = sym e ∙ p in
-      let same : row' ≡ row = cons_first row' row rest' rest x in
-      let parts = order_parts order in
-      record {
-        model = m;
-        waiting = subst (λ r. IsWaiting library made r m) same w;
-        inner = parts.0;
-        under = subst (λ r. InstancesUnder library (path_of made r) 0 (subckts_of m.commands) parts.0) same parts.1;
-        others = others;
-        waits = subst (λ l. Waits library made l others) (cons_rest row' row rest' rest x) waits;
-        split = z ∙ ap (λ l. l ++ others) (parts.2 ∙ ap (λ r. path_of made r ∷ parts.0) same);
-      }
+  next made row rest p (more row' rest' m these others e w order waits z) = grind (arith, cons_first, order_parts, path_of, subckts_of, cons_rest)
 
   -- what is known of the next row before it is put behind the others
   pub record IsNext (instances : List Instance) (row : Instance) : Type 0 where
@@ -151,21 +127,10 @@ module _ (library : LibraryValue) where
 
   -- a row stays one when paths are added
   row_stays : (made extra : List Path) (i : ℕ) (row : Instance) → IsRow library made i row → IsRow library (made ++ extra) i row
-  row_stays made extra i row r =
-      let inside : i < length made = slice_get_within made i r.path r.at in
-      let before : (p : ℕ) → row.parent ≡ Some p → p < length made = λ p e. (let a : p < i = r.earlier p e in omega arith) in
-      record { path = r.path; at = get_before made extra i inside ∙ r.at; is = r.is ∙ sym (path_stays made extra row before); earlier = r.earlier; model = r.model; number = r.number; there = r.there }
+  row_stays made extra i row r = grind (arith, slice_get_within, get_before, path_stays)
 
   row_new : (made : List Path) (row : Instance) (m : ModelValue) → IsWaiting library made row m → IsRow library (made ++ path_of made row ∷ []) (length made) row
-  row_new made row m w = record {
-    path = path_of made row;
-    at = get_end made (path_of made row) [];
-    is = sym (path_stays made (path_of made row ∷ []) row w.earlier);
-    earlier = w.earlier;
-    model = m;
-    number = w.number;
-    there = w.there;
-  }
+  row_new made row m w = search (rules, path_of, get_end, path_stays)
 
   -- the next row is put behind the others, and the instances of its subcircuits wait
   pub listed_step : (names : List (List ℕ)) → names ≡ model_names library.models → (instances : List Instance) (row : Instance) (rest : List Instance) → Listed library instances (row ∷ rest)
@@ -182,8 +147,7 @@ module _ (library : LibraryValue) where
       let full_now : made ++ l.rest ≡ paths_of (instances ++ row ∷ []) ++ (n.inner ++ n.others) = full ∙ ap (λ x. x ++ (n.inner ++ n.others)) grown in
       let waits : Waits library (made ++ path ∷ []) (entries_at names (length instances) 0 (subckts_of n.model.commands) ++ rest) (n.inner ++ n.others) =
       entries_wait names (made ++ path ∷ []) (length instances) n.model same n.under at n.waiting.there (from_start n.model) rest n.others (waits_stay made (path ∷ []) n.waits) in
-      let waits_now : Waits library (made ++ path ∷ []) (entries_at names (length instances) 0 (subckts_of m.commands) ++ rest) (n.inner ++ n.others) =
-      subst (λ (x : ModelValue). Waits library (made ++ path ∷ []) (entries_at names (length instances) 0 (subckts_of x.commands) ++ rest) (n.inner ++ n.others)) twin waits in
+      let waits_now : Waits library (made ++ path ∷ []) (entries_at names (length instances) 0 (subckts_of m.commands) ++ rest) (n.inner ++ n.others) = grind (arith, entries_at, subckts_of) in
       record {
         main = l.main;
         first = l.first;
@@ -218,10 +182,7 @@ module _ (library : LibraryValue) where
 
   -- in the end none waits
   pub listed_all : (instances : List Instance) → Listed library instances [] → AreInstances library instances
-  listed_all instances l =
-      let full : paths_of instances ++ l.rest ≡ paths_of instances = ap (λ x. paths_of instances ++ x) (nothing_waits refl l.waits) ∙ append-nil (paths_of instances) in
-      let few : length (paths_of instances) ≤ most_weight = subst (λ x. length x ≤ most_weight) full l.few in
-      record { main = l.main; first = l.first; order = subst (λ x. InstanceOrder library [] l.main x) full l.order; each = l.each; few = omega (arith, paths_of-length instances) }
+  listed_all instances l = grind (arith, paths_of, nothing_waits, append-nil, most_weight, paths_of-length)
 
   pub next_popped : (instances stack left : List Instance) (row : Instance) → stack ≡ left ++ row ∷ [] → Listed library instances (reverse stack) → IsNext instances row
   next_popped instances stack left row e l = next_known instances row (reverse left) (subst (λ x. Listed library instances x)
@@ -235,8 +196,7 @@ module _ (library : LibraryValue) where
       let m : ModelValue = k.model in
       let entries : List Instance = entries_from names (length instances) [] m.commands in
       let now : reverse news ≡ entries ++ reverse left = ap reverse (h m k.number) ∙ reverse-append left (reverse entries) ∙ ap (λ x. x ++ reverse left) (reverse-reverse entries) in
-      let step : Listed library (instances ++ row ∷ []) (entries_at names (length instances) 0 (subckts_of m.commands) ++ reverse left) =
-      listed_step names same instances row (reverse left) (subst (λ x. Listed library instances x) (ap reverse e ∙ reverse-append left (row ∷ [])) l) m k.number in
+      let step : Listed library (instances ++ row ∷ []) (entries_at names (length instances) 0 (subckts_of m.commands) ++ reverse left) = grind (arith, listed_step, reverse-append) in
       subst (λ x. Listed library (instances ++ row ∷ []) x) (ap (λ x. x ++ reverse left) (sym (entries_are names (length instances) [] m.commands)) ∙ sym now) step
 
   pub listed_empty : (instances stack : List Instance) → length stack ≡ 0 → Listed library instances (reverse stack) → AreInstances library instances
@@ -244,9 +204,7 @@ module _ (library : LibraryValue) where
   listed_empty instances (row ∷ stack) e l = absurd (omega arith)
 
   pub listed_begin : (instances empty stack : List Instance) → instances ≡ [] → empty ≡ [] → stack ≡ empty ++ record { model = 0; parent = None; ordinal = 0 } ∷ [] → IsLight library → Listed library instances (reverse stack)
-  listed_begin instances empty stack r e s h =
-      let now : reverse stack ≡ record { model = 0; parent = None; ordinal = 0 } ∷ [] = ap reverse (s ∙ ap (λ x. x ++ record { model = 0; parent = None; ordinal = 0 } ∷ []) e) in
-      subst (λ x. Listed library x (reverse stack)) (sym r) (subst (λ x. Listed library [] x) (sym now) (listed_start h))
+  listed_begin instances empty stack r e s h = grind (arith, listed_start)
 
 pub record AreModelsOf (library : LibraryValue) (instances : List Instance) (paths : List Path) : Type 0 where
   pub count : length instances ≡ length paths
@@ -263,6 +221,5 @@ models_of library instances are = record {
   count = sym (paths_of-length instances);
   each = λ i row path e f.
       let r : IsRow library (paths_of instances) i row = are.each i row e in
-      let same : r.path ≡ path = same_Some r.path path (sym r.at ∙ f) in
-      r.number ∙ sym r.there ∙ ap (model_at library) same;
+      r.number ∙ sym r.there ∙ ap (model_at library) (same_Some r.path path (sym r.at ∙ f));
 }

@@ -27,12 +27,7 @@ gate_weighs kind body t = absurd (both_ways false refl t)
 
 pub own_few : (kind : GateKind) (path : Path) (i : ℕ) (cs : List Command) → length (own_places (kind_test kind) path i cs) ≤ commands_weight cs
 own_few kind path i [] = omega arith
-own_few kind path i (c ∷ cs) =
-    let rest : length (own_places (kind_test kind) path (suc i) cs) ≤ commands_weight cs = own_few kind path (suc i) cs in
-    elim (cases_Bool (kind_test kind c.body)) [
-      | inl t ↦ (let one : 1 ≤ body_weight c.body = gate_weighs kind c.body t in rw t (let z : suc (length (own_places (kind_test kind) path (suc i) cs)) ≤ body_weight c.body + commands_weight cs = omega arith in z))
-      | inr f ↦ rw f (let z : length (own_places (kind_test kind) path (suc i) cs) ≤ body_weight c.body + commands_weight cs = omega arith in z)
-    ]
+own_few kind path i (c ∷ cs) = grind (arith, own_places, kind_test, commands_weight, cases_Bool, body_weight, gate_weighs, own_few kind path (suc i) cs)
 
 -- a model's commands are no more than what it holds and its subcircuits
 body_counted : (body : Body) (ss : List SubcktValue) → 1 + length ss ≤ body_weight body + length (with_subckt body ss)
@@ -76,11 +71,7 @@ module _ (library : LibraryValue) where
   subckts_few {subckts} {w} (weigh_more s rest child first others a named one all is) = omega (arith, ap length a, weighs_some one, subckts_few all)
 
   commands_few : {m : ModelValue} {w : ℕ} → Weighs library m w → length m.commands ≤ w
-  commands_few {m} {w} (weighs inner all is) =
-      let a : length m.commands ≤ commands_weight m.commands + length (subckts_of m.commands) = commands_counted m.commands in
-      let b : length (subckts_of m.commands) ≤ inner = subckts_few all in
-      let own : commands_weight m.commands ≤ own_weight m = omega arith in
-      omega arith
+  commands_few {m} {w} (weighs inner all is) = grind (arith, commands_weight, subckts_of, commands_counted, subckts_few, own_weight)
 
   -- the model of an instance weighs no more than the main model
   pub record IsNoHeavier (m : ModelValue) (most : ℕ) : Type 0 where
@@ -90,13 +81,8 @@ module _ (library : LibraryValue) where
 
   subckt_within : {subckts : List SubcktValue} {w : ℕ} → WeighAll library subckts w → (k : ℕ) (s : SubcktValue) (child : ModelValue) → slice_get subckts k ≡ Some s → model_named library.models s.model ≡ Some child → IsNoHeavier child w
   subckt_within (weigh_none a b) k s child e named = absurd (none-some s (sym (ap (λ l. slice_get l k) a) ∙ e))
-  subckt_within {subckts} {w} (weigh_more t rest placed first others a known one all is) zero s child e named =
-      let same : t ≡ s = same_Some t s (sym (ap (λ l. slice_get l 0) a) ∙ e) in
-      let twin : placed ≡ child = same_Some placed child (sym known ∙ ap (λ (r : SubcktValue). model_named library.models r.model) same ∙ named) in
-      record { weight = first; weighs = subst (λ x. Weighs library x first) twin one; within = omega arith }
-  subckt_within {subckts} {w} (weigh_more t rest placed first others a known one all is) (suc k) s child e named =
-      let r = subckt_within all k s child (sym (ap (λ l. slice_get l (suc k)) a) ∙ e) named in
-      record { weight = r.weight; weighs = r.weighs; within = omega arith }
+  subckt_within {subckts} {w} (weigh_more t rest placed first others a known one all is) zero s child e named = grind arith
+  subckt_within {subckts} {w} (weigh_more t rest placed first others a known one all is) (suc k) s child e named = grind (arith, weighs, subckt_within all k s child (sym (ap (λ l. slice_get l (suc k)) a) ∙ e) named)
 
   child_within : {m : ModelValue} {w : ℕ} → Weighs library m w → (k : ℕ) (s : SubcktValue) (child : ModelValue) → slice_get (subckts_of m.commands) k ≡ Some s → model_named library.models s.model ≡ Some child → IsNoHeavier child w
   child_within (weighs inner all is) k s child e named =
@@ -118,8 +104,7 @@ module _ (library : LibraryValue) where
   -- and what all instances hold is little
   pub light_held : IsLight library → (main : ModelValue) (paths : List Path) → model_at library [] ≡ Some main → InstanceOrder library [] main paths → held_by library paths ≤ most_weight
   light_held light main paths first order =
-      let twin : light.main ≡ main = same_Some light.main main (sym light.first ∙ first) in
-      omega (arith, order_weight order first (subst (λ x. Weighs library x light.weight) twin light.weighs))
+      omega (arith, order_weight order first (subst (λ x. Weighs library x light.weight) (same_Some light.main main (sym light.first ∙ first)) light.weighs))
 
   -- a flat order has no more than its model weighs, where each instance has of its own no more than its model holds
   module _ {A : Type 0} (own : Path → ModelValue → List A) (few : (path : Path) (m : ModelValue) → length (own path m) ≤ own_weight m) where

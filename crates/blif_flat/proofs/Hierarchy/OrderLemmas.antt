@@ -1,5 +1,5 @@
 -- Flat order, of whatever the instances have of their own: an instance whose hierarchy ends has one, and one only; all that the instances within it have stands there, and nothing else.
-use Rattle.blif_flat.proofs.Common.{◌≡◌, ℕ, Bool, true, List, [], ◌∷◌, ◌++◌, Some, refl, sym, ap, ◌∙◌, inl, inr, append_assoc, slice_get, In, AreApart, Body, Cover, Latch, LatchValue, ModelValue, Path, model_at, is_cover, is_latch, FlatOrder, flat, FlatUnder, InstanceOrder, InstancesUnder, itself, model_places, places_at, CoverValue, SubcktValue, LibraryValue, AreFrom, from_first, from_rest, from_start, order_apart, placed_at, Instance, AreInstances, paths_of, subst, same_Some}
+use Rattle.blif_flat.proofs.Common.{◌≡◌, ℕ, Bool, true, List, [], ◌∷◌, ◌++◌, Some, refl, sym, ap, ◌∙◌, inl, inr, append_assoc, slice_get, In, AreApart, Body, Cover, Latch, LatchValue, ModelValue, Path, model_at, is_cover, is_latch, FlatOrder, flat, FlatUnder, InstanceOrder, InstancesUnder, itself, model_places, places_at, CoverValue, SubcktValue, LibraryValue, AreFrom, from_first, from_rest, from_start, order_apart, placed_at, Instance, AreInstances, paths_of, subst, same_Some, arith}
 use Rattle.netlist.specs.Places.{none, more}
 
 -- the instances in flat order: each once, and the first is the main model's own
@@ -13,8 +13,7 @@ module _ (library : LibraryValue) where
   -- the places of the instances in turn are in flat order
   places_at-append : (kind : Body → Bool) (xs ys : List Path) → places_at library kind (xs ++ ys) ≡ places_at library kind xs ++ places_at library kind ys
   places_at-append kind [] ys = refl
-  places_at-append kind (x ∷ xs) ys =
-      ap (λ l. model_places kind x (model_at library x) ++ l) (places_at-append kind xs ys) ∙ sym (append_assoc (model_places kind x (model_at library x)) (places_at library kind xs) (places_at library kind ys))
+  places_at-append kind (x ∷ xs) ys = grind (arith, model_places, model_at, append_assoc, places_at, places_at-append kind xs ys)
 
   mutual
     pub order_places : (kind : Body → Bool) {path : Path} {m : ModelValue} {paths : List Path} → InstanceOrder library path m paths → model_at library path ≡ Some m → FlatOrder library kind path m (places_at library kind paths)

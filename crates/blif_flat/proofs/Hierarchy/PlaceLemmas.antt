@@ -1,5 +1,5 @@
 -- Places, and what stands at them: a place has one cover or latch, and a connection leads to the model that it places.
-use Rattle.blif_flat.proofs.Common.{◌≡◌, ℕ, ◌∷◌, Some, None, refl, sym, ap, ◌∙◌, slice_get, option_and_then, same_Some, List, ◌++◌, subst, [], append_assoc, decimal, LatchValue, Path, body_at, model_at, CoverAt, LatchAt, Place, Net, input_net, latch_net, cover_net, cover_in, path_text, IsWritten, of_input, of_latch, of_cover, Instance, AreWritten, paths_of, AreInstances, AreUnder, output_or, output_in, output_at, CoverValue, LibraryValue, cover_at-is, one_latch, append-nil}
+use Rattle.blif_flat.proofs.Common.{◌≡◌, ℕ, ◌∷◌, Some, None, refl, sym, ap, ◌∙◌, slice_get, option_and_then, same_Some, List, ◌++◌, subst, [], append_assoc, decimal, LatchValue, Path, body_at, model_at, CoverAt, LatchAt, Place, Net, input_net, latch_net, cover_net, cover_in, path_text, IsWritten, of_input, of_latch, of_cover, Instance, AreWritten, paths_of, AreInstances, AreUnder, output_or, output_in, output_at, CoverValue, LibraryValue, cover_at-is, one_latch, append-nil, arith}
 use Rattle.blif_flat.specs.LoopFault.{none, more}
 
 -- How nets are written: the paths of rows, and that each net has one text.
@@ -27,8 +27,7 @@ module _ (library : LibraryValue) where
   text_once : (net : Net) (text other : List ℕ) → IsText net text → IsText net other → text ≡ other
   text_once (input_net name) text other a b = a ∙ sym b
   text_once (latch_net path i) text other a b = a.is ∙ ap (λ (l : LatchValue). path_text path ++ l.output) (one_latch library path i a.latch b.latch a.at b.at) ∙ sym b.is
-  text_once (cover_net path i) text other a b =
-      a.is ∙ ap (λ (c : CoverValue). path_text path ++ c.output) (same_Some a.cover b.cover (sym (cover_at-is library path i a.cover a.at) ∙ cover_at-is library path i b.cover b.at)) ∙ sym b.is
+  text_once (cover_net path i) text other a b = grind arith
 
   pub written_once : (net : Net) (text other : List ℕ) → IsWritten library net text → IsWritten library net other → text ≡ other
   written_once net text other a b = text_once net text other (is_text net text a) (is_text net other b)
@@ -45,8 +44,7 @@ path_text-append (k ∷ xs) ys = ap (λ l. l ++ (decimal k ++ 47 ∷ [])) (path_
 
 -- the last ordinal stands first
 pub path_text-last : (text : List ℕ) (path left : Path) (k : ℕ) → path ≡ left ++ k ∷ [] → (text ++ (decimal k ++ 47 ∷ [])) ++ path_text left ≡ text ++ path_text path
-path_text-last text path left k e =
-    append_assoc text (decimal k ++ 47 ∷ []) (path_text left) ∙ ap (λ l. text ++ l) (sym (ap path_text e ∙ path_text-append left (k ∷ [])))
+path_text-last text path left k e = grind (arith, append_assoc, decimal, path_text, path_text-append)
 
 -- the path of a row, as far as it's known
 abbrev pub IsSoFar : List Instance → ℕ → ℕ → Path → Type 0

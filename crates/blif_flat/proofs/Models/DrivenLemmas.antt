@@ -1,5 +1,5 @@
 -- Steps of a search for faults of drivers, and the search as far as it has come.
-use Rattle.blif_flat.proofs.Common.{◌≡◌, ℕ, suc, ◌+◌, ◌<◌, List, [], ◌∷◌, ◌++◌, length, get_or, drop, Option, Some, None, refl, sym, ap, ◌∙◌, subst, inl, inr, arith, choose, map, filter, append_assoc, drop-cons, slice_get, cases_Bool, drop_at, OrMemory-map, none-some, same_Some, In, In-append, In-get, In-map, Connection, ModelValue, has_name, is_input, is_output, FlatErr, refusal_of, IsTold, or_later, output_actuals, input_actuals, twice_in, undriven_in, models_fault, fault_of, with_numbered, models_at, Command, Body, Cover, Latch, Subckt, Path, model_at, inputs_of, subckts_of, model_named, by_input, IsDriver, input, IsDriven, Driver, by_latch, by_cover, by_subckt, InstanceAt, latch, cover, output, IsRead, cover_input, latch_input, latch_control, input_actual, model_output, IsWellFormed, walked, WalksMain, unknown_formal, open_input, AreOnce, formals, LibraryValue, SubcktValue, inside, in_input, input_in, append-nil}
+use Rattle.blif_flat.proofs.Common.{◌≡◌, ℕ, suc, ◌+◌, ◌<◌, List, [], ◌∷◌, ◌++◌, length, get_or, drop, Option, Some, None, refl, sym, ap, ◌∙◌, subst, inl, inr, arith, choose, map, filter, append_assoc, drop-cons, slice_get, cases_Bool, drop_at, OrMemory-map, none-some, same_Some, In, In-append, In-get, In-map, Connection, ModelValue, has_name, is_input, is_output, FlatErr, refusal_of, IsTold, or_later, output_actuals, input_actuals, twice_in, undriven_in, models_fault, fault_of, with_numbered, models_at, Command, Body, Cover, Latch, Subckt, Path, model_at, inputs_of, subckts_of, model_named, by_input, IsDriver, input, IsDriven, Driver, by_latch, by_cover, by_subckt, InstanceAt, latch, cover, output, IsRead, cover_input, latch_input, latch_control, input_actual, model_output, IsWellFormed, walked, WalksMain, unknown_formal, open_input, AreOnce, formals, LibraryValue, SubcktValue, inside, in_input, input_in, append-nil, rules}
 use Rattle.netlist.specs.WellFormed.{IsWellFormedBody}
 use Rattle.blif_flat.proofs.Hierarchy.InstanceLemmas.{own_tags, tag_driver, driver_name, command_reads, output_driven, subckt_in, subckt_more, subckt_command, clean_once, clean_driven}
 use Rattle.blif_flat.proofs.Models.LineLemmas.{IsPlaced, formal_is, input_connected}
@@ -14,17 +14,11 @@ or_first None later r h = ap (λ f. or_later f later) h
 -- the names of a line in two parts
 pub twice-append : (model : List ℕ) (line : ℕ) (driven a b : List (List ℕ)) → twice_in model line driven (a ++ b) ≡ or_later (twice_in model line driven a) (twice_in model line (driven ++ a) b)
 twice-append model line driven [] b = ap (λ d. twice_in model line d b) (sym (append-nil driven))
-twice-append model line driven (x ∷ a) b = elim (cases_Bool (has_name driven x)) [
-  | inl t ↦ rw t refl
-  | inr f ↦ rw f (twice-append model line (driven ++ x ∷ []) a b ∙ ap (λ d. or_later (twice_in model line (driven ++ x ∷ []) a) (twice_in model line d b)) (append_assoc driven (x ∷ []) a))
-]
+twice-append model line driven (x ∷ a) b = search (rules, cases_Bool, has_name, or_later, twice_in, append_assoc, twice-append model line (driven ++ x ∷ []) a b)
 
 pub undriven-append : (model : List ℕ) (line : ℕ) (driven a b : List (List ℕ)) → undriven_in model line driven (a ++ b) ≡ or_later (undriven_in model line driven a) (undriven_in model line driven b)
 undriven-append model line driven [] b = refl
-undriven-append model line driven (x ∷ a) b = elim (cases_Bool (has_name driven x)) [
-  | inl t ↦ rw t (undriven-append model line driven a b)
-  | inr f ↦ rw f refl
-]
+undriven-append model line driven (x ∷ a) b = search (rules, cases_Bool, has_name, undriven-append model line driven a b)
 
 pub output_actuals-cons : (child : ModelValue) (pair : Connection) (pairs : List Connection) → output_actuals child (pair ∷ pairs) ≡ output_actuals child (pair ∷ []) ++ output_actuals child pairs
 output_actuals-cons child pair pairs = elim (cases_Bool (is_output child pair.formal)) [ inl t ↦ rw t refl | inr f ↦ rw f refl ]
@@ -35,27 +29,20 @@ input_actuals-cons child pair pairs = elim (cases_Bool (is_input child pair.form
 -- the first connection of the rest, and those behind it
 pub read_split : (child : ModelValue) (model : List ℕ) (line : ℕ) (driven : List (List ℕ)) (pairs : List Connection) (i : ℕ) (pair : Connection) → i < length pairs → pair ≡ get_or pairs i pair
     → undriven_in model line driven (input_actuals child (drop i pairs)) ≡ or_later (undriven_in model line driven (input_actuals child (pair ∷ []))) (undriven_in model line driven (input_actuals child (drop (i + 1) pairs)))
-read_split child model line driven pairs i pair h e = ap (λ ps. undriven_in model line driven (input_actuals child ps)) (drop_at pairs i pair h e)
-    ∙ ap (undriven_in model line driven) (input_actuals-cons child pair (drop (i + 1) pairs))
-    ∙ undriven-append model line driven (input_actuals child (pair ∷ [])) (input_actuals child (drop (i + 1) pairs))
+read_split child model line driven pairs i pair h e = grind (arith, undriven_in, input_actuals, drop_at, input_actuals-cons, undriven-append)
 
 pub drive_split : (child : ModelValue) (model : List ℕ) (line : ℕ) (driven : List (List ℕ)) (pairs : List Connection) (i : ℕ) (pair : Connection) → i < length pairs → pair ≡ get_or pairs i pair
     → twice_in model line driven (output_actuals child (drop i pairs))
     ≡ or_later (twice_in model line driven (output_actuals child (pair ∷ []))) (twice_in model line (driven ++ output_actuals child (pair ∷ [])) (output_actuals child (drop (i + 1) pairs)))
-drive_split child model line driven pairs i pair h e = ap (λ ps. twice_in model line driven (output_actuals child ps)) (drop_at pairs i pair h e)
-    ∙ ap (twice_in model line driven) (output_actuals-cons child pair (drop (i + 1) pairs))
-    ∙ twice-append model line driven (output_actuals child (pair ∷ [])) (output_actuals child (drop (i + 1) pairs))
+drive_split child model line driven pairs i pair h e = grind (arith, twice_in, output_actuals, drop_at, output_actuals-cons, twice-append)
 
 pub names_split : (child : ModelValue) (driven : List (List ℕ)) (pairs : List Connection) (i : ℕ) (pair : Connection) → i < length pairs → pair ≡ get_or pairs i pair
     → driven ++ output_actuals child (drop i pairs) ≡ (driven ++ output_actuals child (pair ∷ [])) ++ output_actuals child (drop (i + 1) pairs)
-names_split child driven pairs i pair h e = ap (λ ps. driven ++ output_actuals child ps) (drop_at pairs i pair h e)
-    ∙ ap (λ ns. driven ++ ns) (output_actuals-cons child pair (drop (i + 1) pairs))
-    ∙ sym (append_assoc driven (output_actuals child (pair ∷ [])) (output_actuals child (drop (i + 1) pairs)))
+names_split child driven pairs i pair h e = grind (arith, output_actuals, drop_at, output_actuals-cons, append_assoc)
 
 -- a refusal of a first part is that of the whole, and without one the whole is the later part
 pub told : (e : FlatErr) (whole first later all : Option FlatErr) → whole ≡ or_later first later → whole ≡ all → IsTold e first → IsTold e all
-told e whole first later all split same h = subst (IsTold e) (sym split ∙ same)
-    (OrMemory-map refusal_of (λ r. first ≡ Some r) (λ r. or_later first later ≡ Some r) e (or_first first later) h)
+told e whole first later all split same h = grind arith
 
 pub gone_on : (whole first later all : Option FlatErr) → whole ≡ or_later first later → whole ≡ all → first ≡ None → later ≡ all
 gone_on whole first later all split same h = sym (ap (λ f. or_later f later) h) ∙ sym split ∙ same
@@ -67,10 +54,7 @@ models_with library (Some m) ms = refl
 -- the first model of some numbers, and those behind it
 pub models_split : (library : LibraryValue) (numbers : List ℕ) (i : ℕ) → i < length numbers
     → models_fault library (models_at library.models (drop i numbers)) ≡ or_later (fault_of library (slice_get library.models (get_or numbers i 0))) (models_fault library (models_at library.models (drop (i + 1) numbers)))
-models_split library numbers i h =
-    let s : suc i ≡ i + 1 = omega arith in
-    ap (λ ns. models_fault library (models_at library.models ns)) (drop-cons numbers i 0 h ∙ ap (λ j. get_or numbers i 0 ∷ drop j numbers) s)
-    ∙ models_with library (slice_get library.models (get_or numbers i 0)) (models_at library.models (drop (i + 1) numbers))
+models_split library numbers i h = grind (arith, models_fault, models_at, drop-cons, models_with)
 
 -- None of F1 to F6 stands where the walk refuses nothing and the walked models have no refusal of drivers; and the drivers of their commands are told apart.
 
@@ -170,7 +154,6 @@ module _ (library : LibraryValue) where
       choose (λ ps. AreDistinct (map (λ (q : Connection). tag (by_subckt k q.formal) q.actual) ps)) (is_output child p.formal)
       (p ∷ filter (λ (q : Connection). is_output child q.formal) pairs) (filter (λ (q : Connection). is_output child q.formal) pairs) (λ y. (
         λ u i e. (let r = of_pair library k child pairs u i in
-            let d : ◌≡◌ {A = Driver} (by_subckt k p.formal) (by_subckt k (r.pair).formal) = e ∙ ap (λ (x : Tag). x.driver) r.is in
             let f : p.formal ≡ (r.pair).formal = cc in
             once.0 (subst (In (formals pairs)) (sym f) (In-map (λ (x : Connection). x.formal) pairs r.pair r.member))),
         pairs_distinct k child pairs once.1,

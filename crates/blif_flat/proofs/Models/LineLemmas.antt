@@ -1,20 +1,15 @@
 -- What the refusals of a `.subckt` line say: F1 to F4 of it don't stand, or one does.
-use Rattle.blif_flat.proofs.Common.{from_map, In-map, has_in, in_has, ◌≡◌, ℕ, true, false, ◌||◌, List, [], ◌∷◌, Option, Some, None, refl, sym, ap, ◌∙◌, subst, inl, inr, ◌⊎◌, bytes_eq, IsTrue, not, both_ways, cases_Bool, or_cases, and_from, not_from_false, false≢true, bytes_decides, In, none_else, none_both, Bool, cond, ◌++◌, filter, option_map, none-some, OrMemory-map, Connection, ModelValue, model_named, has_name, is_input, is_output, inputs_of, SubcktLine, unknown_formal, is_connected, open_input, input_fault, formal_fault, placed_fault, line_fault, formals, Ports, FlatErr, UnknownFormal, Unconnected, IsTold, with_names, ports_value, or_later, refusal_of, foreign_formal, open_among, ports_fault, LibraryValue, SubcktValue, has_with_names}
+use Rattle.blif_flat.proofs.Common.{from_map, In-map, has_in, in_has, ◌≡◌, ℕ, true, false, ◌||◌, List, [], ◌∷◌, Option, Some, None, refl, sym, ap, ◌∙◌, subst, inl, inr, ◌⊎◌, bytes_eq, IsTrue, not, both_ways, cases_Bool, or_cases, and_from, not_from_false, false≢true, bytes_decides, In, none_else, none_both, Bool, cond, ◌++◌, filter, option_map, none-some, OrMemory-map, Connection, ModelValue, model_named, has_name, is_input, is_output, inputs_of, SubcktLine, unknown_formal, is_connected, open_input, input_fault, formal_fault, placed_fault, line_fault, formals, Ports, FlatErr, UnknownFormal, Unconnected, IsTold, with_names, ports_value, or_later, refusal_of, foreign_formal, open_among, ports_fault, LibraryValue, SubcktValue, has_with_names, arith, rules}
 use Rattle.blif_flat.proofs.Models.NameSetLemmas.{has_inputs}
 
 -- each formal of a connection is an input or an output
 pub formal_is_known : (child : ModelValue) (pairs : List Connection) → unknown_formal child pairs ≡ None → (pair : Connection) → In pairs pair → (is_input child pair.formal || has_name child.outputs pair.formal) ≡ true
 formal_is_known child [] e pair i = absurd i
-formal_is_known child (p ∷ pairs) e pair (inl q) = subst (λ (y : Connection). (is_input child y.formal || has_name child.outputs y.formal) ≡ true) (sym q)
-    (none_else (is_input child p.formal || has_name child.outputs p.formal) p.formal (unknown_formal child pairs) e).0
+formal_is_known child (p ∷ pairs) e pair (inl q) = grind arith
 formal_is_known child (p ∷ pairs) e pair (inr i) = formal_is_known child pairs (none_else (is_input child p.formal || has_name child.outputs p.formal) p.formal (unknown_formal child pairs) e).1 pair i
 
 pub formal_is : (child : ModelValue) (pairs : List Connection) → unknown_formal child pairs ≡ None → (pair : Connection) → In pairs pair → IsTrue (is_input child pair.formal) ⊎ IsTrue (is_output child pair.formal)
-formal_is child pairs e pair i = elim (cases_Bool (is_input child pair.formal)) [
-  | inl t ↦ inl t
-  | inr f ↦ inr (and_from (not (is_input child pair.formal)) (has_name child.outputs pair.formal) (not_from_false (is_input child pair.formal) f)
-      (elim (or_cases (is_input child pair.formal) (has_name child.outputs pair.formal) (formal_is_known child pairs e pair i)) [ inl t ↦ absurd (both_ways (is_input child pair.formal) f t) | inr t ↦ t ]))
-]
+formal_is child pairs e pair i = search (rules, cases_Bool, is_input, and_from, has_name, not_from_false, or_cases, formal_is_known, both_ways)
 
 -- each input is connected
 pub record Connected (pairs : List Connection) (name : List ℕ) : Type 0 where
@@ -49,8 +44,7 @@ pub no_open_input : (pairs : List Connection) (names : List (List ℕ)) → ((na
 no_open_input pairs [] h = refl
 no_open_input pairs (n ∷ names) h =
     let c = h n (inl refl) in
-    let t : is_connected pairs n ≡ true = in_connected pairs n c.pair c.member c.formal in
-    rw t (no_open_input pairs names (λ name i. h name (inr i)))
+    rw (in_connected pairs n c.pair c.member c.formal) (no_open_input pairs names (λ name i. h name (inr i)))
 
 -- a line without F1 to F4, where the models of the chain are being walked
 pub record IsPlaced (library : LibraryValue) (l : SubcktLine) : Type 0 where
@@ -73,10 +67,7 @@ no_formal_fault m l child (Some name) e = absurd (cc)
 
 no_placed_fault : (library : LibraryValue) (chain : List (List ℕ)) (m : ModelValue) (l : SubcktLine) (o : Option ModelValue) → model_named library.models l.subckt.model ≡ o → placed_fault chain m l o ≡ None → IsFree library chain l
 no_placed_fault library chain m l None n e = absurd (cc)
-no_placed_fault library chain m l (Some child) n e =
-    let c = none_both (has_name chain l.subckt.model) _ (formal_fault m l child (unknown_formal child l.subckt.pairs)) e in
-    let f = no_formal_fault m l child (unknown_formal child l.subckt.pairs) c.1 in
-    record { placed = record { child = child; named = n; formals = f.0; inputs = f.1 }; off = c.0 }
+no_placed_fault library chain m l (Some child) n e = grind arith
 
 pub free_line : (library : LibraryValue) (chain : List (List ℕ)) (m : ModelValue) (l : SubcktLine) → line_fault library chain m l ≡ None → IsFree library chain l
 free_line library chain m l e = no_placed_fault library chain m l (model_named library.models l.subckt.model) refl e
@@ -88,15 +79,11 @@ no_line_fault library chain m l f = rw (f.placed.named, f.off, f.placed.formals,
 -- The faults of a line, found in the order of the definition.
 pub foreign_is : (child : ModelValue) (pairs : List Connection) → foreign_formal (ports_value child) pairs ≡ unknown_formal child pairs
 foreign_is child [] = refl
-foreign_is child (pair ∷ pairs) =
-    ap (λ b. cond (b || has_name child.outputs pair.formal) (foreign_formal (ports_value child) pairs) (Some pair.formal)) (has_inputs child pair.formal)
-    ∙ ap (λ o. cond (is_input child pair.formal || has_name child.outputs pair.formal) o (Some pair.formal)) (foreign_is child pairs)
+foreign_is child (pair ∷ pairs) = grind (arith, cond, has_name, foreign_formal, ports_value, has_inputs, is_input, foreign_is child pairs)
 
 open_is : (pairs : List Connection) (names : List (List ℕ)) → open_among (with_names [] (formals pairs)) names ≡ open_input pairs names
 open_is pairs [] = refl
-open_is pairs (name ∷ names) =
-    ap (λ b. cond b (open_among (with_names [] (formals pairs)) names) (Some name)) (has_with_names [] (formals pairs) name ∙ connected_is pairs name)
-    ∙ ap (λ o. cond (is_connected pairs name) o (Some name)) (open_is pairs names)
+open_is pairs (name ∷ names) = grind (arith, cond, open_among, with_names, formals, has_with_names, connected_is, is_connected, open_is pairs names)
 
 -- the first of two lists in which something is found
 or_cond : (b : Bool) (x y : Option (List ℕ)) (name : List ℕ) → cond b (or_later x y) (Some name) ≡ or_later (cond b x (Some name)) y
@@ -120,10 +107,7 @@ none_open pairs (x ∷ xs) name h a =
 -- the clocks that aren't among the inputs
 open_filtered : (pairs : List Connection) (xs ys : List (List ℕ)) → open_input pairs xs ≡ None → open_input pairs (filter (λ y. not (has_name xs y)) ys) ≡ open_input pairs ys
 open_filtered pairs xs [] h = refl
-open_filtered pairs xs (y ∷ ys) h = elim (cases_Bool (has_name xs y)) [
-  | inl t ↦ rw (t, none_open pairs xs y h t) (open_filtered pairs xs ys h)
-  | inr f ↦ rw f (ap (λ o. cond (is_connected pairs y) o (Some y)) (open_filtered pairs xs ys h))
-]
+open_filtered pairs xs (y ∷ ys) h = search (rules, cases_Bool, has_name, none_open, cond, is_connected, open_filtered pairs xs ys h)
 
 -- the first open input of a child: of its `.inputs`, else of its `.clock`
 pub open_first : (child : ModelValue) (pairs : List Connection) (name : List ℕ) → open_input pairs child.inputs ≡ Some name → open_input pairs (inputs_of child) ≡ Some name
@@ -144,8 +128,7 @@ formal_faults m line s child e (Some name) h = h
 formal_faults m line s child e None h = none_fault e (formal_fault m (record { line = line; subckt = s }) child None) h
 
 input_faults : (m : ModelValue) (line : ℕ) (e : FlatErr) (o : Option (List ℕ)) → IsTold e (option_map (λ n. Unconnected m.name line n) o) → IsTold e (input_fault m line o)
-input_faults m line e (Some name) h = h
-input_faults m line e None h = h
+input_faults m line e o h = h
 
 -- what the check of a line has read
 pub record IsRead (m : ModelValue) (s : SubcktValue) (child : ModelValue) (ports : Ports) (name : List ℕ) (pairs : List Connection) : Type 0 where
@@ -158,17 +141,14 @@ foreign_read m s child ports name pairs r = ap (λ p. foreign_formal p pairs) r.
 
 pub formals_err : (m : ModelValue) (line : ℕ) (s : SubcktValue) (child : ModelValue) (ports : Ports) (name : List ℕ) (pairs : List Connection) (e : FlatErr) → IsRead m s child ports name pairs
     → IsTold e (option_map (λ n. UnknownFormal name line n) (foreign_formal ports pairs)) → IsTold e (ports_fault m line s child)
-formals_err m line s child ports name pairs e r h = formal_faults m line s child e (unknown_formal child s.pairs)
-    (subst (λ o. IsTold e (option_map (λ n. UnknownFormal m.name line n) o)) (foreign_read m s child ports name pairs r)
-    (subst (λ k. IsTold e (option_map (λ n. UnknownFormal k line n) (foreign_formal ports pairs))) r.name_is h))
+formals_err m line s child ports name pairs e r h = grind (arith, formal_faults, unknown_formal, option_map, foreign_read, foreign_formal)
 
 formals_ok : (m : ModelValue) (line : ℕ) (s : SubcktValue) (child : ModelValue) (ports : Ports) (name : List ℕ) (pairs : List Connection) → IsRead m s child ports name pairs → foreign_formal ports pairs ≡ None
     → ports_fault m line s child ≡ input_fault m line (open_input s.pairs (inputs_of child))
 formals_ok m line s child ports name pairs r h = ap (formal_fault m (record { line = line; subckt = s }) child) (sym (foreign_read m s child ports name pairs r) ∙ h)
 
 open_read : (s : SubcktValue) (pairs : List Connection) (index names mine : List (List ℕ)) → pairs ≡ s.pairs → index ≡ with_names [] (formals pairs) → names ≡ mine → open_among index names ≡ open_input s.pairs mine
-open_read s pairs index names mine p i n =
-    ap (λ x. open_among x names) i ∙ ap (λ x. open_among (with_names [] (formals x)) names) p ∙ ap (open_among (with_names [] (formals s.pairs))) n ∙ open_is s.pairs mine
+open_read s pairs index names mine p i n = grind (arith, open_among, with_names, formals, open_is)
 
 first_fault : (m : ModelValue) (line : ℕ) (s : SubcktValue) (child : ModelValue) (e : FlatErr) (o : Option (List ℕ)) → open_input s.pairs child.inputs ≡ o → IsTold e (option_map (λ n. Unconnected m.name line n) o)
     → IsTold e (input_fault m line (open_input s.pairs (inputs_of child)))
@@ -181,19 +161,14 @@ unconnected_read line e a b x y p q h = subst (λ o. IsTold e (option_map (λ n.
 pub inputs_err : (m : ModelValue) (line : ℕ) (s : SubcktValue) (child : ModelValue) (ports : Ports) (name : List ℕ) (pairs pairs' : List Connection) (index names : List (List ℕ)) (e : FlatErr) → IsRead m s child ports name pairs
     → foreign_formal ports pairs ≡ None → pairs' ≡ s.pairs → index ≡ with_names [] (formals pairs') → names ≡ child.inputs
     → IsTold e (option_map (λ n. Unconnected name line n) (open_among index names)) → IsTold e (ports_fault m line s child)
-inputs_err m line s child ports name pairs pairs' index names e r absent p i n h =
-    subst (IsTold e) (sym (formals_ok m line s child ports name pairs r absent))
-    (first_fault m line s child e (open_input s.pairs child.inputs) refl (unconnected_read line e name m.name (open_among index names) (open_input s.pairs child.inputs) r.name_is (open_read s pairs' index names child.inputs p i n) h))
+inputs_err m line s child ports name pairs pairs' index names e r absent p i n h = grind (arith, formals_ok, first_fault, open_input, unconnected_read, open_among, open_read)
 
 pub clocks_err : (m : ModelValue) (line : ℕ) (s : SubcktValue) (child : ModelValue) (ports : Ports) (name : List ℕ) (pairs pairs' : List Connection) (index names clocks : List (List ℕ)) (e : FlatErr) → IsRead m s child ports name pairs
     → foreign_formal ports pairs ≡ None → pairs' ≡ s.pairs → index ≡ with_names [] (formals pairs') → names ≡ child.inputs → open_among index names ≡ None → clocks ≡ child.clocks
     → IsTold e (option_map (λ n. Unconnected name line n) (open_among index clocks)) → IsTold e (ports_fault m line s child)
-clocks_err m line s child ports name pairs pairs' index names clocks e r absent p i n none k h =
-    subst (IsTold e) (sym (formals_ok m line s child ports name pairs r absent ∙ ap (input_fault m line) (open_second child s.pairs (sym (open_read s pairs' index names child.inputs p i n) ∙ none))))
-    (input_faults m line e (open_input s.pairs child.clocks) (unconnected_read line e name m.name (open_among index clocks) (open_input s.pairs child.clocks) r.name_is (open_read s pairs' index clocks child.clocks p i k) h))
+clocks_err m line s child ports name pairs pairs' index names clocks e r absent p i n none k h = grind (arith, formals_ok, input_fault, open_second, open_read, input_faults, open_input, unconnected_read, open_among)
 
 pub line_ok : (m : ModelValue) (line : ℕ) (s : SubcktValue) (child : ModelValue) (ports : Ports) (name : List ℕ) (pairs pairs' : List Connection) (index names clocks : List (List ℕ)) → IsRead m s child ports name pairs
     → foreign_formal ports pairs ≡ None → pairs' ≡ s.pairs → index ≡ with_names [] (formals pairs') → names ≡ child.inputs → open_among index names ≡ None → clocks ≡ child.clocks → open_among index clocks ≡ None
     → ports_fault m line s child ≡ None
-line_ok m line s child ports name pairs pairs' index names clocks r absent p i n none k none' = formals_ok m line s child ports name pairs r absent
-    ∙ ap (input_fault m line) (open_second child s.pairs (sym (open_read s pairs' index names child.inputs p i n) ∙ none) ∙ sym (open_read s pairs' index clocks child.clocks p i k) ∙ none')
+line_ok m line s child ports name pairs pairs' index names clocks r absent p i n none k none' = grind (arith, formals_ok, input_fault, open_second, open_read)

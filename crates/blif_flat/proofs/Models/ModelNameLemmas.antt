@@ -8,9 +8,7 @@ pub commands_split : (names : List (List ℕ)) (cs : List Command) (i : ℕ) (c 
 commands_split names cs i c h e = ap (λ ds. with_names names (commands_names ds)) (drop_at cs i c h e) ∙ with_names-append names (body_names c.body) (commands_names (drop (i + 1) cs))
 
 pub model_split : (m : ModelValue) → with_names (with_names (with_names (with_names [] m.inputs) m.outputs) m.clocks) (commands_names m.commands) ≡ distinct_names m
-model_split m =
-    sym (with_names-append [] m.inputs (m.outputs ++ (m.clocks ++ commands_names m.commands)) ∙ with_names-append (with_names [] m.inputs) m.outputs (m.clocks ++ commands_names m.commands)
-    ∙ with_names-append (with_names (with_names [] m.inputs) m.outputs) m.clocks (commands_names m.commands))
+model_split m = grind (arith, with_names-append, commands_names, with_names)
 
 -- a model holds all its names
 control_names-length : (control : Option (List ℕ)) → length (control_names control) ≡ control_weight control
@@ -24,11 +22,7 @@ body_names-length (Subckt s) = length-map s.pairs (λ (pair : Connection). pair.
 
 commands_names-length : (cs : List Command) → length (commands_names cs) ≡ commands_weight cs
 commands_names-length [] = refl
-commands_names-length (c ∷ cs) =
-    omega (arith, length-append (body_names c.body) (commands_names cs), body_names-length c.body, commands_names-length cs)
+commands_names-length (c ∷ cs) = grind (arith, length-append, body_names, commands_names, body_names-length, commands_names-length cs)
 
 pub distinct_few : (m : ModelValue) → length (distinct_names m) ≤ own_weight m
-distinct_few m =
-    let a : length (distinct_names m) ≤ length {A = List ℕ} [] + length (all_names m) = with_names-length [] (all_names m) in
-    let b : length (all_names m) ≡ length m.inputs + length (m.outputs ++ (m.clocks ++ commands_names m.commands)) = length-append m.inputs (m.outputs ++ (m.clocks ++ commands_names m.commands)) in
-    omega (arith, length-append m.outputs (m.clocks ++ commands_names m.commands), length-append m.clocks (commands_names m.commands), commands_names-length m.commands)
+distinct_few m = grind (arith, distinct_names, all_names, with_names-length, commands_names, length-append, commands_names-length)

@@ -1,5 +1,5 @@
 -- The models of a path by their numbers and by their names, and what the check of a line tells where they are being walked.
-use Rattle.blif_flat.proofs.Common.{◌≡◌, ℕ, ◌+◌, ◌<◌, true, false, ◌||◌, eqb, List, [], ◌∷◌, ◌++◌, reverse, bytes_eq, append_assoc, drop, get_or, length, Option, Some, None, refl, sym, ap, ◌∙◌, subst, inl, inr, ◌⊎◌, if◌then◌else◌, slice_get, cond-true, cond-false, false_from_ne_true, or_left, or_right, append-nil, none-some, same_Some, slice_get-get_or, bytes_decides, In, drop_get, same_or, in_reversed, reversed_in, place_of, AreOnce, ModelValue, has_name, FlatErr, RecursiveModel, SubcktLine, chain_from, placed_fault, line_fault, formal_fault, unknown_formal, is_walked, IsTold, ports_fault, model_names, IsModelOf, Finds, with_numbered, models_at, edge_by, line_edge, with_name_of, with_model_name, names_at, IsPlacing, SubcktValue, Node, no_match, same_number, eqb-true, eq-eqb}
+use Rattle.blif_flat.proofs.Common.{◌≡◌, ℕ, ◌+◌, ◌<◌, true, false, ◌||◌, eqb, List, [], ◌∷◌, ◌++◌, reverse, bytes_eq, append_assoc, drop, get_or, length, Option, Some, None, refl, sym, ap, ◌∙◌, subst, inl, inr, ◌⊎◌, if◌then◌else◌, slice_get, cond-true, cond-false, false_from_ne_true, or_left, or_right, append-nil, none-some, same_Some, slice_get-get_or, bytes_decides, In, drop_get, same_or, in_reversed, reversed_in, place_of, AreOnce, ModelValue, has_name, FlatErr, RecursiveModel, SubcktLine, chain_from, placed_fault, line_fault, formal_fault, unknown_formal, is_walked, IsTold, ports_fault, model_names, IsModelOf, Finds, with_numbered, models_at, edge_by, line_edge, with_name_of, with_model_name, names_at, IsPlacing, SubcktValue, Node, no_match, same_number, eqb-true, eq-eqb, arith}
 use Rattle.depth_first.specs.Walk.{from_node}
 use Rattle.blif_flat.proofs.Models.NameSetLemmas.{finds}
 use Rattle.blif_flat.proofs.Models.WalkedLemmas.{named_is}

@@ -1,5 +1,5 @@
 -- The walk of the models by their numbers is that of the definition, and its order puts each model behind those that it places.
-use Rattle.blif_flat.proofs.Common.{◌≡◌, ℕ, ◌<◌, false, List, Vec, Global, [], ◌∷◌, ◌++◌, map, reverse, length, Option, Some, None, refl, sym, ap, ◌∙◌, subst, subst₂, inl, inr, slice_get, option_map, unwrap_or, both_ways, length-map, none-some, same_Some, slice_get_within, slice_get-map, In, In-map, at_within, in_reversed, OrMemory-map, LibraryValue, ways_of, ways_from, successors, AreNodes, ending_of, Visited, stop, reached_only, reverse-append, Node, Stop, Pass}
+use Rattle.blif_flat.proofs.Common.{◌≡◌, ℕ, ◌<◌, false, List, Vec, Global, [], ◌∷◌, ◌++◌, map, reverse, length, Option, Some, None, refl, sym, ap, ◌∙◌, subst, subst₂, inl, inr, slice_get, option_map, unwrap_or, both_ways, length-map, none-some, same_Some, slice_get_within, slice_get-map, In, In-map, at_within, in_reversed, OrMemory-map, LibraryValue, ways_of, ways_from, successors, AreNodes, ending_of, Visited, stop, reached_only, reverse-append, Node, Stop, Pass, arith, rules}
 use Rattle.blif_flat.specs.{leads, WalkValue, OrMemory, place_of, Body, Subckt, Command, ModelValue, has_name, model_named, AreOnce, FlatErr, or_later, SubcktLine, with_line, subckt_lines, line_fault, is_walked, Walked, refused, walked, Walks, refuse, again, inside, onward, WalksMain, refusal_of, IsTold, model_names, IsModelOf, Finds, models_at, IsBehind, AreChildrenFirst, edge_by, line_edge, body_edge, commands_edges, edge_rows, edges_at, with_model_name, names_at, lines_fault, model_lines_fault, path_fault}
 use Rattle.depth_first.specs.DepthFirst.{Way, stops, Ending, repeats, halts, nodes_of, WalkOutcome, ends_at, goes_through, Enters, ended, stopped_at, back, again as enters_again, inside as enters_inside, onward as enters_onward}
 use Rattle.depth_first.specs.Order.{LeadsInto, IsSettled}
@@ -25,9 +25,8 @@ split_edge (Stop s) es w rest q o = let a : stops s ≡ w = cc in (ap (λ x. x �
 split_edge Pass es w rest q o = absurd (o refl)
 
 some_way : (e : Edge (Unit {0})) (es : List (Edge (Unit {0}))) → ways_of (e ∷ es) ≡ [] → (e ≡ Pass → ⊥) → ⊥
-some_way (Node n) es q o = cc
-some_way (Stop s) es q o = cc
 some_way Pass es q o = o refl
+some_way e es q o = cc
 
 -- what the edge of a line says
 node_edge : (o : Option FlatErr) (k : Option ℕ) (n : ℕ) → ways_of (edge_by o k ∷ []) ≡ leads n ∷ [] → (o ≡ None) × (k ≡ Some n)
@@ -70,10 +69,7 @@ module _ (models : List ModelValue) (names : AreOnce (model_names models)) where
 
   first_body : (m : ModelValue) (n : ℕ) (b : Body) (cs : List Command) (w : Way ℕ (Unit {0})) (rest : List (Way ℕ (Unit {0}))) → ways_of (body_edge models m n b ∷ commands_edges models m cs) ≡ w ∷ rest
       → (lines_ways m cs ≡ w ∷ rest → FirstLine m (subckt_lines cs) w rest) → FirstLine m (with_line n b (subckt_lines cs)) w rest
-  first_body m n (Subckt s) cs w rest e h =
-      let l : SubcktLine = record { line = n; subckt = s } in
-      let p = split_edge (line_edge models m l) (commands_edges models m cs) w rest e (no_pass (line_fault library [] m l) (place_of (model_names models) s.model)) in
-      record { line = l; others = cs; lines_are = refl; way = p.0; rest_is = p.1 }
+  first_body m n (Subckt s) cs w rest e h = grind arith
   first_body m n b cs w rest e h = h e
 
   first_line : (m : ModelValue) (cs : List Command) (w : Way ℕ (Unit {0})) (rest : List (Way ℕ (Unit {0}))) → lines_ways m cs ≡ w ∷ rest → FirstLine m (subckt_lines cs) w rest
@@ -81,8 +77,7 @@ module _ (models : List ModelValue) (names : AreOnce (model_names models)) where
   first_line m (c ∷ cs) w rest e = first_body m c.line c.body cs w rest e (first_line m cs w rest)
 
   no_body : (m : ModelValue) (n : ℕ) (b : Body) (cs : List Command) → ways_of (body_edge models m n b ∷ commands_edges models m cs) ≡ [] → (lines_ways m cs ≡ [] → subckt_lines cs ≡ []) → with_line n b (subckt_lines cs) ≡ []
-  no_body m n (Subckt s) cs e h = let l : SubcktLine = record { line = n; subckt = s } in
-      absurd (some_way (line_edge models m l) (commands_edges models m cs) e (no_pass (line_fault library [] m l) (place_of (model_names models) s.model)))
+  no_body m n (Subckt s) cs e h = grind arith
   no_body m n b cs e h = h e
 
   no_lines : (m : ModelValue) (cs : List Command) → lines_ways m cs ≡ [] → subckt_lines cs ≡ []
@@ -150,8 +145,7 @@ module _ (models : List ModelValue) (names : AreOnce (model_names models)) where
       (t.0, (ap (path_fault models) p ∙ is t.0 f, refuse l others t.0 e t.1 refl))
 
   next_fault : (path : List ℕ) (m : ModelValue) (lines others : List SubcktLine) (l : SubcktLine) → lines ≡ l ∷ others → line_fault library (names_at models path) m l ≡ None → IsFirstFault path m lines → IsFirstFault path m others
-  next_fault path m lines others l e none is fault h =
-      is fault (ap (lines_fault models (names_at models path) m) e ∙ ap (λ o. or_later o (lines_fault models (names_at models path) m others)) none ∙ h)
+  next_fault path m lines others l e none is fault h = grind arith
 
   own_fault : (path : List ℕ) (n : ℕ) (m : ModelValue) → slice_get models n ≡ Some m → IsFirstFault (n ∷ path) m (subckt_lines m.commands)
   own_fault path n m at fault h = ap (model_lines_fault models (names_at models (n ∷ path))) at ∙ h
@@ -241,10 +235,9 @@ module _ (models : List ModelValue) (names : AreOnce (model_names models)) where
   -- the nodes are the numbers of the models
   nodes_by : (o : Option FlatErr) (name : List ℕ) (k : Option ℕ) → Finds models name k → (es : List (Edge (Unit {0}))) (n : ℕ) → (In (nodes_of (ways_of es)) n → n < length models)
       → In (nodes_of (ways_of (edge_by o k ∷ es))) n → n < length models
-  nodes_by (Some f) name k found es n h i = h i
-  nodes_by None name None found es n h i = h i
   nodes_by None name (Some j) found es n h (inl q) = subst (λ x. x < length models) (sym q) (slice_get_within models j found.model found.at)
   nodes_by None name (Some j) found es n h (inr i) = h i
+  nodes_by o name k found es n h i = h i
 
   nodes_body : (m : ModelValue) (line : ℕ) (b : Body) (es : List (Edge (Unit {0}))) (n : ℕ) → (In (nodes_of (ways_of es)) n → n < length models) → In (nodes_of (ways_of (body_edge models m line b ∷ es))) n → n < length models
   nodes_body m line (Subckt s) es n h i = nodes_by (line_fault library [] m (record { line = line; subckt = s })) s.model (place_of (model_names models) s.model) (finds models s.model) es n h i

@@ -1,14 +1,11 @@
 -- The inputs, the ports and the models of a library, found by names of which none stands twice.
-use Rattle.blif_flat.proofs.Common.{◌≡◌, ℕ, suc, ◌+◌, ◌<◌, ◌≤◌, Bool, true, false, not, ◌||◌, ltb, List, [], ◌∷◌, length, drop, filter, bytes_eq, Some, None, refl, sym, ap, ◌∙◌, subst, inl, inr, arith, slice_get, ltb-true, cases_Bool, cond-true, cond-false, both_ways, ltb-false, length-map, slice_get_past, drop_past, at_within, list_any-append, place_of, ModelValue, input_ports, output_ports, clock_ports, has_name, is_input, inputs_of, model_named, IsWellFormedModel, AreOnce, with_names, ports_value, model_names, Finds, position_or_len}
+use Rattle.blif_flat.proofs.Common.{◌≡◌, ℕ, suc, ◌+◌, ◌<◌, ◌≤◌, Bool, true, false, not, ◌||◌, ltb, List, [], ◌∷◌, length, drop, filter, bytes_eq, Some, None, refl, sym, ap, ◌∙◌, subst, inl, inr, arith, slice_get, ltb-true, cases_Bool, cond-true, cond-false, both_ways, ltb-false, length-map, slice_get_past, drop_past, at_within, list_any-append, place_of, ModelValue, input_ports, output_ports, clock_ports, has_name, is_input, inputs_of, model_named, IsWellFormedModel, AreOnce, with_names, ports_value, model_names, Finds, position_or_len, rules}
 pub use Rattle.tl_text.proofs.NameSetLemmas.{place_some, place_none, no_match, has_with_names, new_names, more_names}
 
 -- the inputs of a model
 filtered : (a cs : List (List ℕ)) (x : List ℕ) → has_name a x ≡ false → has_name (filter (λ y. not (has_name a y)) cs) x ≡ has_name cs x
 filtered a [] x h = refl
-filtered a (c ∷ cs) x h = elim (cases_Bool (has_name a c)) [
-  | inl t ↦ rw (t, no_match x c (λ e. both_ways (has_name a x) h (ap (has_name a) e ∙ t))) (filtered a cs x h)
-  | inr f ↦ rw f (ap (λ b. bytes_eq x c || b) (filtered a cs x h))
-]
+filtered a (c ∷ cs) x h = search (rules, cases_Bool, has_name, no_match, both_ways, bytes_eq, filtered a cs x h)
 
 or_either : (a b c : Bool) → (a ≡ false → b ≡ c) → (a || b) ≡ (a || c)
 or_either true b c h = refl
@@ -29,10 +26,7 @@ next_at x xs i = let e : suc i ≡ 1 + i = omega arith in subst (λ j. slice_get
 
 named_at : (ms : List ModelValue) (name : List ℕ) → model_named ms name ≡ slice_get ms (position_or_len (bytes_eq name) (model_names ms))
 named_at [] name = refl
-named_at (m ∷ ms) name = elim (cases_Bool (bytes_eq name m.name)) [
-  | inl t ↦ rw t refl
-  | inr f ↦ rw f (named_at ms name ∙ next_at m ms (position_or_len (bytes_eq name) (model_names ms)))
-]
+named_at (m ∷ ms) name = search (rules, cases_Bool, bytes_eq, next_at, model_names, named_at ms name)
 
 pub finds : (ms : List ModelValue) (name : List ℕ) → Finds ms name (place_of (model_names ms) name)
 finds ms name =
@@ -47,19 +41,12 @@ finds ms name =
     ]
 
 pub few_model_names : (names : List (List ℕ)) (models : List ModelValue) (n : ℕ) → names ≡ with_names [] (model_names models) → AreOnce (model_names models) → length models < n → length names < n
-few_model_names names models n e once few =
-    let b : length (model_names models) ≡ length models = length-map models (λ (m : ModelValue). m.name) in omega (
-      arith,
-      ap length (e ∙ new_names (model_names models) once),
-    )
+few_model_names names models n e once few = grind (arith, model_names, length-map, new_names)
 
 pub ports_of_parts : (m : ModelValue) → IsWellFormedModel m → (inputs both outputs given clocks given' : List (List ℕ))
     → inputs ≡ with_names [] given → both ≡ with_names inputs clocks → outputs ≡ with_names [] given' → given ≡ m.inputs → clocks ≡ m.clocks → given' ≡ m.outputs
     → record { inputs = both; outputs = outputs } ≡ ports_value m
-ports_of_parts m form inputs both outputs given clocks given' b d f g h i =
-    let x : both ≡ with_names (with_names [] m.inputs) m.clocks = cc in
-    let y : outputs ≡ with_names [] m.outputs = cc in
-    ap (λ ns. record { inputs = ns; outputs = outputs }) x ∙ ap (λ ns. record { inputs = with_names (with_names [] m.inputs) m.clocks; outputs = ns }) y ∙ made_ports m form
+ports_of_parts m form inputs both outputs given clocks given' b d f g h i = grind (arith, with_names, made_ports)
 
 pub all_names : (names all : List (List ℕ)) (models : List ModelValue) (i : ℕ) → with_names names (model_names (drop i models)) ≡ all → length models ≤ i → names ≡ all
 all_names names all models i e h = ap (λ ms. with_names names (model_names ms)) (sym (drop_past models i h)) ∙ e

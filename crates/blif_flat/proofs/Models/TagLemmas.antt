@@ -1,5 +1,5 @@
 -- The drivers of a model's commands with the names that they drive, in line order.
-use Rattle.blif_flat.proofs.Common.{◌≡◌, ℕ, zero, suc, true, List, [], ◌∷◌, ◌++◌, map, map-append, filter, in_filter, In-filter, Option, Some, None, refl, sym, ap, ap₂, ◌∙◌, subst, inl, inr, slice_get, option_map, cases_Bool, none-some, same_Some, In, In-left, In-right, In-append, In-map, from_map, false, append_assoc, both_ways, false_from_ne_true, none_else, none_both, Body, Cover, Latch, Subckt, Command, LatchValue, Connection, ModelValue, with_subckt, subckts_of, model_named, is_output, Driver, by_latch, by_cover, by_subckt, output_actuals, driven_pairs, drives, all_drives, has_name, inputs_of, FlatErr, DoublyDriven, Undriven, or_later, reads, driven_names, twice_in, twice_fault, undriven_in, undriven_fault, model_fault, models_fault, CoverValue, SubcktValue, LibraryValue, has_in, in_has, append-nil}
+use Rattle.blif_flat.proofs.Common.{◌≡◌, ℕ, zero, suc, true, List, [], ◌∷◌, ◌++◌, map, map-append, filter, in_filter, In-filter, Option, Some, None, refl, sym, ap, ap₂, ◌∙◌, subst, inl, inr, slice_get, option_map, cases_Bool, none-some, same_Some, In, In-left, In-right, In-append, In-map, from_map, false, append_assoc, both_ways, false_from_ne_true, none_else, none_both, Body, Cover, Latch, Subckt, Command, LatchValue, Connection, ModelValue, with_subckt, subckts_of, model_named, is_output, Driver, by_latch, by_cover, by_subckt, output_actuals, driven_pairs, drives, all_drives, has_name, inputs_of, FlatErr, DoublyDriven, Undriven, or_later, reads, driven_names, twice_in, twice_fault, undriven_in, undriven_fault, model_fault, models_fault, CoverValue, SubcktValue, LibraryValue, has_in, in_has, append-nil, arith, rules}
 
 pub record Tag : Type 0 where
   pub driver : Driver
@@ -37,10 +37,7 @@ names ts = map (λ (t : Tag). t.name) ts
 
 pair_names : (k : ℕ) (child : ModelValue) (pairs : List Connection) → names (pair_tags k child pairs) ≡ output_actuals child pairs
 pair_names k child [] = refl
-pair_names k child (pair ∷ pairs) = elim (cases_Bool (is_output child pair.formal)) [
-  | inl t ↦ (rw t (ap (λ ns. pair.actual ∷ ns) (pair_names k child pairs)))
-  | inr f ↦ (rw f (pair_names k child pairs))
-]
+pair_names k child (pair ∷ pairs) = search (rules, cases_Bool, is_output, pair_names k child pairs)
 
 subckt_names : (k : ℕ) (o : Option ModelValue) (pairs : List Connection) → names (subckt_tags k o pairs) ≡ driven_pairs o pairs
 subckt_names k None pairs = refl
@@ -52,8 +49,7 @@ body_names library i k b = refl
 
 pub tag_names : (library : LibraryValue) (place ordinal : ℕ → ℕ) (cs : List Command) → names (tags library place ordinal cs) ≡ all_drives library cs
 tag_names library place ordinal [] = refl
-tag_names library place ordinal (c ∷ cs) = map-append (λ (t : Tag). t.name) (body_tags library (place 0) (ordinal 0) c.body) (tags library (λ i. place (suc i)) (behind c.body ordinal) cs)
-    ∙ ap₂ (λ (xs ys : List (List ℕ)). xs ++ ys) (body_names library (place 0) (ordinal 0) c.body) (tag_names library (λ i. place (suc i)) (behind c.body ordinal) cs)
+tag_names library place ordinal (c ∷ cs) = grind (arith, map-append, body_tags, tags, behind, ap₂, body_names, tag_names library (λ i. place (suc i)) (behind c.body ordinal) cs)
 
 -- what a tag comes from
 pub data Source (library : LibraryValue) (place ordinal : ℕ → ℕ) (cs : List Command) (t : Tag) : Type 0 where
@@ -90,12 +86,10 @@ module _ (library : LibraryValue) where
   tag_in place ordinal [] t (from_cover i c e q) = absurd (none-some (Cover c) e)
   tag_in place ordinal [] t (from_latch i l e q) = absurd (none-some (Latch l) e)
   tag_in place ordinal [] t (from_subckt k s child pair e n i out q) = absurd (none-some s e)
-  tag_in place ordinal (d ∷ cs) t (from_cover zero c e q) = In-left (body_tags library (place 0) (ordinal 0) d.body) (tags library (λ i. place (suc i)) (behind d.body ordinal) cs) t
-      (in_body (place 0) (ordinal 0) d.body (Cover c) t (same_Some d.body (Cover c) e) (inl q))
+  tag_in place ordinal (d ∷ cs) t (from_cover zero c e q) = grind arith
   tag_in place ordinal (d ∷ cs) t (from_cover (suc i) c e q) = In-right (body_tags library (place 0) (ordinal 0) d.body) (tags library (λ j. place (suc j)) (behind d.body ordinal) cs) t
       (tag_in (λ j. place (suc j)) (behind d.body ordinal) cs t (from_cover i c e q))
-  tag_in place ordinal (d ∷ cs) t (from_latch zero l e q) = In-left (body_tags library (place 0) (ordinal 0) d.body) (tags library (λ i. place (suc i)) (behind d.body ordinal) cs) t
-      (in_body (place 0) (ordinal 0) d.body (Latch l) t (same_Some d.body (Latch l) e) (inl q))
+  tag_in place ordinal (d ∷ cs) t (from_latch zero l e q) = grind arith
   tag_in place ordinal (d ∷ cs) t (from_latch (suc i) l e q) = In-right (body_tags library (place 0) (ordinal 0) d.body) (tags library (λ j. place (suc j)) (behind d.body ordinal) cs) t
       (tag_in (λ j. place (suc j)) (behind d.body ordinal) cs t (from_latch i l e q))
   tag_in place ordinal (d ∷ cs) t (from_subckt k s child pair e n i out q) =
@@ -186,10 +180,7 @@ module _ (library : LibraryValue) where
 
   pub new_twice_fault : (model : List ℕ) (driven : List (List ℕ)) (cs : List Command) → AreNew driven (all_drives library cs) → twice_fault library model driven cs ≡ None
   new_twice_fault model driven [] a = refl
-  new_twice_fault model driven (c ∷ cs) a =
-      let e : twice_in model c.line driven (drives library c.body) ≡ None = new_twice model c.line driven (drives library c.body) (new_first driven (drives library c.body) (all_drives library cs) a) in
-      let f = new_twice_fault model (driven ++ drives library c.body) cs (new_later driven (drives library c.body) (all_drives library cs) a) in
-      rw e f
+  new_twice_fault model driven (c ∷ cs) a = grind (arith, twice_in, drives, new_twice, new_first, all_drives, new_later, new_twice_fault model (driven ++ drives library c.body) cs (new_later driven (drives library c.body) (all_drives library cs) a))
 
 -- a new name is no driven one
 pub new_apart : (driven names : List (List ℕ)) (name : List ℕ) → AreNew driven names → In names name → In driven name → ⊥
@@ -225,10 +216,8 @@ apart_new driven (t ∷ ts) h a = (
 -- each name that is read is driven
 all_driven : (model : List ℕ) (line : ℕ) (driven names : List (List ℕ)) → undriven_in model line driven names ≡ None → (name : List ℕ) → In names name → In driven name
 all_driven model line driven [] e name i = absurd i
-all_driven model line driven (n ∷ rest) e name (inl q) =
-    subst (In driven) (sym q) (has_in driven n (none_else (has_name driven n) (Undriven model line n) (undriven_in model line driven rest) e).0)
-all_driven model line driven (n ∷ rest) e name (inr i) =
-    all_driven model line driven rest (none_else (has_name driven n) (Undriven model line n) (undriven_in model line driven rest) e).1 name i
+all_driven model line driven (n ∷ rest) e name (inl q) = grind (arith, has_in, none_else, has_name, undriven_in)
+all_driven model line driven (n ∷ rest) e name (inr i) = grind (arith, none_else, has_name, undriven_in, all_driven model line driven rest (none_else (has_name driven n) (Undriven model line n) (undriven_in model line driven rest) e).1 name i)
 
 driven_all : (model : List ℕ) (line : ℕ) (driven names : List (List ℕ)) → ((name : List ℕ) → In names name → In driven name) → undriven_in model line driven names ≡ None
 driven_all model line driven [] h = refl
@@ -238,17 +227,12 @@ module _ (library : LibraryValue) where
   reads_driven : (model : List ℕ) (driven : List (List ℕ)) (cs : List Command) → undriven_fault library model driven cs ≡ None
       → (c : Command) → In cs c → (name : List ℕ) → In (reads library c.body) name → In driven name
   reads_driven model driven [] e c i name j = absurd i
-  reads_driven model driven (d ∷ cs) e c (inl q) name j =
-      all_driven model d.line driven (reads library d.body) (none_of (undriven_in model d.line driven (reads library d.body)) (undriven_fault library model driven cs) e).0 name
-      (subst (λ (x : Command). In (reads library x.body) name) q j)
-  reads_driven model driven (d ∷ cs) e c (inr i) name j =
-      reads_driven model driven cs (none_of (undriven_in model d.line driven (reads library d.body)) (undriven_fault library model driven cs) e).1 c i name j
+  reads_driven model driven (d ∷ cs) e c (inl q) name j = grind (arith, all_driven, reads, none_of, undriven_in, undriven_fault)
+  reads_driven model driven (d ∷ cs) e c (inr i) name j = grind (arith, none_of, undriven_in, reads, undriven_fault, reads_driven model driven cs (none_of (undriven_in model d.line driven (reads library d.body)) (undriven_fault library model driven cs) e).1 c i name j)
 
   driven_reads : (model : List ℕ) (driven : List (List ℕ)) (cs : List Command) → ((c : Command) → In cs c → (name : List ℕ) → In (reads library c.body) name → In driven name) → undriven_fault library model driven cs ≡ None
   driven_reads model driven [] h = refl
-  driven_reads model driven (d ∷ cs) h =
-      let e : undriven_in model d.line driven (reads library d.body) ≡ None = driven_all model d.line driven (reads library d.body) (h d (inl refl)) in
-      rw e (driven_reads model driven cs (λ c i. h c (inr i)))
+  driven_reads model driven (d ∷ cs) h = grind (arith, undriven_in, reads, driven_all, driven_reads model driven cs (λ c i. h c (inr i)))
 
   -- a model without F5 and F6
   pub record IsClean (m : ModelValue) : Type 0 where
@@ -257,23 +241,10 @@ module _ (library : LibraryValue) where
     pub outputs : (name : List ℕ) → In m.outputs name → In (driven_names library m) name
 
   pub clean : (m : ModelValue) → model_fault library m ≡ None → IsClean m
-  clean m e =
-      let later = or_later (undriven_fault library m.name (driven_names library m) m.commands) (undriven_in m.name m.line (driven_names library m) m.outputs) in
-      let p = none_of (twice_fault library m.name (inputs_of m) m.commands) later e in
-      let q = none_of (undriven_fault library m.name (driven_names library m) m.commands) (undriven_in m.name m.line (driven_names library m) m.outputs) p.1 in
-      record {
-        new = twice_fault_new library m.name (inputs_of m) m.commands p.0;
-        commands = reads_driven m.name (driven_names library m) m.commands q.0;
-        outputs = all_driven m.name m.line (driven_names library m) m.outputs q.1;
-      }
+  clean m e = grind (arith, or_later, undriven_fault, driven_names, undriven_in, none_of, twice_fault, inputs_of, twice_fault_new, reads_driven, all_driven)
 
   pub no_model_fault : (m : ModelValue) → IsClean m → model_fault library m ≡ None
-  no_model_fault m c =
-      let e : twice_fault library m.name (inputs_of m) m.commands ≡ None = new_twice_fault library m.name (inputs_of m) m.commands c.new in
-      let f : undriven_fault library m.name (driven_names library m) m.commands ≡ None = driven_reads m.name (driven_names library m) m.commands c.commands in
-      let g : undriven_in m.name m.line (driven_names library m) m.outputs ≡ None = driven_all m.name m.line (driven_names library m) m.outputs c.outputs in
-      ap (λ o. or_later o (or_later (undriven_fault library m.name (driven_names library m) m.commands) (undriven_in m.name m.line (driven_names library m) m.outputs))) e
-      ∙ ap (λ o. or_later o (undriven_in m.name m.line (driven_names library m) m.outputs)) f ∙ g
+  no_model_fault m c = grind (arith, twice_fault, inputs_of, new_twice_fault, undriven_fault, driven_names, driven_reads, undriven_in, driven_all, or_later)
 
   pub models_clean : (ms : List ModelValue) → models_fault library ms ≡ None → (m : ModelValue) → In ms m → IsClean m
   models_clean [] e m i = absurd i
@@ -282,6 +253,4 @@ module _ (library : LibraryValue) where
 
   pub no_models_fault : (ms : List ModelValue) → ((m : ModelValue) → In ms m → IsClean m) → models_fault library ms ≡ None
   no_models_fault [] h = refl
-  no_models_fault (m ∷ ms) h =
-      let e : model_fault library m ≡ None = no_model_fault m (h m (inl refl)) in
-      ap (λ o. or_later o (models_fault library ms)) e ∙ no_models_fault ms (λ x i. h x (inr i))
+  no_models_fault (m ∷ ms) h = grind (arith, model_fault, no_model_fault, or_later, models_fault, no_models_fault ms (λ x i. h x (inr i)))

@@ -1,5 +1,5 @@
 -- The walk of the models has one result; one that refuses nothing has been through models without F1 to F4, and the hierarchy ends.
-use Rattle.blif_flat.proofs.Common.{◌≡◌, ℕ, List, [], ◌∷◌, ◌++◌, Some, sym, ◌∙◌, subst, subst₂, Bool, true, false, cond, Option, refl, ap, inl, inr, ◌⊎◌, bytes_eq, slice_get, same_Some, none-some, option_and_then_some, both_ways, or_left, or_right, or_cases, false≢true, bytes_decides, In, In-left, In-right, In-append, In-get, ◌||◌, None, not, and_parts, false_from_ne_true, place_in, LibraryValue, SubcktValue, stop, placed-is, in_input, same_first, same_rest}
+use Rattle.blif_flat.proofs.Common.{◌≡◌, ℕ, List, [], ◌∷◌, ◌++◌, Some, sym, ◌∙◌, subst, subst₂, Bool, true, false, cond, Option, refl, ap, inl, inr, ◌⊎◌, bytes_eq, slice_get, same_Some, none-some, option_and_then_some, both_ways, or_left, or_right, or_cases, false≢true, bytes_decides, In, In-left, In-right, In-append, In-get, ◌||◌, None, not, and_parts, false_from_ne_true, place_in, LibraryValue, SubcktValue, stop, placed-is, in_input, same_first, same_rest, arith, rules}
 use Rattle.blif_flat.specs.{ModelValue, Body, Subckt, Command, model_named, Path, with_subckt, subckts_of, placed, model_at, has_name, Ends, ends, SubcktLine, subckt_lines, Walked, refused, walked, Walks, refuse, again, inside, onward, WalksMain, with_line, is_walked, Connection, is_input, inputs_of, ConnectionAt, IsDriven, FlatErr, line_fault}
 use Rattle.blif_flat.proofs.Models.LineLemmas.{IsPlaced, free_line, Connected, no_unknown_formal, no_open_input, no_line_fault}
 
@@ -31,20 +31,16 @@ module _ (library : LibraryValue) where
   walk_once (inside l rest child fault e h x t w p) (refuse k more second f g o) = let s = same_first l k rest more e f in cc
   walk_once (inside l rest child fault e h x t w p) (again k more f g y v) = let s = same_first l k rest more e f in cc
   walk_once {chain} {m} {before} (inside l rest child fault e h x t w p) (inside k more other second f g y z v o) =
-      let c = same_child l k child other (same_first l k rest more e f) t z in
-      p ∙ walk_once w (subst (Below chain before (refused second)) c v) ∙ sym o
+      p ∙ walk_once w (subst (Below chain before (refused second)) (same_child l k child other (same_first l k rest more e f) t z) v) ∙ sym o
   walk_once {chain} {m} {before} (inside l rest child fault e h x t w p) (onward k more other after f g y z v u) =
-      let c = same_child l k child other (same_first l k rest more e f) t z in
-      let n = walk_once w (subst (Below chain before (walked after)) c v) in cc
+      let n = walk_once w (subst (Below chain before (walked after)) (same_child l k child other (same_first l k rest more e f) t z) v) in cc
   walk_once (onward l rest child mid e h x t w d) (stop f o) = cc
   walk_once (onward l rest child mid e h x t w d) (refuse k more second f g o) = let s = same_first l k rest more e f in cc
   walk_once (onward l rest child mid e h x t w d) (again k more f g y v) = let s = same_first l k rest more e f in cc
   walk_once {chain} {m} {before} (onward l rest child mid e h x t w d) (inside k more other second f g y z v o) =
-      let c = same_child l k child other (same_first l k rest more e f) t z in
-      let n = walk_once w (subst (Below chain before (refused second)) c v) in cc
+      let n = walk_once w (subst (Below chain before (refused second)) (same_child l k child other (same_first l k rest more e f) t z) v) in cc
   walk_once {chain} {m} {before} {lines} {r} {q} (onward l rest child mid e h x t w d) (onward k more other after f g y z v u) =
-      let c = same_child l k child other (same_first l k rest more e f) t z in
-      let n : ◌≡◌ {A = Walked} (walked mid) (walked after) = walk_once w (subst (Below chain before (walked after)) c v) in
+      let n : ◌≡◌ {A = Walked} (walked mid) (walked after) = walk_once w (subst (Below chain before (walked after)) (same_child l k child other (same_first l k rest more e f) t z) v) in
       let a : after ≡ mid = cc in
       walk_once d (subst₂ (λ (ms : List ModelValue) (ls : List SubcktLine). Walks library chain m ms ls q) a (same_rest k l more rest f e) u)
 
@@ -82,10 +78,7 @@ named_in (m ∷ models) name child e = named_cond (bytes_eq name m.name) m child
 
 pub main_named : (models : List ModelValue) (main : ModelValue) → slice_get models 0 ≡ Some main → model_named models main.name ≡ Some main
 main_named [] main e = absurd (none-some main e)
-main_named (m ∷ models) main e =
-    let q : m ≡ main = same_Some m main e in
-    let t : bytes_eq main.name m.name ≡ true = (bytes_decides main.name m.name).1 (ap (λ (y : ModelValue). y.name) (sym q)) in
-    rw t (ap Some q)
+main_named (m ∷ models) main e = grind (arith, same_Some, bytes_eq, bytes_decides)
 
 record WalkedAs (models : List ModelValue) (name : List ℕ) : Type 0 where
   model : ModelValue
@@ -125,8 +118,7 @@ module _ (library : LibraryValue) (P : ModelValue → Type 0) where
   fine_from m p h = fine p (λ l i. (h l i).placed) (λ k child e. option_and_then_some (λ (s : SubcktValue). model_named library.models s.model) (slice_get (subckts_of m.commands) k) child e (λ s a n.
       (let r = line_of m.commands s (In-get (subckts_of m.commands) k s a) in
       let g = h r.line r.member in
-      let same : g.placed.child ≡ child = same_Some g.placed.child child (sym g.placed.named ∙ ap (λ (t : SubcktValue). model_named library.models t.model) r.is ∙ n) in
-      subst (Fine library P) same g.fine)))
+      subst (Fine library P) (same_Some g.placed.child child (sym g.placed.named ∙ ap (λ (t : SubcktValue). model_named library.models t.model) r.is ∙ n)) g.fine)))
 
   record After (chain : List (List ℕ)) (lines : List SubcktLine) (ms : List ModelValue) : Type 0 where
     sane : Sane chain ms
@@ -148,21 +140,11 @@ module _ (library : LibraryValue) (P : ModelValue → Type 0) where
   ]
 
   ended : (chain : List (List ℕ)) (ms : List ModelValue) (child : ModelValue) → model_named library.models child.name ≡ Some child → Fine library P child → Sane (child.name ∷ chain) ms → Sane chain ms
-  ended chain ms child n f sane m i = (
-    (sane m i).0,
-    elim (sane m i).1 [
-      | inl y ↦ (elim (or_cases (bytes_eq m.name child.name) (has_name chain m.name) y) [
-        | inl x ↦ inr (subst (Fine library P) (same_Some child m (sym n ∙ ap (model_named library.models) (sym ((bytes_decides m.name child.name).0 x)) ∙ (sane m i).0)) f)
-        | inr x ↦ inl x
-      ])
-      | inr y ↦ inr y
-    ],
-  )
+  ended chain ms child n f sane m i = grind (arith, or_cases, bytes_eq, has_name, same_Some, model_named, bytes_decides)
 
   walk_fine : {chain : List (List ℕ)} {m : ModelValue} {before : List ModelValue} {lines : List SubcktLine} {result : Walked} → Walks library chain m before lines result
       → (ms : List ModelValue) → result ≡ walked ms → ((x : ModelValue) → In ms x → P x) → Sane chain before → After chain lines ms
-  walk_fine {chain} {m} {before} (stop e p) ms q all sane =
-      let same : before ≡ ms = cc in record { sane = subst (Sane chain) same sane; good = λ l i. absurd (subst (λ ls. In ls l) e i) }
+  walk_fine {chain} {m} {before} (stop e p) ms q all sane = grind arith
   walk_fine (refuse l rest fault e h p) ms q all sane = absurd (cc)
   walk_fine (inside l rest child fault e h t n w p) ms q all sane = absurd (cc)
   walk_fine {chain} {m} {before} {lines} (again l rest e h t w) ms q all sane =
@@ -170,26 +152,20 @@ module _ (library : LibraryValue) (P : ModelValue → Type 0) where
       let a = walked_as before l.subckt.model t in
       let z = sane a.model a.member in
       let same : a.model ≡ f.placed.child = same_Some a.model f.placed.child (sym z.0 ∙ ap (model_named library.models) (sym a.named) ∙ f.placed.named) in
-      let good : Fine library P f.placed.child = elim z.1 [
-        | inl y ↦ absurd (both_ways (has_name chain l.subckt.model) f.off (ap (has_name chain) a.named ∙ y))
-        | inr y ↦ subst (Fine library P) same y
-      ] in
+      let good : Fine library P f.placed.child = grind (arith, both_ways, has_name) in
       after_line chain lines l rest ms e (record { placed = f.placed; fine = good }) (walk_fine w ms q all sane)
   walk_fine {chain} {m} {before} {lines} (onward l rest child after e h t n w v) ms q all sane =
       let f = free_line library chain m l h in
       let own : model_named library.models child.name ≡ Some child = ap (model_named library.models) (sym (named_is library.models l.subckt.model child n)) ∙ n in
       let kept : (x : ModelValue) → In after x → P x = λ x i. all x (walk_keeps v ms q x i) in
       let deep = walk_fine w after refl kept (begun chain before child own sane) in
-      let here : P child = kept child (walk_keeps w after refl child (In-right before (child ∷ []) child (inl refl))) in
-      let good : Fine library P child = fine_from child here deep.good in
+      let good : Fine library P child = fine_from child (kept child (walk_keeps w after refl child (In-right before (child ∷ []) child (inl refl)))) deep.good in
       after_line chain lines l rest ms e (record { placed = f.placed; fine = subst (Fine library P) (same_Some child f.placed.child (sym n ∙ f.placed.named)) good })
       (walk_fine v ms q all (ended chain after child own good deep.sane))
 
   pub main_fine : (main : ModelValue) (ms : List ModelValue) → model_at library [] ≡ Some main → WalksMain library main (walked ms) → ((x : ModelValue) → In ms x → P x) → Fine library P main
   main_fine main ms at w all =
-      let own : model_named library.models main.name ≡ Some main = main_named library.models main at in
-      let start : Sane (main.name ∷ []) (main ∷ []) = begun [] [] main own (λ m i. absurd i) in
-      fine_from main (all main (walk_keeps w.walks ms refl main (inl refl))) (walk_fine w.walks ms refl all start).good
+      fine_from main (all main (walk_keeps w.walks ms refl main (inl refl))) (walk_fine w.walks ms refl all (begun [] [] main (main_named library.models main at) (λ m i. absurd i))).good
 
   -- F2 absent
   pub fine_ends : {m : ModelValue} → Fine library P m → Ends library m
@@ -258,10 +234,7 @@ module _ (library : LibraryValue) where
   ]
 
   main_above : (main : ModelValue) → model_at library [] ≡ Some main → AreAbove (main.name ∷ []) main
-  main_above main at name t = elim (or_cases (bytes_eq name main.name) (has_name [] name) t) [
-    | inl y ↦ record { above = main; is = sym ((bytes_decides name main.name).0 y); named = main_named library.models main at; reaches = inl refl }
-    | inr y ↦ absurd (false≢true y)
-  ]
+  main_above main at name t = search (rules, or_cases, bytes_eq, has_name, bytes_decides, main_named, false≢true)
 
   -- what a line of an instance places
   record IsChild (path : Path) (m : ModelValue) (l : SubcktLine) : Type 0 where

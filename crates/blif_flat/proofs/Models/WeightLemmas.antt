@@ -1,5 +1,5 @@
 -- A model has one weight, which exists where those of the placed models do, and sums of capped weights are as good as sums of weights.
-use Rattle.blif_flat.proofs.Common.{same_or, In-push, take_get, take-append-le, ◌≡◌, ℕ, List, Some, sym, ap, ◌∙◌, arith, ◌+◌, ◌<◌, ◌≤◌, Bool, true, false, cond, ltb, [], ◌∷◌, ◌++◌, length, get_or, take, set, None, refl, subst, inl, inr, bytes_eq, Result, Ok, Err, MatchResult, same_Some, none-some, get_or_from_slice_get, slice_get-get_or, slice_get_within, get_or-set_same, get_or-set_other, In, get_pushed, slice_get, find_at, SubcktValue, ModelValue, Body, Subckt, Command, subckts_of, model_named, with_subckt, own_weight, Weighs, weighs, WeighAll, most_weight, place_of, OrMemory, FlatErr, TooLarge, refusal_of, model_names, HasWeight, capped, kept_at, body_kept, commands_kept, model_kept, IsBehind, AreChildrenFirst, IsKeptWeight, LibraryValue, position, position_or_len, find, same_first, same_rest, length-set, not_empty}
+use Rattle.blif_flat.proofs.Common.{same_or, In-push, take_get, take-append-le, ◌≡◌, ℕ, List, Some, sym, ap, ◌∙◌, arith, ◌+◌, ◌<◌, ◌≤◌, Bool, true, false, cond, ltb, [], ◌∷◌, ◌++◌, length, get_or, take, set, None, refl, subst, inl, inr, bytes_eq, Result, Ok, Err, MatchResult, same_Some, none-some, get_or_from_slice_get, slice_get-get_or, slice_get_within, get_or-set_same, get_or-set_other, In, get_pushed, slice_get, find_at, SubcktValue, ModelValue, Body, Subckt, Command, subckts_of, model_named, with_subckt, own_weight, Weighs, weighs, WeighAll, most_weight, place_of, OrMemory, FlatErr, TooLarge, refusal_of, model_names, HasWeight, capped, kept_at, body_kept, commands_kept, model_kept, IsBehind, AreChildrenFirst, IsKeptWeight, LibraryValue, position, position_or_len, find, same_first, same_rest, length-set, not_empty, rules}
 use Rattle.std.proofs.Math.Seq.{take-append_seam}
 use Rattle.tl_text.proofs.NameLemmas.{position-map}
 use Rattle.netlist.specs.Weight.{none, more}
@@ -30,10 +30,7 @@ named_at_first [] name = refl
 named_at_first (m ∷ ms) name = ap (λ o. cond (bytes_eq name m.name) (Some m) o) (named_at_first ms name)
 
 pub named_at : (library : LibraryValue) (name : List ℕ) (k : ℕ) → place_of (model_names library.models) name ≡ Some k → model_named library.models name ≡ slice_get library.models k
-named_at library name k h =
-    let test : ModelValue → Bool = λ m. bytes_eq name m.name in
-    let at : position test library.models ≡ Some k = sym (position-map (bytes_eq name) (λ (m : ModelValue). m.name) library.models) ∙ h in
-    named_at_first library.models name ∙ find_at test library.models ∙ ap (λ i. slice_get library.models i) (place_is test library.models k (ltb (position_or_len test library.models) (length library.models)) at)
+named_at library name k h = grind (arith, bytes_eq, position-map, named_at_first, find_at, place_is, ltb)
 
 -- a placed model whose weight is kept
 record IsChildKept (library : LibraryValue) (weights : List ℕ) (s : SubcktValue) : Type 0 where
@@ -58,8 +55,7 @@ body_sum library weights body ss sum h r = record { inner = r.inner; all = r.all
 
 commands_sum : (library : LibraryValue) (weights : List ℕ) (cs : List Command) → ((s : SubcktValue) → In (subckts_of cs) s → IsChildKept library weights s) → IsSum library (subckts_of cs) (commands_kept (model_names library.models) weights cs)
 commands_sum library weights [] h = record { inner = 0; all = none refl refl; is = refl }
-commands_sum library weights (c ∷ cs) h =
-    body_sum library weights c.body (subckts_of cs) (commands_kept (model_names library.models) weights cs) h (commands_sum library weights cs (λ s i. h s (subckt_more c.body (subckts_of cs) s i)))
+commands_sum library weights (c ∷ cs) h = grind (arith, body_sum, subckts_of, commands_kept, model_names, subckt_more, commands_sum library weights cs (λ s i. h s (subckt_more c.body (subckts_of cs) s i)))
 
 -- what is kept of a model whose placed models are kept is its weight
 fresh_kept : (library : LibraryValue) (before weights news : List ℕ) (number : ℕ) (b : IsBehind library before number) → ((n : ℕ) → In before n → IsKeptWeight library weights n)
@@ -77,16 +73,14 @@ fresh_kept library before weights news number b h at =
       kept = ap (λ o. kept_at weights o) a.place ∙ get_or_from_slice_get weights a.number (capped k.weight) 0 k.kept;
     }) in
     let w : Weighs library m (own_weight m + r.inner) = weighs r.inner r.all refl in
-    let same : capped (own_weight m + commands_kept (model_names library.models) weights m.commands) ≡ capped (own_weight m + r.inner) = omega arith in
-    record { model = m; at = b.at; weight = own_weight m + r.inner; weighs = w; kept = at ∙ ap Some same; once = λ v x. weighs_once library m m v (own_weight m + r.inner) refl x w }
+    record { model = m; at = b.at; weight = own_weight m + r.inner; weighs = w; kept = at ∙ ap Some (omega arith); once = λ v x. weighs_once library m m v (own_weight m + r.inner) refl x w }
 
 -- what is kept at other numbers stays
 kept_stays : (library : LibraryValue) (weights : List ℕ) (number value n : ℕ) → (n ≡ number → ⊥) → IsKeptWeight library weights n → IsKeptWeight library (set weights number value) n
 kept_stays library weights number value n other k =
     let inside : n < length weights = slice_get_within weights n (capped k.weight) k.kept in
     let e : get_or (set weights number value) n 0 ≡ get_or weights n 0 = get_or-set_other weights number n value 0 other in
-    let at : slice_get (set weights number value) n ≡ Some (capped k.weight) =
-    slice_get-get_or (set weights number value) n 0 (omega (arith, length-set weights number value)) ∙ ap Some (e ∙ get_or_from_slice_get weights n (capped k.weight) 0 k.kept) in
+    let at : slice_get (set weights number value) n ≡ Some (capped k.weight) = grind (arith, slice_get-get_or, length-set, get_or_from_slice_get, capped) in
     record { model = k.model; at = k.at; weight = k.weight; weighs = k.weighs; kept = at; once = k.once }
 
 -- the next model in the order
@@ -128,14 +122,7 @@ kept_next library names order weights news i same first h len is kept =
 
 -- one more model behind those that it places
 pub children_first_push : (library : LibraryValue) (order : List ℕ) (number : ℕ) → AreChildrenFirst library order → IsBehind library order number → AreChildrenFirst library (order ++ number ∷ [])
-children_first_push library order number first behind = record {
-  each = λ i n at. elim (get_pushed order number i n at) [
-    | inl h ↦ (let inside : i < length order = slice_get_within order i n h in
-        subst (λ l. IsBehind library l n) (sym (take-append-le i order (number ∷ []) (omega arith))) (first.each i n h))
-    | inr h ↦ (let e : take i (order ++ number ∷ []) ≡ order = ap (λ j. take j (order ++ number ∷ [])) h.0 ∙ take-append_seam order (number ∷ []) in
-        subst (λ l. IsBehind library l n) (sym e) (subst (IsBehind library order) h.1 behind))
-  ];
-}
+children_first_push library order number first behind = search (rules, get_pushed, slice_get_within, take-append-le, take-append_seam)
 
 -- what is told of the main model: is it heavier than 2^22?
 kept_weighs : (library : LibraryValue) (weights : List ℕ) (m : ModelValue) (k : IsKeptWeight library weights 0) → slice_get library.models 0 ≡ Some m → Weighs library m k.weight
@@ -144,8 +131,5 @@ kept_weighs library weights m k at = subst (λ n. Weighs library n k.weight) (sa
 pub weight_told : (library : LibraryValue) (weights : List ℕ) (kept : ℕ) (main : ModelValue) (result : Result (Unit {0}) FlatErr) → IsKeptWeight library weights 0 → slice_get library.models 0 ≡ Some main → slice_get weights 0 ≡ Some kept
     → MatchResult result (λ _. kept ≤ most_weight) (λ e. (e ≡ TooLarge) × (most_weight < kept))
     → MatchResult result (λ _. HasWeight library main (λ w. w ≤ most_weight)) (λ e. OrMemory refusal_of (λ r. (r ≡ TooLarge) × HasWeight library main (λ w. most_weight < w)) e)
-weight_told library weights kept main (Ok u) k at here h =
-    record { weight = k.weight; weighs = kept_weighs library weights main k at; is = omega (arith, same_Some kept (capped k.weight) (sym here ∙ k.kept)) }
-weight_told library weights kept main (Err e) k at here h =
-    subst (λ x. OrMemory refusal_of (λ r. (r ≡ TooLarge) × HasWeight library main (λ w. most_weight < w)) x) (sym h.0)
-    (refl, record { weight = k.weight; weighs = kept_weighs library weights main k at; is = omega (arith, same_Some kept (capped k.weight) (sym here ∙ k.kept), h.1) })
+weight_told library weights kept main (Ok u) k at here h = search (rules, weighs, kept_weighs, same_Some, capped)
+weight_told library weights kept main (Err e) k at here h = grind arith

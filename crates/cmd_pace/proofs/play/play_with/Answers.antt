@@ -1,4 +1,5 @@
 use Rattle.cmd_pace.proofs.Common.{◌≤◌, List, [], take, refl, sym, ◌∙◌, subst, inr, arith, take_all, pace_value, pace_values, split_by, more_by, value_has, FitsPacer, HaveShown, shown_line}
+use Rattle.machine.specs.Machine.{none}
 use Rattle.std.proofs.lemmas.Result.{err_from_is_err_and}
 use Rattle.pace_core.specs.declared.event.PaceEvent.{PaceEvent}
 use Rattle.cmd_stations.specs.Playing.{AreAllPut}
@@ -9,7 +10,7 @@ use Rattle.cmd_pace.proofs.play.play_with.Goals as goal
 pub loop-event-init : goal.loop-event-init
 loop-event-init g c = record {
   form = record { pack = refl; shape = refl };
-  come = put_none (g.O.Sink.seen c.args.out.now).bytes (record { shown = []; are = refl; lines_are = refl });
+  come = put_none (g.O.Sink.seen c.args.out.now).bytes (record { shown = []; are = none; lines_are = refl });
   later = omega arith;
 }
 

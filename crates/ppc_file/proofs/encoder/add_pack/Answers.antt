@@ -1,5 +1,5 @@
 use Rattle.ppc_file.proofs.Common.{refl, sym, added_as, added_twice}
-use Rattle.ppc_file.proofs.AddedLemmas.{pack_parts}
+use Rattle.ppc_file.proofs.NumberLemmas.{pack_parts}
 use Rattle.ppc_file.proofs.ReadLemmas.{by_version}
 use Rattle.ppc_file.proofs.encoder.add_pack.Goals as goal
 

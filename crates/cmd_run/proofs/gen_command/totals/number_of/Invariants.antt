@@ -1,5 +1,5 @@
 use Rattle.cmd_run.proofs.Common.{◌≡◌, number}
-use Rattle.cmd_run.proofs.NumberLemmas.{number_below}
+use Rattle.cmd_run.proofs.TotalLemmas.{number_below}
 use Rattle.cmd_run.proofs.gen_command.totals.number_of.Given as goal
 
 abbrev pub invariant-loop-digit : goal.invariant-loop-digit

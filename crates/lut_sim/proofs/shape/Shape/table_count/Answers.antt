@@ -1,5 +1,5 @@
 use Rattle.lut_sim.proofs.Common.{rules, ◌≡◌, ◌≤◌, length, ap, TemplateValue}
-use Rattle.lut_sim.proofs.TableCountLemmas.{tables_within_bits}
+use Rattle.lut_sim.proofs.RoomLemmas.{tables_within_bits}
 use Rattle.lut_sim.proofs.shape.Shape.table_count.Goals as goal
 
 pub overflow_cast-result : goal.overflow_cast-result
