@@ -46,7 +46,7 @@ def renamed(text: str, old: str, new: str) -> str:
 
     def one(found: re.Match[str]) -> str:
         line = text[text.rfind("\n", 0, found.start()) + 1 : found.start()]
-        path = re.search(r"[\w.]*$", line)[0]
+        path = "".join(re.findall(r"[\w.]*$", line))
         is_path = re.search(r"\b(specs|proofs)\.", path) and "declared." not in path and re.match(r"\.[{*]|[; \n]", text[found.end() :])
         is_module = is_path or re.match(r"\s*(pub )?mod $|pub use $", line) and text[found.end()] in "\n."
         return old if is_module else new
