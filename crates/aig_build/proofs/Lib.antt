@@ -7,3 +7,4 @@ mod OnlyLemmas
 mod NetValueLemmas
 mod NetlistLemmas
 mod NetlistExample
+mod Lemmas

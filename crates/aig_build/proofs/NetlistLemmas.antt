@@ -1,12 +1,10 @@
 -- The graph that the code makes of a flat circuit is its graph, and its roots have the outputs and the next states of a clock cycle.
-use Rattle.aig_build.proofs.Common.{◌≡◌, ℕ, ◌+◌, ◌<◌, ◌≤◌, Bool, false, List, [], ◌∷◌, ◌++◌, length, map, reverse, replicate, refl, sym, ap, ap₂, ◌∙◌, subst, subst₂, inl, inr, arith, All-from_get_or, All-replicate, unwrap_or-slice_get, In, In-append, place_in, from_map, LibraryValue, IsWellFormed, FlatNet, Input, Cover, OutPort, FlatLatch, FlatValue, cover_numbers, reads_at, PostsAll, IsThere, IsWithinBounds, net_value, flat_values, flat_outputs, flat_next, input_values, HasCycles, Param, AreParameters, Lit, Aig, IsLit, with_pairs, RootsValue, lits_of, roots_of, AreRoots, value_of, FitsGraph, Literals, input_names, source_kinds, root_nets, MakesAll, IsGraphOf, HasTooManyNodes, source_values, literal_values, IsGraphCycle, graph_machine, HasSourceCycles, NetLitsValue, no_lit, net_lit, net_lits, Built, marks_of, regular_lits, regular_next, start_nets, source_aig, order_of, root_lits, HoldsNets, length-map, length-replicate, length-append, map-append, rules}
+use Rattle.aig_build.proofs.Common.{◌≡◌, ℕ, ◌+◌, ◌<◌, ◌≤◌, Bool, false, List, [], ◌∷◌, ◌++◌, length, map, reverse, replicate, refl, sym, ap, ap₂, ◌∙◌, subst, subst₂, inl, inr, arith, All-from_get_or, All-replicate, unwrap_or-slice_get, In, In-append, place_in, from_map, LibraryValue, IsWellFormed, FlatNet, Input, Cover, OutPort, FlatLatch, FlatValue, cover_numbers, reads_at, PostsAll, IsThere, IsWithinBounds, net_value, flat_values, flat_outputs, flat_next, input_values, HasCycles, Param, AreParameters, Lit, Aig, IsLit, with_pairs, RootsValue, lits_of, roots_of, AreRoots, value_of, FitsGraph, Literals, input_names, source_kinds, root_nets, MakesAll, IsGraphOf, HasTooManyNodes, source_values, literal_values, IsGraphCycle, graph_machine, HasSourceCycles, NetLitsValue, no_lit, net_lit, net_lits, Built, marks_of, regular_lits, regular_next, start_nets, source_aig, order_of, root_lits, HoldsNets, length-map, length-replicate, length-append, map-append, rules, IsFlatCycle, flat_machine, values_of}
 use Rattle.std.proofs.lemmas.Simd.{map-map}
 use Rattle.netlist.specs.Flattened.{HasValues}
-use Rattle.netlist.specs.FlatCycle.{IsFlatCycle, flat_machine}
 use Rattle.netlist.specs.Runs.{library_machine}
 use Rattle.machine.specs.Machine.{MealyMachine, reading}
 use Rattle.machine.proofs.RefineLemmas.{refines_by, refines_on}
-use Rattle.aig_core.proofs.ValueLemmas.{values_of}
 use Rattle.aig_core.proofs.FitLemmas.{is_values_of, fits_values_of}
 use Rattle.aig_build.proofs.SignalLemmas.{AreKnown, order_made}
 use Rattle.aig_build.proofs.SourceLemmas.{length-marked, length-regular, length-param_lits, regular_next-le, start_latches, start_sourced}

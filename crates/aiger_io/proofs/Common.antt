@@ -2,7 +2,7 @@
 pub use Rattle.std.proofs.Common.{◌≡◌, lit<, ℕ, zero, suc, ◌+◌, ◌-◌, ◌*◌, ◌/◌, ◌^◌, ◌<◌, ◌≤◌, max, Bool, true, false, cond, ◌&&◌, ◌||◌, eqb, get_or, take, drop, List, [], ◌∷◌, ◌++◌, length, map, decimal, Some, inl, inr, refl, sym, ap, ◌∙◌, subst, arith, replicate, true≢false, leb, Option, None, Result, Ok, Err, leb-true, ◌⊎◌, codes, length-append, length-drop, ◌%◌, not, append-nil, append_assoc, ltb, unwrap_or, length-take, take-append-drop, drop-drop, take_all, drop-cons, eq-eqb, min, Bor, rules, tests}
 pub use Rattle.std.proofs.Math.ListN.{get_or-append}
 pub use Rattle.std.proofs.Math.Seq.{get_or-append_seam, take-append_seam, drop-append_seam}
-pub use Rattle.std.proofs.lemmas.Bool.{cond-true, cond-false, cases_Bool, and_parts, or_cases, le-leb, and_from, or_right, false_from_ne_true, cases_lt, ltb-true, lt-ltb, not-true, eqb-true, eqb-false, ne_eqb, or_from, ltb-false, le-ltb, or_parts, and_left, not-false, and_right, or_left, lt-leb, not_from_false}
+pub use Rattle.std.proofs.lemmas.Bool.{cond-true, cond-false, cases_Bool, and_parts, or_cases, le-leb, and_from, or_right, false_from_ne_true, cases_lt, ltb-true, lt-ltb, not-true, eqb-true, eqb-false, ne_eqb, or_from, le-ltb, or_parts, and_left, not-false, and_right, or_left, lt-leb, not_from_false}
 pub use Rattle.std.proofs.lemmas.Bool.Decides.{nat_tests}
 pub use Rattle.std.proofs.lemmas.Fmt.{decimal_is_IsNumeral, length-decimal-le, decimal_digit}
 pub use Rattle.std.proofs.lemmas.Iterator.Consumers.{map_from_collect}
@@ -21,7 +21,7 @@ pub use Rattle.std.specs.Str.Lines.{lines, lines_of_parts, strip_carriage_return
 pub use Rattle.std.specs.Str.Parse.{digits_value}
 pub use Rattle.aig_core.specs.Aig.{Aig, first_and, node_count, pair_of, AreNormal, IsLit}
 pub use Rattle.aig_core.specs.Roots.{RootsValue, lits_of}
-pub use Rattle.aig_core.specs.Value.{xor, node_value, value_of, FitsGraph, HasOneFit}
+pub use Rattle.aig_core.specs.Value.{node_value, value_of, FitsGraph, HasOneFit}
 pub use Rattle.aig_core.specs.declared.lit.Lit.{Lit}
 pub use Rattle.aig_core.specs.declared.lit.Pair.{Pair}
 pub use Rattle.list_laws.proofs.Apart.{right_apart, not_in_both, left_apart}
@@ -35,12 +35,12 @@ pub use Rattle.netlist.specs.CoverValue.{CoverValue, allows, cover_value, RowVal
 pub use Rattle.netlist.specs.Cycle.{Fits}
 pub use Rattle.netlist.specs.Flat.{underscores, most_underscores}
 pub use Rattle.netlist.specs.FlatValue.{FlatValue}
-pub use Rattle.netlist.specs.HasCleanNames.{AreClean, IsCleanBody, IsCleanModel, HasCleanNames}
+pub use Rattle.netlist.specs.HasCleanNames.{AreClean, IsCleanBody, HasCleanNames}
 pub use Rattle.netlist.specs.LibraryValue.{ModelValue, LibraryValue, Ports, ports_of, input_ports, output_ports, clock_ports}
-pub use Rattle.netlist.specs.Models.{Path, subckts_of}
+pub use Rattle.netlist.specs.Models.{Path}
 pub use Rattle.netlist.specs.Nets.{IsClock, listed, controls, Net, Drives, cover_output, latch_output, latch_net, cover_net}
-pub use Rattle.netlist.specs.Places.{Place, is_latch, own_places, flat, none, more, FlatOrder, own_of, FlatUnder, latch_at, latch_in}
-pub use Rattle.netlist.specs.Runs.{state_of, AreLatches, IsCycle, init_state, inits_of, next_state, next_states}
+pub use Rattle.netlist.specs.Places.{Place, is_latch, own_places, flat, none, FlatOrder, FlatUnder, latch_at, latch_in}
+pub use Rattle.netlist.specs.Runs.{state_of, AreLatches, IsCycle, init_state, inits_of, next_state, next_states, library_machine}
 pub use Rattle.netlist.specs.declared.cell.Cell.{Cell}
 pub use Rattle.netlist.specs.declared.cell.Cell.TheVariants.{One, Zero}
 pub use Rattle.netlist.specs.declared.command.Command.{Command}
@@ -48,7 +48,7 @@ pub use Rattle.netlist.specs.declared.flat.FlatLatch.{FlatLatch}
 pub use Rattle.netlist.specs.declared.flat.OutPort.{OutPort}
 pub use Rattle.param_list.specs.Parameters.{regular_names, param_names, ParamsValue}
 pub use Rattle.param_list.specs.declared.params.Param.{Param}
-pub use Rattle.tl_fault.proofs.OrMemoryLemmas.{OrMemory-map, Unless-of}
+pub use Rattle.tl_fault.proofs.OrMemoryLemmas.{OrMemory-map}
 pub use Rattle.tl_fault.proofs.PassedOn.{passed_on, passed_err}
 pub use Rattle.tl_fault.specs.OrMemory.{OrMemory}
 pub use Rattle.tl_piece.proofs.AddedLemmas.{added_to, added_as, added_twice, put_over}
@@ -63,7 +63,7 @@ pub use Rattle.tl_text.specs.NameSets.{has_name, with_name}
 pub use Rattle.tl_text.specs.Once.{AreOnce}
 pub use Rattle.tl_text.specs.Tokens.{is_blank}
 pub use Rattle.tl_text.specs.WrittenText.{words_text, line_text}
-pub use Rattle.aiger_io.specs.AigerText.{IsOfFormatWith, IsAigerText, IsOfFormat, IsHeaderRow, IsLaterRow, kind_of_item, AreInSections, by_symbol, IsNumber, AreNumbers, Symbol, IsComment, count_of, IsSymbolRow, MayStand, IsLetterOf, AreSymbolRows, AllStand, header_numbers, AreItemRows, IsSection, IsItemRow, IsNameOf, by_default, AreNamesOf}
+pub use Rattle.aiger_io.specs.AigerText.{IsOfFormatWith, IsAigerText, IsOfFormat, IsHeaderRow, IsLaterRow, kind_of_item, AreInSections, by_symbol, IsNumber, AreNumbers, Symbol, IsComment, count_of, IsSymbolRow, MayStand, IsLetterOf, AreSymbolRows, AllStand, header_numbers, AreItemRows, IsSection, IsItemRow, IsNameOf, AreNamesOf}
 pub use Rattle.aiger_io.specs.Reader.{capped, capped_numbers, capped_header, capped_result, named_count, capped_item, capped_number, capped_symbol, IsHeaderOf, twice_from, seen_from, symbol_value, is_header, header_with, header_by, header_in, header_of, other_header, kind_at, is_literal, is_variable, item_count, is_in_range, items_from, one_number, init_of, latch_with, latch_of, and_with, and_of, item_of, item_with, item_at, number_of, numbers_of, in_front, and_then, words_of, default_name, input_names, output_names, port_names, first_twice, is_twice, is_port, name_at, names_from, circuit_of, IsLibraryIn, circuit_with, unless, named_circuit, circuit_behind, circuit_under, IsParsed, circuit_in, named_behind, SymbolsValue, no_symbols, symbols_from, no_name, first_of, place_of, may_stand, with_symbol, symbol_of, symbol_at, is_bad_name, kind_of, symbol_by, symbol_with, is_bad_byte}
 pub use Rattle.aiger_io.specs.Circuit.{Circuit}
 pub use Rattle.aiger_io.specs.CircuitLibrary.{mark_of, own_name, variable_name, next_name, cell_of, cover_command, zero_command, literal_command, latch_command, port_name, model_of, library_of, item_commands, commands_of, commands_from, library_weight}
@@ -78,3 +78,5 @@ pub use Rattle.aiger_io.specs.declared.header.Header.{Header}
 pub use Rattle.aiger_io.specs.declared.item.Item.{Item}
 pub use Rattle.aiger_io.specs.declared.item.Item.TheVariants.{Input, Latch, Output, And}
 pub use Rattle.aiger_io.specs.declared.item.LineKind.{LineKind}
+pub use Rattle.machine.specs.Machine.{MealyMachine, reading}
+pub use Rattle.machine.proofs.RefineLemmas.{refines_by, refines_on}

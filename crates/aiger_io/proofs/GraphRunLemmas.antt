@@ -1,12 +1,9 @@
 -- What the library of a circuit weighs: each section's lines weigh the same. The circuit of a graph keeps what is said of it: its text is of the format and is read back, its lines have one fit, and its cycles and runs are those of
 -- the library whose graph it is.
-use Rattle.aiger_io.proofs.Common.{◌≡◌, ℕ, ◌+◌, ◌*◌, ◌/◌, ◌^◌, ◌<◌, ◌≤◌, Bool, List, [], ◌∷◌, ◌++◌, length, map, get_or, Some, refl, sym, ap, ◌∙◌, subst, arith, length-append, slice_get, length-map, get_or_from_slice_get, In, In-left, In-right, map_agree, Aig, first_and, node_count, IsLit, AreNormal, RootsValue, lits_of, node_value, value_of, FitsGraph, HasOneFit, FlatValue, LibraryValue, Param, regular_names, param_names, Circuit, input_count, input_at, graph_circuit, IsWrittenFrom, IsGraphsCircuit, literal_value, output_literals, next_literals, init_bits, IsCircuitCycle, circuit_machine, HasSameRuns, inl, inr, mark_of, commands_from, model_of, library_of, library_weight, kind_of_item, AreInSections, Header, Item, Latch, LineKind}
+use Rattle.aiger_io.proofs.Common.{◌≡◌, ℕ, ◌+◌, ◌*◌, ◌/◌, ◌^◌, ◌<◌, ◌≤◌, Bool, List, [], ◌∷◌, ◌++◌, length, map, get_or, Some, refl, sym, ap, ◌∙◌, subst, arith, length-append, slice_get, length-map, get_or_from_slice_get, In, In-left, In-right, map_agree, Aig, first_and, node_count, IsLit, AreNormal, RootsValue, lits_of, node_value, value_of, FitsGraph, HasOneFit, FlatValue, LibraryValue, Param, regular_names, param_names, Circuit, input_count, input_at, graph_circuit, IsWrittenFrom, IsGraphsCircuit, literal_value, output_literals, next_literals, init_bits, IsCircuitCycle, circuit_machine, HasSameRuns, inl, inr, mark_of, commands_from, model_of, library_of, library_weight, kind_of_item, AreInSections, Header, Item, Latch, LineKind, MealyMachine, reading, refines_by, refines_on, library_machine}
 use Rattle.aig_build.specs.NetlistCycle.{source_values, literal_values, IsGraphCycle, graph_machine, HasSourceCycles}
 use Rattle.aig_build.specs.NetlistGraph.{input_names}
-use Rattle.machine.specs.Machine.{MealyMachine, reading}
-use Rattle.machine.proofs.RefineLemmas.{refines_by, refines_on}
 use Rattle.netlist.specs.FlatCycle.{flat_inits}
-use Rattle.netlist.specs.Runs.{library_machine}
 use Rattle.aiger_io.proofs.GraphFitLemmas.{literal_same, node_list, node_at, lines_fit, nodes_fit, given_list, written_fit}
 use Rattle.aiger_io.proofs.GraphItemLemmas.{written_formed, output_literals_are, next_literals_are, init_bits_are}
 use Rattle.aiger_io.proofs.Format.AigerTextLemmas.{in_sections}

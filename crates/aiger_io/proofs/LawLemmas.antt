@@ -1,13 +1,10 @@
 -- The law of a circuit and its library: fitting values exist and agree, and cycles and runs are the same.
-use Rattle.aiger_io.proofs.Common.{◌≡◌, ℕ, zero, suc, ◌+◌, ◌-◌, ◌/◌, ◌^◌, ◌<◌, ◌≤◌, min, max, Bool, false, get_or, List, [], ◌∷◌, ◌++◌, length, map, Option, Some, None, inl, inr, refl, sym, ap, ◌∙◌, subst, arith, append-nil, slice_get, option_map, option_and_then, length-map, same_Some, slice_get-map, slice_get-get_or, slice_get_within, In, place_in, at_within, same_list, CoverValue, Fits, ModelValue, LibraryValue, Path, Net, Drives, cover_output, latch_output, latch_net, cover_net, Place, is_latch, FlatOrder, FlatUnder, flat, latch_at, latch_in, AreLatches, IsCycle, init_state, inits_of, state_of, next_state, next_states, One, Command, AreOnce, Circuit, mark_of, variable_name, next_name, cell_of, cover_command, zero_command, latch_command, port_name, commands_from, model_of, library_of, Item, Input, Latch, Output, And, circuit_of, IsLibraryIn, left_apart, rules}
+use Rattle.aiger_io.proofs.Common.{◌≡◌, ℕ, zero, suc, ◌+◌, ◌-◌, ◌/◌, ◌^◌, ◌<◌, ◌≤◌, min, max, Bool, false, get_or, List, [], ◌∷◌, ◌++◌, length, map, Option, Some, None, inl, inr, refl, sym, ap, ◌∙◌, subst, arith, append-nil, slice_get, option_map, option_and_then, length-map, same_Some, slice_get-map, slice_get-get_or, slice_get_within, In, place_in, at_within, same_list, CoverValue, Fits, ModelValue, LibraryValue, Path, Net, Drives, cover_output, latch_output, latch_net, cover_net, Place, is_latch, FlatOrder, FlatUnder, flat, latch_at, latch_in, AreLatches, IsCycle, init_state, inits_of, state_of, next_state, next_states, One, Command, AreOnce, Circuit, mark_of, variable_name, next_name, cell_of, cover_command, zero_command, latch_command, port_name, commands_from, model_of, library_of, Item, Input, Latch, Output, And, circuit_of, IsLibraryIn, left_apart, rules, library_machine, MealyMachine, reading, refines_by}
 use Rattle.netlist.specs.Law.{HasOneCycle}
 use Rattle.netlist.specs.Sound.{IsSound}
 use Rattle.netlist.specs.SubcktValue.{SubcktValue}
 use Rattle.netlist.specs.declared.command.Body.TheVariants as body
 use Rattle.netlist.proofs.LawLemmas.{sound_law}
-use Rattle.netlist.specs.Runs.{library_machine}
-use Rattle.machine.specs.Machine.{MealyMachine, reading}
-use Rattle.machine.proofs.RefineLemmas.{refines_by}
 use Rattle.aiger_io.specs.Run.{literal_value, FitsLines, IsDefined, zero_variable, input, latch, gate, HasOneFit, output_literal, next_literal, output_literals, next_literals, init_bits, IsCircuitCycle, circuit_machine, HasSameRuns}
 use Rattle.aiger_io.proofs.FitLemmas.{built, place_among, place_once, variable_built, next_built, output_built, nexts_picked, outputs_picked, fits_library, latches_of, no_subckts, are_latches, cover_in_place, command_in, item_in, circuit_kinds, literal_is, fits_lines}
 use Rattle.aiger_io.proofs.CleanLemmas.{IsKept, text_kept, text_ports_once}

@@ -13,3 +13,4 @@ mod RoundTripLemmas
 mod RowLemmas
 mod TextExample
 mod WrittenLemmas
+mod Lemmas

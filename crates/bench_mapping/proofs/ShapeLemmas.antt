@@ -1,9 +1,5 @@
 -- When a graph's sources have a shape.
-use Rattle.std.proofs.Common.{◌≡◌, ℕ, ◌+◌, ◌-◌, ◌<◌, ◌≤◌, true, ◌&&◌, leb, ltb, length, sym, ◌∙◌, inl, inr, arith}
-use Rattle.std.proofs.lemmas.Option.{same_Some, slice_get_within}
-use Rattle.std.proofs.lemmas.Bool.{and_from, or_left, or_right, le-leb, lt-ltb, cases_lt}
-use Rattle.aig_core.specs.declared.lit.Kind.TheVariants.{Regular, Parameter}
-use Rattle.aig_core.specs.Aig.{Aig, IsSource}
+use Rattle.bench_mapping.proofs.Common.{◌≡◌, ℕ, ◌+◌, ◌-◌, ◌<◌, ◌≤◌, true, ◌&&◌, leb, ltb, length, sym, ◌∙◌, inl, inr, arith, same_Some, slice_get_within, and_from, or_left, or_right, le-leb, lt-ltb, cases_lt, Regular, Parameter, Aig, IsSource}
 use Rattle.lut_sim.specs.declared.shape.Shape.{Shape}
 use Rattle.lut_sim.specs.Sources.{is_regular, last_source}
 use Rattle.lut_sim.specs.GraphShape.{HasShape}

@@ -1,9 +1,8 @@
 -- The literals of the sources, and the steps of a pass: one node, the nodes of an order, and the leaves before them.
-use Rattle.bit_fun.proofs.Common.{◌≡◌, ℕ, zero, suc, ◌+◌, ◌*◌, ◌/◌, ◌<◌, ◌≤◌, Bool, true, false, eqb, List, [], ◌∷◌, length, take, slice_set, Option, Some, None, refl, sym, ap, ◌∙◌, subst, inl, inr, ◌⊎◌, arith, length-append, slice_get, position, length-set, In, bit_value, digit, IsAscending, choose_one, same_or, none-some, same_Some, Lit, Pair, Aig, first_and, node_count, pair_of, Answer, and_in_order, found_or_new, is_pair, with_pairs, PassValue, lit_of, fan_in, made_node, pass_over, with_leaves, HaveSourceLits, HaveLeafLits, AreLits, IsMadeOver, ◌-◌, cases_lt, slice_get_within, Kind, Regular, Parameter, param_count, HaveSourceLitsTo, ◌^◌, ◌++◌, append_assoc, append-nil, add-mul, one-mul, true≢false, AreNormal, Lut, IsTableIn, IsBitReady, IsGrown, AreMarked, IsTableWithin, IsBetween, IsBitMade, AreBitsMade, AreTablesMadeTo, IsFree, mark_of, AreFree, AreKept, HasRoom}
+use Rattle.bit_fun.proofs.Common.{◌≡◌, ℕ, zero, suc, ◌+◌, ◌*◌, ◌/◌, ◌<◌, ◌≤◌, Bool, true, false, eqb, List, [], ◌∷◌, length, take, slice_set, Option, Some, None, refl, sym, ap, ◌∙◌, subst, inl, inr, ◌⊎◌, arith, length-append, slice_get, position, length-set, In, bit_value, digit, IsAscending, choose_one, same_or, none-some, same_Some, Lit, Pair, Aig, first_and, node_count, pair_of, Answer, and_in_order, found_or_new, is_pair, with_pairs, PassValue, lit_of, fan_in, made_node, pass_over, with_leaves, HaveSourceLits, HaveLeafLits, AreLits, IsMadeOver, ◌-◌, cases_lt, slice_get_within, Kind, Regular, Parameter, param_count, HaveSourceLitsTo, ◌^◌, ◌++◌, append_assoc, append-nil, add-mul, one-mul, true≢false, AreNormal, Lut, IsTableIn, IsBitReady, IsGrown, AreMarked, IsTableWithin, IsBetween, IsBitMade, AreBitsMade, AreTablesMadeTo, IsFree, mark_of, AreFree, AreKept, HasRoom, free_apart}
 use Rattle.std.proofs.Math.Seq.{take-append_seam}
 use Rattle.bit_fun.proofs.BitLemmas.{AreLeaves, leaf_not_constant, leaf_not_parameter, regular_no_parameter, place_below}
 use Rattle.bit_fun.proofs.ConeMakesLemmas.{lit_other, lit_here, IsPassed, IsVisited, visit_makes}
-use Rattle.cover_pick.proofs.FreeLemmas.{free_apart}
 use Rattle.bit_fun.proofs.FreeLemmas.{known_stands, stands_known, between_marked}
 use Rattle.bit_fun.proofs.RoomLemmas.{HasCount, waiting_few, work_split}
 use Rattle.bit_fun.specs.PackOf.{MakesNode, MakesTable, done, more, MakesTables, none, tables}

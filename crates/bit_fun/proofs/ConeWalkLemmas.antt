@@ -1,9 +1,8 @@
 -- A walk over the cone of a LUT: its edges fall, its postorder visits the lower fan-in first, what it reaches is the cone, and the order that it leaves.
-use Rattle.bit_fun.proofs.Common.{◌≡◌, ℕ, ◌-◌, ◌/◌, ◌<◌, ◌≤◌, Bool, true, false, cond, ltb, List, [], ◌∷◌, reverse, Option, Some, refl, sym, ap, ◌∙◌, subst, inl, inr, arith, cases_lt, cond-true, cond-false, le-ltb, lt-ltb, slice_get_past, In, Pair, Aig, first_and, node_count, pair_of, IsNode, IsNormal, AreNormal, node_normal, node_at, IsInner, ends_at, mark_of, Path, path_here, path_left, path_right, stop_inner, true≢false, Way, leads, stops, nodes_of, Posts, PostsAll, none, more, ways_of, ways_from, successors, AreNodes, Reaches, here, through, LeadsBelow, fan_in_edges, cone_edges, cone_next, Visits, passed, walked, None, ◌⊎◌, none-some, ◌||◌, is_stop, IsReached, WalkValue, Visited, falls_through, IsConeOrder, rules}
+use Rattle.bit_fun.proofs.Common.{◌≡◌, ℕ, ◌-◌, ◌/◌, ◌<◌, ◌≤◌, Bool, true, false, cond, ltb, List, [], ◌∷◌, reverse, Option, Some, refl, sym, ap, ◌∙◌, subst, inl, inr, arith, cases_lt, cond-true, cond-false, le-ltb, lt-ltb, slice_get_past, In, Pair, Aig, first_and, node_count, pair_of, IsNode, IsNormal, AreNormal, node_normal, node_at, IsInner, ends_at, mark_of, Path, path_here, path_left, path_right, stop_inner, true≢false, Way, leads, stops, nodes_of, Posts, PostsAll, none, more, ways_of, ways_from, successors, AreNodes, Reaches, here, through, LeadsBelow, fan_in_edges, cone_edges, cone_next, Visits, passed, walked, None, ◌⊎◌, none-some, ◌||◌, is_stop, IsReached, WalkValue, Visited, falls_through, IsConeOrder, rules, AreApart}
 use Rattle.depth_first.specs.declared.edge.Edge.{Edge}
 use Rattle.depth_first.specs.declared.edge.Edge.TheVariants.{Node, Pass}
 use Rattle.depth_first.specs.Order.{IsAfter}
-use Rattle.list_laws.proofs.Apart.{AreApart}
 use Rattle.depth_first.specs.declared.edge.End.{End}
 
 -- both parts of an alternative that fails fail

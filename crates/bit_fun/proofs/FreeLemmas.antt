@@ -1,6 +1,5 @@
 -- The free nodes: the function of one is the same for all tables and digits, so its literal stands once it is made.
-use Rattle.bit_fun.proofs.Common.{refl, sym, ◌≡◌, ℕ, ◌/◌, none-some, In-get, Bool, List, [], ◌++◌, subst, inl, inr, In, Lit, Pair, Aig, first_and, Answer, Lut, lit_of, IsFree, free_constant, free_parameter, free_product, AreFree, Stands, AreKept, AreMarked, IsBetween, rules}
-use Rattle.cover_pick.proofs.FreeLemmas.{free_apart}
+use Rattle.bit_fun.proofs.Common.{refl, sym, ◌≡◌, ℕ, ◌/◌, none-some, In-get, Bool, List, [], ◌++◌, subst, inl, inr, In, Lit, Pair, Aig, first_and, Answer, Lut, lit_of, IsFree, free_constant, free_parameter, free_product, AreFree, Stands, AreKept, AreMarked, IsBetween, rules, free_apart}
 use Rattle.bit_fun.specs.PackOf.{MakesNode, leaf, constant, parameter, node}
 use Rattle.bit_fun.proofs.BitLemmas.{AreLeaves, node_not_constant, node_not_parameter, one_pair}
 use Rattle.bit_fun.proofs.ConeMakesLemmas.{IsKnown}

@@ -1,9 +1,8 @@
 -- The values of a graph's literals fit the LUTs of a mapping under the configuration, and a mapping can be played.
-use Rattle.bit_fun.proofs.Common.{◌≡◌, ℕ, ◌+◌, ◌-◌, ◌*◌, ◌/◌, ◌%◌, ◌^◌, ◌<◌, ◌≤◌, Bool, true, false, eqb, leb, List, ◌++◌, length, get_or, refl, ap, ◌∙◌, subst, arith, get_or-append, length-map, get_or-map, get_or-append-add, leb-true, leb-false, In, number, choose, Aig, xor, node_value, value_of, FitsGraph, Lut, IsTableOf, bits_of, Shape, last_source, source_value, IsInputOrLatch, input, latch, either_side, base_within, param_count, NodeBit, IsBit, IsMapped, IsConfiguration, zero, suc, [], ◌∷◌, sym, inl, inr, ext_get_or, Regular, IsSource, in_phase, Blocks, member, constant, parameter, IsMapping, source, free, node, HasOneBit, HasOneConfiguration, cases_lt, sum_by-cons, HaveBases, rules}
+use Rattle.bit_fun.proofs.Common.{◌≡◌, ℕ, ◌+◌, ◌-◌, ◌*◌, ◌/◌, ◌%◌, ◌^◌, ◌<◌, ◌≤◌, Bool, true, false, eqb, leb, List, ◌++◌, length, get_or, refl, ap, ◌∙◌, subst, arith, get_or-append, length-map, get_or-map, get_or-append-add, leb-true, leb-false, In, number, choose, Aig, xor, node_value, value_of, FitsGraph, Lut, IsTableOf, bits_of, Shape, last_source, source_value, IsInputOrLatch, input, latch, either_side, base_within, param_count, NodeBit, IsBit, IsMapped, IsConfiguration, zero, suc, [], ◌∷◌, sym, inl, inr, ext_get_or, Regular, IsSource, in_phase, Blocks, member, constant, parameter, IsMapping, source, free, node, HasOneBit, HasOneConfiguration, cases_lt, sum_by-cons, HaveBases, rules, IsLawful}
 use Rattle.list_laws.proofs.Digits.{number-small, digit-number}
 use Rattle.lut_sim.specs.Cycle.{leaf_values, address}
 use Rattle.lut_sim.proofs.RoomLemmas.{regular_within}
-use Rattle.bit_fun.specs.Configuration.{IsLawful}
 use Rattle.bit_fun.proofs.BitLemmas.{AreDigits, fits_bit, AreLeaves, one_bit, HasBit, has_bit, HaveParams, HaveParams-shape}
 
 -- The addresses of the LUTs stand apart, and are all. Where LUTs map a graph, each address has one bit, and there is one configuration.

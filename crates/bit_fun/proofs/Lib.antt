@@ -11,3 +11,4 @@ mod PackExample
 pub mod PackLemmas
 mod ConeFunctionLemmas
 mod RoomLemmas
+mod Lemmas

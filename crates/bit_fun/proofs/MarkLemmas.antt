@@ -1,6 +1,5 @@
 -- The marks of the nodes whose literals are kept.
-use Rattle.bit_fun.proofs.Common.{◌≡◌, ℕ, zero, suc, ◌<◌, Bool, true, false, List, [], ◌∷◌, length, replicate, slice_set, get_or-set_same, get_or-set_other, length-set, refl, sym, ap, ◌∙◌, subst, inl, inr, ◌⊎◌, arith, true≢false, In, same_or, Aig, node_count, mark_of, with_marks, AreMarked, IsConeOrder, reverse, rules}
-use Rattle.list_laws.proofs.Reversed.{in_reversed, reversed_in}
+use Rattle.bit_fun.proofs.Common.{◌≡◌, ℕ, zero, suc, ◌<◌, Bool, true, false, List, [], ◌∷◌, length, replicate, slice_set, get_or-set_same, get_or-set_other, length-set, refl, sym, ap, ◌∙◌, subst, inl, inr, ◌⊎◌, arith, true≢false, In, same_or, Aig, node_count, mark_of, with_marks, AreMarked, IsConeOrder, reverse, rules, in_reversed, reversed_in}
 
 -- setting the mark of a node
 pub mark_here : (marks : List Bool) (n : ℕ) (b : Bool) → n < length marks → mark_of (slice_set marks n b) n ≡ b

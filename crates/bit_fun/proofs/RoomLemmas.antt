@@ -1,8 +1,6 @@
 -- What making the bits of LUTs takes: of a LUT its own nodes at each address, and of the shared nodes those that wait, each once. So the work by either rule is room enough.
-use Rattle.bit_fun.proofs.Common.{◌≡◌, ℕ, zero, suc, ◌+◌, ◌-◌, ◌*◌, ◌/◌, ◌^◌, ◌<◌, ◌≤◌, Bool, true, false, not, List, [], ◌∷◌, ◌++◌, length, refl, sym, ap, ◌∙◌, subst, inl, inr, ◌⊎◌, arith, length-append, length-reverse, reverse, add-mul, mul-add, mul-one, one-mul, mul-le-mul_left, true≢false, In, In-append, Aig, node_count, Lut, Path, path_here, path_left, path_right, IsDescending, AreOwn, IsTableWork, IsOwnWork, AreShared, IsWork, once_by, IsLight, IsMakeable, IsFree, mark_of, AreFree, Lit, IsConeOrder, AreMarked, AreCounted, waiting, IsCountedWork, HasRoom, IsTableWithin, IsGrown}
+use Rattle.bit_fun.proofs.Common.{◌≡◌, ℕ, zero, suc, ◌+◌, ◌-◌, ◌*◌, ◌/◌, ◌^◌, ◌<◌, ◌≤◌, Bool, true, false, not, List, [], ◌∷◌, ◌++◌, length, refl, sym, ap, ◌∙◌, subst, inl, inr, ◌⊎◌, arith, length-append, length-reverse, reverse, add-mul, mul-add, mul-one, one-mul, mul-le-mul_left, true≢false, In, In-append, Aig, node_count, Lut, Path, path_here, path_left, path_right, IsDescending, AreOwn, IsTableWork, IsOwnWork, AreShared, IsWork, once_by, IsLight, IsMakeable, IsFree, mark_of, AreFree, Lit, IsConeOrder, AreMarked, AreCounted, waiting, IsCountedWork, HasRoom, IsTableWithin, IsGrown, AreApart, apart_short, joined_apart, filtered_apart, In-left, In-right, In-filter, in_filter, length-filter_le}
 use Rattle.std.specs.Prelude.{filter}
-use Rattle.list_laws.proofs.Apart.{AreApart, apart_short, joined_apart, filtered_apart}
-use Rattle.list_laws.proofs.Members.{In-left, In-right, In-filter, in_filter, length-filter_le}
 use Rattle.cover_pick.specs.Rounds.{Supply, Rows, Sets}
 use Rattle.bit_fun.proofs.ConeWalkLemmas.{less_false, order_within}
 

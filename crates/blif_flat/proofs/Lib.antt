@@ -7,3 +7,4 @@ mod LoopLemmas
 mod Fields
 mod FaultOnceLemmas
 mod Examples
+mod Lemmas

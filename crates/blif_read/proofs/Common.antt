@@ -1,6 +1,6 @@
 -- What the proofs of this crate cite of other crates, and its own definitions, passed on from one place.
-pub use Rattle.std.proofs.Common.{◌≡◌, ℕ, Bool, List, [], ◌∷◌, ◌++◌, refl, ap, ◌∙◌, inl, inr, ◌⊎◌, ◌-◌, ◌<◌, eqb, length, map, get_or, codes, Some, None, sym, subst, arith, true, Result, Ok, append_assoc, Err, Option, ◌+◌, false, ◌||◌, cond, suc, not, ◌&&◌, ltb, take, drop, bytes_eq, length-append, ◌^◌, is_some, MatchResult, IfOk, ◌≤◌, rules}
-pub use Rattle.std.proofs.lemmas.Bool.{cond-false, ne_eqb, cases_Bool, cond-true, lt-ltb, eq-eqb, and_from, or_from, not_from_false, false_from_ne_true, both_ways, and_parts, or_cases, or_parts, not-true, eqb-true, eqb-false}
+pub use Rattle.std.proofs.Common.{◌≡◌, ℕ, Bool, List, [], ◌∷◌, ◌++◌, refl, ap, ◌∙◌, inl, inr, ◌⊎◌, ◌-◌, ◌<◌, eqb, length, map, get_or, codes, Some, None, sym, subst, arith, true, Result, Ok, append_assoc, Err, Option, ◌+◌, false, ◌||◌, cond, ltb, take, drop, bytes_eq, length-append, ◌^◌, is_some, MatchResult, IfOk, ◌≤◌, rules}
+pub use Rattle.std.proofs.lemmas.Bool.{cond-false, ne_eqb, cond-true, lt-ltb, eq-eqb, and_from, or_from, not_from_false, false_from_ne_true, both_ways, and_parts, or_cases, or_parts, not-true, eqb-true, eqb-false}
 pub use Rattle.std.proofs.lemmas.List.{append-nil, length-take-le, length_push, length-map, drop_more, map_push, take-append-drop, drop_all, get_or-take}
 pub use Rattle.std.proofs.lemmas.Option.{none-some, same_Some}
 pub use Rattle.std.proofs.lemmas.Slice.Eq.{bytes_eq-Decides}
@@ -9,11 +9,10 @@ pub use Rattle.blif_read.specs.Words.{In, RowValue, CoverValue, matches, cover_v
 pub use Rattle.std.specs.List.{position, position_or_len, slice_get}
 pub use Rattle.std.specs.Vec.Iter.{into_iter_items}
 pub use Rattle.list_laws.proofs.Apart.{pushed_apart, not_in_both}
-pub use Rattle.list_laws.proofs.Choice.{choose, none_else, none_both, some_then, some_else}
+pub use Rattle.list_laws.proofs.Choice.{none_else, none_both, some_then, some_else}
 pub use Rattle.list_laws.proofs.Members.{In-place, In-append, In-left, In-right, from_map}
 pub use Rattle.netlist.specs.ShortPorts.{HasShortPorts}
 pub use Rattle.netlist.specs.declared.command.Body.TheVariants.{Latch, Subckt}
-pub use Rattle.tl_fault.proofs.OrMemoryLemmas.{OrMemory-map}
 pub use Rattle.tl_fault.proofs.PassedOn.{passed_on}
 pub use Rattle.tl_fault.specs.OrMemory.{OrMemory}
 pub use Rattle.tl_text.proofs.NameSetLemmas.{has_in, place_some}
@@ -21,7 +20,7 @@ pub use Rattle.blif_read.specs.Context.{row_of, RowRead, Context, CoverPlace, fi
 pub use Rattle.blif_read.specs.Denotes.{connection_token, IsConnection, IsSubckt, port_names, names_in, IsCoverLine, AreCommands, IsModel, AreModels, Denotes}
 pub use Rattle.blif_read.specs.Latches.{IsLatch, plain, with_init, with_control, whole, Controls, nil, net, Starts, one, zero_}
 pub use Rattle.blif_read.specs.LineFault.{has, model_fault, ports_fault, fault_by, end_fault, line_fault, mixed_fault, row_read_fault, or_later, row_fault, init_fault, latch_fault, connection_of, connections_fault, subckt_fault, split_at, names_fault, repeats_formal, with_formal, kind_fault}
-pub use Rattle.blif_read.specs.ReadFault.{first_fault, is_model_keyword, has_model, statements_fault, blif_err, lines_fault, read_fault}
+pub use Rattle.blif_read.specs.ReadFault.{first_fault, has_model, statements_fault, blif_err, lines_fault, read_fault}
 pub use Rattle.blif_read.specs.Reading.{inside_fault, State, ModelRead, with_command, flushed, ended, context, with_ports, ports_read, body_read, next_by, or_fault, steps, library_at_end, finished, lines_read, text_read, fresh, CoverRead, start, cover_of, with_row, latch_of, subckt_of, next, library_read, value_so_far, first_word, with_cover, place_of_cover, with_row_words, control_of, init_of, put_pair, pairs_of, model_after, fault_of}
 pub use Rattle.blif_read.specs.Refusals.{refusal_of}
 pub use Rattle.blif_read.specs.Rows.{IsRow, alone, behind, AreRows, none, more, cell_character, output_token}

@@ -1,6 +1,5 @@
 -- The ports that lines add to a model, and that no port stands twice in its list.
 use Rattle.blif_read.proofs.Common.{◌≡◌, ◌⊎◌, ℕ, Bool, true, false, List, [], ◌∷◌, ◌++◌, Option, Some, None, refl, sym, ap, ◌∙◌, subst, inl, inr, append_assoc, append-nil, Keyword, Inputs, Outputs, Clock, Plain, Body, Cover, Command, RowValue, ModelValue, Ports, input_ports, output_ports, clock_ports, ports_of, StatementValue, AreOnce, IsRow, alone, behind, AreRows, none, more, ports_fault, CoverRead, with_command, with_cover, with_ports, port_names, names_in, arith, none-some, pushed_apart, In, DuplicateModel, DuplicatePort, has, model_fault, none_both}
-pub use Rattle.list_laws.proofs.Members.{In-append}
 pub use Rattle.tl_text.proofs.NameLemmas.{not_there}
 
 -- Lists of names in which none stands twice, and what lines without a refusal put behind them.

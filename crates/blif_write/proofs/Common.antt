@@ -1,6 +1,6 @@
 -- What the proofs of this crate cite of other crates, and its own definitions, passed on from one place.
 pub use Rattle.std.proofs.Common.{Bool, IsTrue, List, None, Option, Some, [], ap, append-nil, append_assoc, ap₂, arith, bytes_eq, codes, cond, decimal, drop, eqb, false, filter, get_or, if◌then◌else◌, inl, inr, is_some, leb, length, length-append, length-take, map, nat_le, nat_lt, not, refl, replicate, reverse, rules, slice_get, slice_index_or, subst, suc, sym, take, true, zero, ℕ, ◌%◌, ◌&&◌, ◌*◌, ◌++◌, ◌+◌, ◌-◌, ◌/◌, ◌<◌, ◌^◌, ◌||◌, ◌∙◌, ◌∷◌, ◌≡◌, ◌≤◌, ◌⊎◌}
-pub use Rattle.std.proofs.lemmas.Bool.{and_from, and_parts, cases_Bool, eq-eqb, eqb-false, eqb-true, false_from_ne_true, le-leb, leb-true, ltb-true, ne_eqb, not-true, or_cases}
+pub use Rattle.std.proofs.lemmas.Bool.{and_from, and_parts, cases_Bool, false_from_ne_true, le-leb, leb-true, ne_eqb, not-true, or_cases}
 pub use Rattle.std.proofs.lemmas.List.{append_cancel_left, get_or-map, get_or_read, length-map, length-replicate, map-append, reverse-reverse, take_all, take_more}
 pub use Rattle.std.proofs.lemmas.List.Concat.{flat_map-append, flat_map_single}
 pub use Rattle.std.proofs.lemmas.List.Folds.{flat_map-map}
@@ -14,7 +14,7 @@ pub use Rattle.std.specs.Option.{option_and_then, option_map, option_map_or}
 pub use Rattle.aig_core.specs.Roots.{lits_of}
 pub use Rattle.aig_core.specs.declared.lit.Lit.{Lit}
 pub use Rattle.blif_read.specs.Denotes.{AreCommands, AreLibrary, Denotes, IsCoverLine, IsModel, names_in}
-pub use Rattle.blif_read.specs.Rows.{AreRows, IsRow, alone, behind, cell_character, output_token}
+pub use Rattle.blif_read.specs.Rows.{AreRows, IsRow, behind, cell_character, output_token}
 pub use Rattle.cover_pick.specs.Mapping.{AscendByLit, HasLut, HaveBases, bits_of}
 pub use Rattle.cover_pick.specs.Template.{TemplateValue}
 pub use Rattle.cover_pick.specs.declared.lut.Lut.{Lut}
@@ -27,7 +27,7 @@ pub use Rattle.list_laws.proofs.Ranges.{in_range, of_range, ranges_join}
 pub use Rattle.list_laws.proofs.TwoLists.{get_right}
 pub use Rattle.list_laws.specs.Digits.{bit_value, digit, number}
 pub use Rattle.list_laws.specs.Members.{In}
-pub use Rattle.lut_sim.specs.Cycle.{IsTableCycle, address, leaf_values}
+pub use Rattle.lut_sim.specs.Cycle.{IsTableCycle, address, leaf_values, table_machine}
 pub use Rattle.lut_sim.specs.Sources.{is_plain, is_regular, last_source, source_value}
 pub use Rattle.lut_sim.specs.declared.shape.Shape.{Shape}
 pub use Rattle.netlist.proofs.UnderscoreLemmas.{many_underscores, few_underscores}
@@ -38,12 +38,12 @@ pub use Rattle.netlist.specs.HasCleanNames.{HasCleanNames, IsCleanBody}
 pub use Rattle.netlist.specs.Instances.{ConnectionAt, CoverAt, IsMainInput, LatchAt}
 pub use Rattle.netlist.specs.Law.{HasOneCycle}
 pub use Rattle.netlist.specs.LibraryValue.{LibraryValue, ModelValue, Ports, clock_ports, input_ports, output_ports, ports_of}
-pub use Rattle.netlist.specs.Models.{Path, body_at, has_name, is_input, is_output, model_at, model_named, placed, subckts_of}
+pub use Rattle.netlist.specs.Models.{Path, body_at, has_name, is_input, model_at, model_named, placed, subckts_of}
 pub use Rattle.netlist.specs.Nets.{Drives, IsClock, Net, controls, cover_net, cover_output, from_inside, from_outside, input_net, latch_net, latch_output, listed, main_input}
-pub use Rattle.netlist.specs.Places.{FlatOrder, FlatUnder, Place, flat, is_cover, is_latch, latch_at, latch_in, own_places, none, more}
+pub use Rattle.netlist.specs.Places.{FlatOrder, FlatUnder, Place, flat, is_cover, is_latch, latch_at, own_places, none}
 pub use Rattle.netlist.specs.Sound.{IsData, IsSound, cover_data, latch_data}
 pub use Rattle.netlist.specs.SubcktValue.{SubcktValue}
-pub use Rattle.netlist.specs.WellFormed.{IsWellFormed, IsWellFormedBody, IsWellFormedModel}
+pub use Rattle.netlist.specs.WellFormed.{IsWellFormed, IsWellFormedBody}
 pub use Rattle.netlist.specs.declared.cell.Cell.{Cell}
 pub use Rattle.netlist.specs.declared.cell.Cell.TheVariants.{Any, One, Zero}
 pub use Rattle.netlist.specs.declared.command.Body.{Body}
@@ -65,3 +65,5 @@ pub use Rattle.blif_write.specs.Meaning.{HasPorts, free_control, AreTablesOf, Me
 pub use Rattle.blif_write.specs.Netlists.{wire_of, wire, wires, written_latches, bit_names, clock_of, written_latch, control_names, with_tables, digit_cell, digit_cells, leaf_names, chosen_cells, fixed_table, tunable_table, specialised_netlist, template_netlist, fixed_rows, tunable_rows}
 pub use Rattle.blif_write.specs.OwnNames.{Naming, own_name, table_name, latch_name, literal_name, naming_of, bit_name, source_name}
 pub use Rattle.blif_write.specs.PlainNetlist.{PlainNetlist, IsPlain, all_inputs, control_words, latch_line, row_line, cover_lines, netlist_text, read_control, read_latch, latch_commands, cover_commands, model_of, library_of, words_text, line_text}
+pub use Rattle.netlist.specs.Runs.{library_machine, AreLatches, AreInits, inits_of, state_of, next_states, IsCycle}
+pub use Rattle.machine.specs.Machine.{reading, GivesCycle, GivesRun}

@@ -16,3 +16,4 @@ mod OrderlyLemmas
 pub mod PortLemmas
 pub mod MeaningLemmas
 mod WrittenExamples
+mod Lemmas

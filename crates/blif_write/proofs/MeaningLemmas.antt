@@ -1,12 +1,9 @@
 -- What the two written netlists mean.
-use Rattle.blif_write.proofs.Common.{◌≡◌, ℕ, zero, suc, ◌+◌, ◌-◌, ◌^◌, ◌<◌, ◌≤◌, Bool, false, List, [], ◌∷◌, ◌++◌, length, map, filter, slice_index_or, Option, refl, sym, ap, ◌∙◌, inl, inr, arith, length-append, flat_map, range_with_len, length-map, length-replicate, length-map-range_with_len, sum_by-cons, In, digit, In-append, In-map, from_map, AreOnce, LatchValue, CoverValue, HasOneCycle, address, Denotes, IsWellFormedBody, FlatLatch, FlatValue, Param, Lit, Lut, HaveBases, bits_of, TemplateValue, of_range, in_range, joined_apart, Cover, PlainNetlist, netlist_text, library_of, Naming, naming_of, bit_name, table_name, literal_name, digit_cell, digit_cells, leaf_names, bit_names, chosen_cells, fixed_table, tunable_table, written_latches, with_tables, specialised_netlist, template_netlist, HasPorts, AreTablesOf, Means, driven_by, free_control, all_bit_names, input_bits, rules}
+use Rattle.blif_write.proofs.Common.{◌≡◌, ℕ, zero, suc, ◌+◌, ◌-◌, ◌^◌, ◌<◌, ◌≤◌, Bool, false, List, [], ◌∷◌, ◌++◌, length, map, filter, slice_index_or, Option, refl, sym, ap, ◌∙◌, inl, inr, arith, length-append, flat_map, range_with_len, length-map, length-replicate, length-map-range_with_len, sum_by-cons, In, digit, In-append, In-map, from_map, AreOnce, LatchValue, CoverValue, HasOneCycle, address, Denotes, IsWellFormedBody, FlatLatch, FlatValue, Param, Lit, Lut, HaveBases, bits_of, TemplateValue, of_range, in_range, joined_apart, Cover, PlainNetlist, netlist_text, library_of, Naming, naming_of, bit_name, table_name, literal_name, digit_cell, digit_cells, leaf_names, bit_names, chosen_cells, fixed_table, tunable_table, written_latches, with_tables, specialised_netlist, template_netlist, HasPorts, AreTablesOf, Means, driven_by, free_control, all_bit_names, input_bits, rules, library_machine, table_machine, reading}
 use Rattle.blif_write.proofs.DenoteLemmas.{denotes_plain}
 use Rattle.blif_write.proofs.TableCycleLemmas.{bits_in_order, inputs_again, in_all, table_cycle, fixed_valued, tunable_valued}
 use Rattle.netlist.proofs.LawLemmas.{sound_law}
 use Rattle.netlist.specs.FlatCycle.{flat_inits}
-use Rattle.netlist.specs.Runs.{library_machine}
-use Rattle.lut_sim.specs.Cycle.{table_machine}
-use Rattle.machine.specs.Machine.{reading}
 use Rattle.machine.proofs.RefineLemmas.{refines_by}
 use Rattle.blif_write.proofs.PlainCycleLemmas.{PlainFits, IsPlainCycle, plain_cycle, plain_inits, plain_has_cycle, plain_has_run}
 use Rattle.blif_write.proofs.PlainFlatLemmas.{plain_flat}

@@ -1,8 +1,6 @@
 -- A netlist without hierarchy as a library: its one instance, with its latches and covers, and a clock cycle over the names of this instance.
-use Rattle.blif_write.proofs.Common.{◌≡◌, ℕ, zero, suc, ◌+◌, ◌<◌, Bool, true, false, cond, ◌||◌, IsTrue, List, [], ◌∷◌, ◌++◌, length, map, slice_get, slice_index_or, Option, Some, refl, sym, ap, subst, ◌∙◌, arith, append-nil, option_and_then, ne_eqb, slice_get_within, In, In-get, in_has, Command, LatchValue, CoverValue, cover_value, SubcktValue, ModelValue, LibraryValue, Path, body_at, subckts_of, has_name, is_input, CoverAt, LatchAt, IsMainInput, input_net, Drives, main_input, latch_output, cover_output, from_inside, from_outside, IsClock, listed, controls, Place, latch_at, is_latch, own_places, FlatOrder, FlatUnder, flat, HasOneCycle, none, PlainNetlist, all_inputs, read_control, read_latch, latch_commands, cover_commands, model_of, library_of, None, inl, inr, option_map, none-some, same_Some, slice_get-map, In-map, place_in, get_left, get_right, Body, model_named, placed, model_at, ConnectionAt, Cover, Latch, cases_Bool, TellsClocks, Subckt, rules}
+use Rattle.blif_write.proofs.Common.{◌≡◌, ℕ, zero, suc, ◌+◌, ◌<◌, Bool, true, false, cond, ◌||◌, IsTrue, List, [], ◌∷◌, ◌++◌, length, map, slice_get, slice_index_or, Option, Some, refl, sym, ap, subst, ◌∙◌, arith, append-nil, option_and_then, ne_eqb, slice_get_within, In, In-get, in_has, Command, LatchValue, CoverValue, cover_value, SubcktValue, ModelValue, LibraryValue, Path, body_at, subckts_of, has_name, is_input, CoverAt, LatchAt, IsMainInput, input_net, Drives, main_input, latch_output, cover_output, from_inside, from_outside, IsClock, listed, controls, Place, latch_at, is_latch, own_places, FlatOrder, FlatUnder, flat, HasOneCycle, none, PlainNetlist, all_inputs, read_control, read_latch, latch_commands, cover_commands, model_of, library_of, None, inl, inr, option_map, none-some, same_Some, slice_get-map, In-map, place_in, get_left, get_right, Body, model_named, placed, model_at, ConnectionAt, Cover, Latch, cases_Bool, TellsClocks, Subckt, rules, GivesCycle, GivesRun, AreLatches, AreInits, inits_of, state_of, next_states, IsCycle, library_machine}
 use Rattle.netlist.specs.Cycle.{Fits}
-use Rattle.machine.specs.Machine.{GivesCycle, GivesRun}
-use Rattle.netlist.specs.Runs.{AreLatches, AreInits, inits_of, state_of, next_states, IsCycle, library_machine}
 use Rattle.netlist.proofs.RunLemmas.{cycle_there, run_there}
 use Rattle.netlist.specs.declared.subckt.Connection.{Connection}
 

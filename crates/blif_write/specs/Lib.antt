@@ -1,4 +1,5 @@
 -- What public clauses say.
+pub mod Words
 pub mod PlainNetlist
 pub mod OwnNames
 pub mod Netlists

@@ -1,22 +1,11 @@
 -- What a written netlist means: its one model is sound, and its cycles are those of the LUTs.
 use Rattle.std.specs.Prelude.{◌≡◌, ℕ, ◌<◌, ◌≤◌, ◌^◌, Bool, true, if◌then◌else◌, List, [], ◌∷◌, ◌++◌, length, map, slice_get, codes, bytes_eq, Option, Some, None}
 use Rattle.std.specs.List.{range_with_len}
-use Rattle.list_laws.specs.Members.{In}
+use Rattle.blif_write.specs.Words.{In, IsClean, AreOnce, OutPort, FlatLatch, FlatValue, underscores, IsFlat, Param, regular_names, Lit, Lut, TemplateValue}
 use Rattle.machine.specs.Machine.{GivesCycle, GivesRun, Refines, reading}
-use Rattle.tl_text.specs.Clean.{IsClean}
-use Rattle.tl_text.specs.Once.{AreOnce}
-use Rattle.netlist.specs.declared.flat.OutPort.{OutPort}
-use Rattle.netlist.specs.declared.flat.FlatLatch.{FlatLatch}
-use Rattle.netlist.specs.FlatValue.{FlatValue}
-use Rattle.netlist.specs.Flat.{underscores, IsFlat}
 use Rattle.netlist.specs.FlatCycle.{flat_inits}
 use Rattle.netlist.specs.Runs.{library_machine}
 use Rattle.netlist.specs.Sound.{IsSound}
-use Rattle.param_list.specs.declared.params.Param.{Param}
-use Rattle.param_list.specs.Parameters.{regular_names}
-use Rattle.aig_core.specs.declared.lit.Lit.{Lit}
-use Rattle.cover_pick.specs.declared.lut.Lut.{Lut}
-use Rattle.cover_pick.specs.Template.{TemplateValue}
 use Rattle.lut_sim.specs.Playable.{IsPlayable}
 use Rattle.lut_sim.specs.Cycle.{Driven, table_machine}
 use Rattle.blif_read.specs.Denotes.{Denotes}

@@ -2,17 +2,9 @@
 use Rattle.std.specs.Prelude.{ℕ, ◌+◌, ◌-◌, ◌*◌, ◌^◌, suc, Bool, true, false, if◌then◌else◌, List, [], ◌∷◌, ◌++◌, length, map, filter, replicate, slice_index_or, bytes_eq, Option, Some, None}
 use Rattle.std.specs.List.{range_with_len}
 use Rattle.list_laws.specs.Digits.{digit}
-use Rattle.netlist.specs.declared.cell.Cell.{Cell}
+use Rattle.blif_write.specs.Words.{Cell, RowValue, CoverValue, OutPort, FlatLatch, FlatValue, Param, Lit, Lut, TemplateValue}
 use Rattle.netlist.specs.declared.cell.Cell.TheVariants.{Zero, One, Any}
 use Rattle.netlist.specs.declared.latch.Latch.{Latch as LatchValue}
-use Rattle.netlist.specs.CoverValue.{RowValue, CoverValue}
-use Rattle.netlist.specs.declared.flat.OutPort.{OutPort}
-use Rattle.netlist.specs.declared.flat.FlatLatch.{FlatLatch}
-use Rattle.netlist.specs.FlatValue.{FlatValue}
-use Rattle.param_list.specs.declared.params.Param.{Param}
-use Rattle.aig_core.specs.declared.lit.Lit.{Lit}
-use Rattle.cover_pick.specs.declared.lut.Lut.{Lut}
-use Rattle.cover_pick.specs.Template.{TemplateValue}
 use Rattle.blif_write.specs.PlainNetlist.{PlainNetlist}
 use Rattle.blif_write.specs.OwnNames.{Naming, naming_of, table_name, latch_name, bit_name, literal_name}
 

@@ -1,9 +1,7 @@
 -- The names in a written netlist. The regular inputs and the outputs have their own; LUTs, latches and configuration bits have names
 -- that begin with more underscores than any port's.
 use Rattle.std.specs.Prelude.{ℕ, suc, ◌+◌, ◌-◌, ◌/◌, nat_le, if◌then◌else◌, List, [], ◌∷◌, ◌++◌, length, replicate, slice_index_or, decimal}
-use Rattle.netlist.specs.FlatValue.{FlatValue}
-use Rattle.param_list.specs.declared.params.Param.{Param}
-use Rattle.param_list.specs.Parameters.{regular_names}
+use Rattle.blif_write.specs.Words.{FlatValue, Param, regular_names}
 use Rattle.lut_sim.specs.declared.shape.Shape.{Shape}
 use Rattle.lut_sim.specs.Sources.{is_plain}
 

@@ -1,15 +1,11 @@
 -- A netlist without hierarchy: the lines that write it, and the model that they denote (BLIF manual of 1992).
 use Rattle.std.specs.Prelude.{◌≡◌, ℕ, suc, ◌+◌, true, if◌then◌else◌, List, [], ◌∷◌, ◌++◌, length, map, codes, bytes_eq, Option, Some, None}
 use Rattle.std.specs.List.{flat_map}
-use Rattle.list_laws.specs.Members.{In}
-use Rattle.tl_text.specs.Clean.{IsClean}
-use Rattle.tl_text.specs.Once.{AreOnce}
+use Rattle.blif_write.specs.Words.{In, IsClean, AreOnce, Cell, CoverValue}
 pub use Rattle.tl_text.specs.WrittenText.{words_text, line_text}
-use Rattle.netlist.specs.declared.cell.Cell.{Cell}
 use Rattle.netlist.specs.declared.latch.Latch.{Latch as LatchValue}
 use Rattle.netlist.specs.declared.command.Command.{Command}
 use Rattle.netlist.specs.declared.command.Body.TheVariants.{Cover, Latch}
-use Rattle.netlist.specs.CoverValue.{CoverValue}
 use Rattle.netlist.specs.LibraryValue.{ModelValue, LibraryValue}
 use Rattle.blif_read.specs.Rows.{cell_character, output_token}
 use Rattle.netlist.specs.HasCleanNames.{AreClean, IsCleanBody}

@@ -1,12 +1,6 @@
 -- What a netlist must keep to be written.
 use Rattle.std.specs.Prelude.{◌≡◌, ℕ, ◌<◌, ◌≤◌, ◌^◌, List, Some, length, map, slice_get}
-use Rattle.list_laws.specs.Members.{In}
-use Rattle.netlist.specs.declared.flat.OutPort.{OutPort}
-use Rattle.netlist.specs.FlatValue.{FlatValue}
-use Rattle.netlist.specs.Flat.{underscores}
-use Rattle.param_list.specs.declared.params.Param.{Param}
-use Rattle.param_list.specs.Parameters.{regular_names}
-use Rattle.cover_pick.specs.Template.{TemplateValue}
+use Rattle.blif_write.specs.Words.{In, OutPort, FlatValue, underscores, Param, regular_names, TemplateValue}
 
 -- the sources can be numbered, and the regular inputs stand at these places
 pub record CanBeNamed (flat : FlatValue) (params : List Param) (regular : List ℕ) : Type 0 where

@@ -1,7 +1,5 @@
 -- The candidates of a node: the unions, and the low cut if none of them is as low as the label.
-use Rattle.bounded_cuts.proofs.Common.{◌≡◌, ℕ, ◌<◌, ◌≤◌, List, [], ◌∷◌, ◌++◌, sym, ap, subst, ◌∙◌, arith, In, In-map, from_map, Candidate, Worth, cuts_of, AddsLow, as_low, none_low, ArePricedBy, height, label_at, label_in}
-use Rattle.cut_sets.proofs.HeightLemmas.{height_same}
-use Rattle.bounded_cuts.specs.Candidates.{WithLow, there, missing, unions}
+use Rattle.bounded_cuts.proofs.Common.{◌≡◌, ℕ, ◌<◌, ◌≤◌, List, [], ◌∷◌, ◌++◌, sym, ap, subst, ◌∙◌, arith, In, In-map, from_map, Candidate, Worth, cuts_of, AddsLow, as_low, none_low, ArePricedBy, height, label_at, label_in, height_same, WithLow, there, missing, unions}
 
 pub none_priced : (ws : List Worth) (cs : List Candidate) → cs ≡ [] → ArePricedBy ws cs
 none_priced ws cs e c m = absurd (subst (λ (l : List Candidate). In l c) e m)

@@ -1,8 +1,5 @@
 -- What a taking rests on: the candidates of a node are cuts of it, and cost what they are priced.
-use Rattle.bounded_cuts.proofs.Common.{◌≡◌, ℕ, ◌<◌, List, length, [], sym, ap, ◌∙◌, arith, length-map, In, In-get_or, label_at, IsAnd, IsCut, Candidate, candidate_at, cuts_at, cuts_of, pricing, ArePriced, CanTake, Worth}
-use Rattle.bounded_cuts.specs.declared.making.Wanted.{Wanted}
-use Rattle.bounded_cuts.specs.Candidates.{AreCandidates}
-use Rattle.bounded_cuts.specs.Making.{AreMade, CanMake, low_in}
+use Rattle.bounded_cuts.proofs.Common.{◌≡◌, ℕ, ◌<◌, List, length, [], sym, ap, ◌∙◌, arith, length-map, In, In-get_or, label_at, IsAnd, IsCut, Candidate, candidate_at, cuts_at, cuts_of, pricing, ArePriced, CanTake, Worth, Wanted, AreCandidates, AreMade, CanMake, low_in}
 use Rattle.bounded_cuts.proofs.CutLemmas.{candidate_cut}
 use Rattle.bounded_cuts.proofs.MakingLemmas.{rows_cut}
 

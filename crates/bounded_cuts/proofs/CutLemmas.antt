@@ -1,8 +1,5 @@
 -- Each candidate of a node is a cut of it, and one is as low as its label, if that is so of the sets below it.
-use Rattle.bounded_cuts.proofs.Common.{◌≡◌, ℕ, ◌/◌, ◌<◌, ◌≤◌, nat_lt, List, [], ◌∷◌, length, refl, sym, subst, inl, inr, arith, choose, ltb-false, In, In-append, In-push, In-pushed, IsAscending, height, row_at, Aig, AreNormal, IsNormal, IsAnd, IsNode, first_and, node_normal, Blocks, member, fan_ins, CanBeLeaf, IsCut, Blocks-within, AreLeastHeights, Pair, rules}
-use Rattle.cut_sets.specs.Unions.{union}
-use Rattle.cut_sets.proofs.SetLemmas.{In-union, union_left, union_right, IsAscending-union}
-use Rattle.bounded_cuts.specs.Candidates.{AreCandidates, HandsOn, WithLow, free, missing, node, one_union, source, there, unions, unions_with}
+use Rattle.bounded_cuts.proofs.Common.{◌≡◌, ℕ, ◌/◌, ◌<◌, ◌≤◌, nat_lt, List, [], ◌∷◌, length, refl, sym, subst, inl, inr, arith, choose, ltb-false, In, In-append, In-push, In-pushed, IsAscending, height, row_at, Aig, AreNormal, IsNormal, IsAnd, IsNode, first_and, node_normal, Blocks, member, fan_ins, CanBeLeaf, IsCut, Blocks-within, AreLeastHeights, Pair, rules, union, In-union, union_left, union_right, IsAscending-union, AreCandidates, HandsOn, WithLow, free, missing, node, one_union, source, there, unions, unions_with}
 
 -- a list that blocks a fan-in m, and whose members may be leaves of a cut of n
 record IsPart (g : Aig) (n m : ℕ) (c : List ℕ) : Type 0 where

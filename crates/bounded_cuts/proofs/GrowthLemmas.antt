@@ -1,9 +1,5 @@
 -- Flows and candidates of a node rest on the rows of the nodes below it alone, so they stay when a row is appended.
-use Rattle.bounded_cuts.proofs.Common.{◌≡◌, ℕ, zero, suc, ◌/◌, ◌<◌, ◌≤◌, max, Bool, if◌then◌else◌, nat_lt, List, [], ◌∷◌, ◌++◌, refl, sym, ap, subst, ◌∙◌, arith, div-le_self, choose_one, MOST_FLOW, AreCapped, row_at, Aig, AreNormal, IsNormal, first_and, node_normal}
-use Rattle.bounded_cuts.specs.declared.scope.Scope.{Scope}
-use Rattle.bounded_cuts.specs.Candidates.{AreCandidates, HandsOn, free, source, node}
-use Rattle.bounded_cuts.specs.Flow.{allowed_row, flows_below, least_flow, node_flow}
-use Rattle.bounded_cuts.specs.Sets.{IsTaken}
+use Rattle.bounded_cuts.proofs.Common.{◌≡◌, ℕ, zero, suc, ◌/◌, ◌<◌, ◌≤◌, max, Bool, if◌then◌else◌, nat_lt, List, [], ◌∷◌, ◌++◌, refl, sym, ap, subst, ◌∙◌, arith, div-le_self, choose_one, MOST_FLOW, AreCapped, row_at, Aig, AreNormal, IsNormal, first_and, node_normal, Scope, AreCandidates, HandsOn, free, source, node, allowed_row, flows_below, least_flow, node_flow, IsTaken}
 use Rattle.bounded_cuts.proofs.SetLemmas.{least_capped}
 
 -- rows that agree below a node

@@ -14,3 +14,4 @@ mod WorthLemmas
 mod CutLemmas
 mod ChosenLemmas
 mod MakingLemmas
+mod Lemmas

@@ -1,12 +1,6 @@
 -- The sets of the first n nodes and one set more are those of the first n + 1.
-use Rattle.bounded_cuts.proofs.Common.{◌≡◌, ℕ, zero, suc, ◌+◌, ◌-◌, ◌*◌, ◌/◌, ◌<◌, ◌≤◌, max, cond, Bool, if◌then◌else◌, nat_lt, List, [], ◌∷◌, ◌++◌, length, refl, sym, ap, subst, ◌∙◌, inl, inr, arith, length-append, get_or_push, get_or_append_left, get_or_past, sum_by, sum_by-cons, cases_lt, cases_eq, lt-ltb, le-ltb, mul-suc, mul-zero, mul-le-mul_left, In, label_at, row_at, IsAnd, first_and, node_count, IsCut, places, Worth, flows_of, low_flows_of, IsWorth, AreWorths, MOST_CUTS, rules}
-use Rattle.bounded_cuts.specs.declared.making.Wanted.{Wanted}
-use Rattle.bounded_cuts.specs.declared.scope.Scope.{Scope}
+use Rattle.bounded_cuts.proofs.Common.{◌≡◌, ℕ, zero, suc, ◌+◌, ◌-◌, ◌*◌, ◌/◌, ◌<◌, ◌≤◌, max, cond, Bool, if◌then◌else◌, nat_lt, List, [], ◌∷◌, ◌++◌, length, refl, sym, ap, subst, ◌∙◌, inl, inr, arith, length-append, get_or_push, get_or_append_left, get_or_past, sum_by, sum_by-cons, cases_lt, cases_eq, lt-ltb, le-ltb, mul-suc, mul-zero, mul-le-mul_left, In, label_at, row_at, IsAnd, first_and, node_count, IsCut, places, Worth, flows_of, low_flows_of, IsWorth, AreWorths, MOST_CUTS, rules, Wanted, Scope, AreCandidates, cuts_within, flows_below, least_flow, node_flow, AreMade, AreSetsFor, CanMake, count_in, favoured_in, low_in, HasSet, IsTaken}
 use Rattle.bounded_cuts.specs.declared.scope.Scope.TheVariants.{AnyHeight, LeastHeight}
-use Rattle.bounded_cuts.specs.Candidates.{AreCandidates}
-use Rattle.bounded_cuts.specs.Flow.{cuts_within, flows_below, least_flow, node_flow}
-use Rattle.bounded_cuts.specs.Making.{AreMade, AreSetsFor, CanMake, count_in, favoured_in, low_in}
-use Rattle.bounded_cuts.specs.Sets.{HasSet, IsTaken}
 use Rattle.bounded_cuts.proofs.GrowthLemmas.{AgreeBelow, candidates_agree, flows_agree, taken_as}
 use Rattle.bounded_cuts.proofs.ServingLemmas.{rows_are_cuts, set_few}
 use Rattle.bounded_cuts.proofs.WorthLemmas.{flows_pushed, low_flows_pushed, no_worths, worths_pushed}

@@ -1,18 +1,10 @@
 -- There is one set for each node: two lists of sets that are made from the same are equal.
-use Rattle.bounded_cuts.proofs.Common.{◌≡◌, ℕ, zero, suc, ◌+◌, ◌-◌, ◌/◌, ◌<◌, ◌≤◌, Bool, List, [], ◌∷◌, ◌++◌, length, map, refl, sym, ap, subst, ◌∙◌, inl, inr, arith, cases_eq, cases_lt, get_or_from_slice_get, slice_get_within, In, cut_flow, candidate_at, paid_flow, ComesBefore, by_first, by_second, by_place, AreFirst, AreInOrder, IsLeastAtHeight, IsLeft, AreTakenPlaces, places}
-use Rattle.aig_core.specs.Aig.{Aig, first_and, node_count, IsAnd, IsSource, AreNormal}
+use Rattle.bounded_cuts.proofs.Common.{◌≡◌, ℕ, zero, suc, ◌+◌, ◌-◌, ◌/◌, ◌<◌, ◌≤◌, Bool, List, [], ◌∷◌, ◌++◌, length, map, refl, sym, ap, subst, ◌∙◌, inl, inr, arith, cases_eq, cases_lt, get_or_from_slice_get, slice_get_within, In, cut_flow, candidate_at, paid_flow, ComesBefore, by_first, by_second, by_place, AreFirst, AreInOrder, IsLeastAtHeight, IsLeft, AreTakenPlaces, places, Aig, first_and, node_count, IsAnd, IsSource, AreNormal, Pair, source_below, same_pair, row_at, regular_blocked, HandsOn, free, source, node, WithLow, there, missing, unions, AreCandidates, flows_below, AreOnce, IsTaken, AreSets}
 use Rattle.aig_core.specs.declared.lit.Kind.TheVariants.{Regular}
-use Rattle.aig_core.specs.declared.lit.Pair.{Pair}
-use Rattle.aig_core.proofs.NodeLemmas.{source_below, same_pair}
 use Rattle.list_laws.specs.Apart.{AreApart}
 use Rattle.list_laws.proofs.Apart.{apart_short}
 use Rattle.list_laws.proofs.Places.{same_list}
-use Rattle.cut_sets.specs.Rows.{row_at}
-use Rattle.cut_sets.proofs.BlockLemmas.{regular_blocked}
 use Rattle.bounded_cuts.specs.declared.scope.Scope.TheVariants.{AnyHeight, LeastHeight}
-use Rattle.bounded_cuts.specs.Candidates.{HandsOn, free, source, node, WithLow, there, missing, unions, AreCandidates}
-use Rattle.bounded_cuts.specs.Flow.{flows_below}
-use Rattle.bounded_cuts.specs.Sets.{AreOnce, IsTaken, AreSets}
 use Rattle.bounded_cuts.proofs.GrowthLemmas.{AgreeBelow, candidates_agree, flows_agree, taken_as}
 
 -- no two places come before each other

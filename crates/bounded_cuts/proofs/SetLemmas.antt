@@ -1,10 +1,5 @@
 -- The cuts at some places, and the least of their flows.
-use Rattle.bounded_cuts.proofs.Common.{◌≡◌, ℕ, ◌+◌, ◌<◌, ◌≤◌, min, Bool, true, false, cond, if◌then◌else◌, List, [], ◌∷◌, ◌++◌, length, map, get_or, take, ap, ◌∙◌, arith, height, MOST_FLOW, Candidate, candidate_at, cuts_at, cuts_of, cut_flow}
-use Rattle.std.proofs.Common.{ltb, nat_lt}
-use Rattle.std.proofs.lemmas.List.{take_more, map-append}
-use Rattle.std.proofs.lemmas.Bool.{ltb-true, ltb-false}
-use Rattle.list_laws.proofs.Choice.{choose}
-use Rattle.bounded_cuts.specs.Flow.{least_flow, cuts_within}
+use Rattle.bounded_cuts.proofs.Common.{◌≡◌, ℕ, ◌+◌, ◌<◌, ◌≤◌, min, Bool, true, false, cond, if◌then◌else◌, List, [], ◌∷◌, ◌++◌, length, map, get_or, take, ap, ◌∙◌, arith, height, MOST_FLOW, Candidate, candidate_at, cuts_at, cuts_of, cut_flow, ltb, nat_lt, take_more, map-append, ltb-true, ltb-false, choose, least_flow, cuts_within}
 use Rattle.bounded_cuts.proofs.TakingLemmas.{cut_at}
 
 pub map_next : (candidates : List Candidate) (taken : List ℕ) (i : ℕ) (x : Candidate) → i < length taken → get_or taken i 0 < length candidates → cuts_at candidates (take (i + 1) taken) ≡ cuts_at candidates (take i taken) ++ (get_or candidates (get_or taken i 0) x).cut ∷ []

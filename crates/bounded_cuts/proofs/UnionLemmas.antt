@@ -1,12 +1,6 @@
 -- Unions of the cuts of two lists.
-use Rattle.bounded_cuts.proofs.Common.{◌≡◌, ℕ, ◌+◌, ◌*◌, ◌<◌, ◌≤◌, List, [], ◌∷◌, ◌++◌, length, get_or, take, sym, ap, subst, ◌∙◌, true, false, suc, inl, inr, ◌⊎◌, arith, length-append, append-nil, append_assoc, In, In-push, get_or_from_slice_get, slice_get_within}
-use Rattle.std.proofs.Common.{Some, slice_get}
-use Rattle.std.proofs.lemmas.List.{take_more}
-use Rattle.std.proofs.Common.{ltb, suc-mul, add_comm}
-use Rattle.cut_sets.specs.Unions.{union}
-use Rattle.bounded_cuts.specs.Candidates.{one_union, unions_with, unions}
-use Rattle.bounded_cuts.proofs.Common.{Candidate, Worth, AreCounted, In-union, ArePricedBy, IsPricedBy}
-use Rattle.std.proofs.Common.{Bool, cond}
+use Rattle.bounded_cuts.proofs.Common.{◌≡◌, ℕ, ◌+◌, ◌*◌, ◌<◌, ◌≤◌, List, [], ◌∷◌, ◌++◌, length, get_or, take, sym, ap, subst, ◌∙◌, true, false, suc, inl, inr, ◌⊎◌, arith, length-append, append-nil, append_assoc, In, In-push, get_or_from_slice_get, slice_get_within, Some, slice_get, take_more, ltb, suc-mul, add_comm, union, one_union, unions_with, unions, Bool, cond}
+use Rattle.bounded_cuts.proofs.Common.{Candidate, Worth, AreCounted, In-union, ArePricedBy, IsPricedBy, Some, slice_get, take_more, ltb, suc-mul, add_comm, union, one_union, unions_with, unions, Bool, cond}
 
 pub with_push : (k : ℕ) (c : List ℕ) (ds : List (List ℕ)) (d : List ℕ) → unions_with k c (ds ++ d ∷ []) ≡ unions_with k c ds ++ one_union k c d
 with_push k c [] d = append-nil (one_union k c d)

@@ -1,9 +1,7 @@
 -- What nodes count as leaves, said of their labels, their flows and which of them are favoured.
-use Rattle.bounded_cuts.proofs.Common.{◌≡◌, ℕ, zero, suc, ◌+◌, ◌^◌, ◌<◌, ◌≤◌, Bool, if◌then◌else◌, List, [], ◌∷◌, ◌++◌, length, sum_by, refl, sym, ap, subst, ◌∙◌, inl, inr, arith, length-append, get_or_push, get_or_append_left, cases_lt, choose_one, In, In-map, MOST_FLOW, TABLE_PRICE, Candidate, cuts_of, flow_at, is_favoured, AreCapped, IsPriced, ArePriced, label_at, Worth, no_worth, worth_at, label_in, flow_in, low_flow_in, paid_in, flows_of, low_flows_of, pricing, AreBounded, IsWorth, AreWorths, IsPricedBy, ArePricedBy}
+use Rattle.bounded_cuts.proofs.Common.{◌≡◌, ℕ, zero, suc, ◌+◌, ◌^◌, ◌<◌, ◌≤◌, Bool, if◌then◌else◌, List, [], ◌∷◌, ◌++◌, length, sum_by, refl, sym, ap, subst, ◌∙◌, inl, inr, arith, length-append, get_or_push, get_or_append_left, cases_lt, choose_one, In, In-map, MOST_FLOW, TABLE_PRICE, Candidate, cuts_of, flow_at, is_favoured, AreCapped, IsPriced, ArePriced, label_at, Worth, no_worth, worth_at, label_in, flow_in, low_flow_in, paid_in, flows_of, low_flows_of, pricing, AreBounded, IsWorth, AreWorths, IsPricedBy, ArePricedBy, map-append, height_same}
 use Rattle.std.proofs.Math.ListN.{get_or-map}
 use Rattle.std.proofs.Math.Path.{fun_ext}
-use Rattle.std.proofs.lemmas.List.{map-append}
-use Rattle.cut_sets.proofs.HeightLemmas.{height_same}
 
 flow_same : (ws : List Worth) (m : ℕ) → flow_at (flows_of ws) m ≡ flow_in ws m
 flow_same ws m = get_or-map (λ (w : Worth). w.flow) ws m no_worth

@@ -1,12 +1,7 @@
 -- The cuts from which a node's set is chosen: unions of what its fan-ins hand on, and a low cut if no union is as low as the label.
 use Rattle.std.specs.Prelude.{◌≡◌, ◌⊎◌, ℕ, ◌/◌, ◌≤◌, if◌then◌else◌, nat_lt, List, [], ◌∷◌, ◌++◌, length}
-use Rattle.aig_core.specs.Aig.{Aig, IsAnd, IsNode, IsSource}
+use Rattle.bounded_cuts.specs.Words.{Aig, IsAnd, IsNode, IsSource, Pair, In, Blocks, height, row_at}
 use Rattle.aig_core.specs.declared.lit.Kind.TheVariants.{Regular}
-use Rattle.aig_core.specs.declared.lit.Pair.{Pair}
-use Rattle.list_laws.specs.Members.{In}
-use Rattle.cut_sets.specs.Cuts.{Blocks}
-use Rattle.cut_sets.specs.Labels.{height}
-use Rattle.cut_sets.specs.Rows.{row_at}
 use Rattle.cut_sets.specs.Unions.{union}
 
 -- a node that doesn't depend on parameters alone: a regular source, or an AND node over one

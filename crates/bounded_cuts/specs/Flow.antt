@@ -1,9 +1,6 @@
 -- The flow of a node: what its LUT and all LUTs below it cost, each shared evenly among as many readers as are counted of it.
 use Rattle.std.specs.Prelude.{ℕ, zero, suc, ◌+◌, ◌/◌, ◌^◌, min, max, if◌then◌else◌, ◌==◌, nat_lt, List, [], ◌∷◌, ◌++◌, length, sum_by, slice_index_or}
-use Rattle.aig_core.specs.Aig.{Aig, first_and}
-use Rattle.aig_core.specs.declared.lit.Pair.{Pair}
-use Rattle.cut_sets.specs.Labels.{height}
-use Rattle.cut_sets.specs.Rows.{row_at}
+use Rattle.bounded_cuts.specs.Words.{Aig, first_and, Pair, height, row_at}
 use Rattle.bounded_cuts.specs.declared.limits.TheConstants.{MOST_FLOW, TABLE_PRICE}
 use Rattle.bounded_cuts.specs.declared.scope.Scope.{Scope}
 use Rattle.bounded_cuts.specs.declared.scope.Scope.TheVariants.{AnyHeight, LeastHeight}

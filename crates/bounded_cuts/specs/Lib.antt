@@ -1,4 +1,5 @@
 -- What public clauses say.
+pub mod Words
 pub mod Flow
 pub mod Candidates
 pub mod Sets

@@ -1,10 +1,6 @@
 -- What sets are made from, and the sets of the first nodes.
 use Rattle.std.specs.Prelude.{◌≡◌, ℕ, ◌*◌, ◌<◌, ◌≤◌, Bool, false, List, [], length, slice_index_or}
-use Rattle.aig_core.specs.Aig.{Aig, AreNormal, first_and, IsAnd}
-use Rattle.list_laws.specs.Members.{In}
-use Rattle.cut_sets.specs.Cuts.{IsCut}
-use Rattle.cut_sets.specs.Labels.{AreLeastHeights, height, label_at}
-use Rattle.cut_sets.specs.Rows.{row_at}
+use Rattle.bounded_cuts.specs.Words.{Aig, AreNormal, first_and, IsAnd, In, IsCut, AreLeastHeights, height, label_at, row_at}
 use Rattle.cut_sets.specs.declared.limits.TheConstants.{MOST_CUTS, MOST_LEAVES}
 use Rattle.bounded_cuts.specs.declared.making.Wanted.{Wanted}
 use Rattle.bounded_cuts.specs.declared.price.Candidate.{Candidate}

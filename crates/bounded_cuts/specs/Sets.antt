@@ -1,10 +1,6 @@
 -- The set of a node: at most 2k + 4 of its candidates. Only candidates count that contain no other one. First those of the least height are taken by what they cost, until half of the places are; then those of the fewest leaves, for a quarter of the places; then the others by what they cost, for the rest.
 use Rattle.std.specs.Prelude.{◌≡◌, ℕ, ◌+◌, ◌-◌, ◌*◌, ◌/◌, ◌^◌, ◌<◌, ◌≤◌, Bool, if◌then◌else◌, List, [], ◌∷◌, ◌++◌, length, map, sum_by, slice_index_or, ◌⊎◌}
-use Rattle.aig_core.specs.Aig.{Aig, first_and, node_count, IsAnd}
-use Rattle.list_laws.specs.Members.{In, Within}
-use Rattle.cut_sets.specs.Cuts.{IsCut}
-use Rattle.cut_sets.specs.Labels.{height}
-use Rattle.cut_sets.specs.Rows.{row_at}
+use Rattle.bounded_cuts.specs.Words.{Aig, first_and, node_count, IsAnd, In, Within, IsCut, height, row_at}
 use Rattle.bounded_cuts.specs.declared.limits.TheConstants.{TABLE_PRICE}
 use Rattle.bounded_cuts.specs.declared.scope.Scope.TheVariants.{AnyHeight, LeastHeight}
 use Rattle.bounded_cuts.specs.Candidates.{AreCandidates}

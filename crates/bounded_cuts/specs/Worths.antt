@@ -1,7 +1,6 @@
 -- What nodes count as leaves, and what cuts cost by that.
 use Rattle.std.specs.Prelude.{◌≡◌, ℕ, ◌+◌, ◌^◌, ◌<◌, ◌≤◌, Bool, if◌then◌else◌, List, [], ◌∷◌, ◌++◌, length, map, sum_by, slice_index_or}
-use Rattle.list_laws.specs.Members.{In}
-use Rattle.cut_sets.specs.Labels.{height, label_at}
+use Rattle.bounded_cuts.specs.Words.{In, height, label_at}
 use Rattle.bounded_cuts.specs.declared.limits.TheConstants.{MOST_FLOW, TABLE_PRICE}
 use Rattle.bounded_cuts.specs.declared.price.Candidate.{Candidate}
 use Rattle.bounded_cuts.specs.declared.worths.Worth.{Worth}

@@ -2,9 +2,8 @@
 --
 -- The sources are the inputs 1, 2 and 3. Nodes 4 and 5 are the products of the exclusive or of inputs 1 and 2, node 6 is its
 -- complement, and node 7 is the product of input 3 and the exclusive or.
-use Rattle.cert_check.proofs.Common.{◌≡◌, ◌≢◌, ℕ, zero, suc, ◌+◌, ◌<◌, ◌≤◌, Bool, true, ◌||◌, not, eqb, leb, List, [], ◌∷◌, Some, refl, sym, subst, inl, inr, arith, slice_get, list_all, list_any, and_parts, or_cases, or_left, or_right, not-true, eqb-true, leb-true, eq-eqb, both_ways, none-some, same_Some, slice_get_within, Aig, Regular, Pair, In, PathValue, StepValue, CertificateValue, IsFanIn, first, second, IsPath, claim_of, IsJustified, node, complemented, IsReached, IsValid, MayStand, IsFault, IsLowerBound, PathCount, Shared, NotReached, ◌-◌, ◌/◌, ◌⊎◌, PathsFault, None, codes, WordsLine, says_claim, says_path, said_of, malformed_line, IsCertText, DepthFault, take}
+use Rattle.cert_check.proofs.Common.{◌≡◌, ◌≢◌, ℕ, zero, suc, ◌+◌, ◌<◌, ◌≤◌, Bool, true, ◌||◌, not, eqb, leb, List, [], ◌∷◌, Some, refl, sym, subst, inl, inr, arith, slice_get, list_all, list_any, and_parts, or_cases, or_left, or_right, not-true, eqb-true, leb-true, eq-eqb, both_ways, none-some, same_Some, slice_get_within, Aig, Regular, Pair, In, PathValue, StepValue, CertificateValue, IsFanIn, first, second, IsPath, claim_of, IsJustified, node, complemented, IsReached, IsValid, MayStand, IsFault, IsLowerBound, PathCount, Shared, NotReached, ◌-◌, ◌/◌, ◌⊎◌, PathsFault, None, codes, WordsLine, says_claim, says_path, said_of, malformed_line, IsCertText, DepthFault, take, fan_in_cases}
 use Rattle.cert_check.proofs.LeastLemmas.{valid_bound}
-use Rattle.cut_sets.proofs.PathLemmas.{fan_in_cases}
 use Rattle.cert_check.proofs.StepLemmas.{get_taken}
 
 abbrev pair : ℕ → ℕ → Pair

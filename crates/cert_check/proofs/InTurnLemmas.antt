@@ -1,6 +1,5 @@
 -- Steps in turn: a certificate is valid where its steps are in turn and its depth is reached, and only there.
-use Rattle.cert_check.proofs.Common.{◌≡◌, ℕ, ◌+◌, ◌<◌, ◌≤◌, cond, eqb, List, [], ◌∷◌, ◌++◌, append_assoc, map, refl, sym, ap, ◌∙◌, subst, inl, inr, arith, eqb-true, ◌≢◌, Aig, first_and, IsAnd, AreNormal, In, IsAscending, choose, In-left, In-right, In-push, In-get, In-map, from_map, StepValue, CertificateValue, claim_of, IsJustified, IsReached, IsValid, AreInTurn}
-use Rattle.cut_sets.proofs.PathLemmas.{path_below}
+use Rattle.cert_check.proofs.Common.{◌≡◌, ℕ, ◌+◌, ◌<◌, ◌≤◌, cond, eqb, List, [], ◌∷◌, ◌++◌, append_assoc, map, refl, sym, ap, ◌∙◌, subst, inl, inr, arith, eqb-true, ◌≢◌, Aig, first_and, IsAnd, AreNormal, In, IsAscending, choose, In-left, In-right, In-push, In-get, In-map, from_map, StepValue, CertificateValue, claim_of, IsJustified, IsReached, IsValid, AreInTurn, path_below}
 
 -- later steps of other nodes do not change the claim of a node
 claim_none : (ss : List StepValue) (m : ℕ) → ((t : StepValue) → In ss t → t.node ≢ m) → claim_of ss m ≡ 0

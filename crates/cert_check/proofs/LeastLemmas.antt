@@ -1,8 +1,7 @@
 -- A valid certificate is a lower bound of the depth of every cover: the K + 1 paths to a node show that no cut of it is low.
-use Rattle.cert_check.proofs.Common.{◌≡◌, ℕ, suc, ◌+◌, ◌/◌, ◌<◌, ◌≤◌, List, [], ◌∷◌, Option, Some, eqb, length, refl, sym, subst, inl, inr, ◌⊎◌, arith, slice_get, eqb-true, cases_lt, Aig, first_and, In, choose, Blocks, IsCut, IsPath, map, length-map, from_map, mapped_at, PathValue, StepValue, CertificateValue, IsLowerBound, AreLowerBounds, claim_of, path_count, IsJustified, Needs, node, complemented, SomeNeeds, IsValid}
+use Rattle.cert_check.proofs.Common.{◌≡◌, ℕ, suc, ◌+◌, ◌/◌, ◌<◌, ◌≤◌, List, [], ◌∷◌, Option, Some, eqb, length, refl, sym, subst, inl, inr, ◌⊎◌, arith, slice_get, eqb-true, cases_lt, Aig, first_and, In, choose, Blocks, IsCut, IsPath, map, length-map, from_map, mapped_at, PathValue, StepValue, CertificateValue, IsLowerBound, AreLowerBounds, claim_of, path_count, IsJustified, Needs, node, complemented, SomeNeeds, IsValid, ArePathsTo}
 use Rattle.cut_sets.specs.Covers.{IsCover, HasDepth, source, free, table, RootsWithin}
 use Rattle.cut_sets.specs.Labels.{height}
-use Rattle.cut_sets.specs.Paths.{ArePathsTo}
 use Rattle.cut_sets.proofs.HeightLemmas.{height_le}
 use Rattle.cut_sets.proofs.PickLemmas.{path_not_free, paths_high}
 

@@ -11,3 +11,4 @@ mod WriteLemmas
 pub mod RoundTrip
 mod CertExample
 pub mod BareLemmas
+mod Lemmas

@@ -1,11 +1,7 @@
 -- The line on the error output.
 use Rattle.std.specs.Prelude.{◌≡◌, ℕ, ◌<◌, ◌⊎◌, take, length, codes, [], ◌∷◌, ◌++◌, List}
 use Rattle.std.specs.List.{concat}
-use Rattle.tl_io.specs.Causes.{Rose}
-use Rattle.tl_io.specs.Content.{extended}
-use Rattle.tl_io.specs.Sink.{SinkSeen}
-use Rattle.tl_fault.specs.RefusalValue.{RefusalValue}
-use Rattle.tl_fault.specs.Refusals.{details_words, spaced}
+use Rattle.cmd_base.specs.Words.{Rose, extended, SinkSeen, RefusalValue, details_words, spaced}
 use Rattle.cmd_base.specs.Refusals.{too_long}
 use Rattle.cmd_base.specs.declared.outcome.Outcome.{Outcome}
 use Rattle.cmd_base.specs.declared.outcome.Outcome.TheVariants as outcome

@@ -1,7 +1,6 @@
 -- The status of each outcome, and the number of each status.
 use Rattle.std.specs.Prelude.{ℕ, if◌then◌else◌}
-use Rattle.tl_fault.specs.RefusalValue.{RefusalValue}
-use Rattle.tl_fault.specs.Refusals.{is_limit}
+use Rattle.cmd_base.specs.Words.{RefusalValue, is_limit}
 use Rattle.cmd_base.specs.declared.status.Status.{Status}
 use Rattle.cmd_base.specs.declared.status.Status.TheVariants as status
 use Rattle.cmd_base.specs.declared.outcome.Outcome.{Outcome}

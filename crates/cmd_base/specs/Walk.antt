@@ -1,13 +1,10 @@
 -- The walk of a command through its files, in the order of work, as each command defines it: the first refusal, or the accepted job and what becomes of it; what it changes outside; and how it ends.
 use Rattle.std.specs.Prelude.{ℕ, List, Option, ◌≡◌, ◌≤◌, Some, ◌<◌, ◌⊎◌, false, take}
 use Rattle.tl_io.specs.Port.{PortSeen}
-use Rattle.tl_io.specs.Shelf.{Files, ShelfSeen}
-use Rattle.tl_io.specs.Sink.{SinkSeen}
-use Rattle.tl_fault.specs.RefusalValue.{RefusalValue}
+use Rattle.cmd_base.specs.Words.{Files, ShelfSeen, SinkSeen, RefusalValue, Rose}
 use Rattle.cmd_base.specs.Refusals.{most_bytes, too_long}
 use Rattle.cmd_base.specs.declared.outcome.File.{File}
 use Rattle.tl_io.specs.declared.told_name.TheConstants.{NAME_ROOM}
-use Rattle.tl_io.specs.Causes.{Rose}
 use Rattle.cmd_base.specs.declared.outcome.Outcome.{Outcome}
 use Rattle.cmd_base.specs.declared.outcome.Outcome.TheVariants as outcome
 

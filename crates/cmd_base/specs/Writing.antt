@@ -1,8 +1,6 @@
 -- What a job that writes files makes of what is outside: first its files, in their order, and then its line.
 use Rattle.std.specs.Prelude.{◌≡◌, ◌<◌, ◌⊎◌, ℕ, List, [], ◌∷◌, ◌++◌, length, take, Option, Result, Ok, Err}
-use Rattle.tl_io.specs.Causes.{Rose}
-use Rattle.tl_io.specs.Content.{extended}
-use Rattle.tl_io.specs.Shelf.{Files, with_file, emptied}
+use Rattle.cmd_base.specs.Words.{Rose, extended, Files, with_file, emptied}
 use Rattle.cmd_base.specs.Walk.{Outside}
 use Rattle.cmd_base.specs.declared.outcome.Outcome.{Outcome}
 use Rattle.cmd_base.specs.declared.outcome.Outcome.TheVariants.{Done, WriteFault}

@@ -9,7 +9,7 @@ pub use Rattle.cert_check.specs.Faults.{IsFault}
 pub use Rattle.cert_check.specs.Refusals.{refusal_of}
 pub use Rattle.cert_check.specs.WrittenText.{cert_text, bare}
 pub use Rattle.cert_check.specs.declared.cert_err.CertErr.{CertErr}
-pub use Rattle.cmd_base.proofs.EndLemmas.{IsPart, Explains_lift, memory_ends, unbegun_ends, Explains_from, keeps_past, only_read}
+pub use Rattle.cmd_base.proofs.EndLemmas.{IsPart, Explains_lift, memory_ends, unbegun_ends, Explains_from, only_read}
 pub use Rattle.cmd_base.specs.Walk.{Told, IsBegunFrom, Explains, IsBegun, Ends, outside, Outside, HasLaws}
 pub use Rattle.cmd_base.specs.Writing.{FileText, writing_outcome, AreWritten, IsCutInLine}
 pub use Rattle.cmd_base.specs.declared.outcome.File.{File}
@@ -18,7 +18,7 @@ pub use Rattle.cmd_stations.proofs.RefusedLemmas.{refused_unmade, settled_once, 
 pub use Rattle.cmd_stations.proofs.GraphLemmas.{same_roots, same_graph}
 pub use Rattle.cmd_stations.specs.Mapped.{ToGraph, IsBuilt, ToLabels}
 pub use Rattle.cmd_stations.specs.Tables.{IsBuiltSource, ComesToGraph, ComesToLabels}
-pub use Rattle.cmd_stations.specs.Source.{IsOfSource, source_word, source_reading, IsSourceSettled, HasGraph, IsSourceRefused, ReachesSource}
+pub use Rattle.cmd_stations.specs.Source.{source_word, source_reading, IsSourceSettled, HasGraph, IsSourceRefused, ReachesSource}
 pub use Rattle.cmd_stations.specs.Texts.{HasText}
 pub use Rattle.cmd_stations.specs.declared.source.Source.{Source}
 pub use Rattle.tl_fault.proofs.OrMemoryLemmas.{or_memory, OrMemory-map}

@@ -1,21 +1,7 @@
 -- The walk of `audit`: the graph of a source circuit is made, and a certificate is checked against it.
 use Rattle.std.specs.Prelude.{◌≡◌, ℕ, List, []}
-use Rattle.tl_fault.specs.RefusalValue.{RefusalValue}
-use Rattle.tl_io.specs.Shelf.{Files}
-use Rattle.aig_core.specs.Aig.{Aig}
-use Rattle.aig_core.specs.Roots.{RootsValue, roots_of}
-use Rattle.netlist.specs.Sound.{IsSound}
-use Rattle.cert_check.specs.CertificateValue.{CertificateValue}
-use Rattle.cert_check.specs.Valid.{IsValid, IsLowerBound}
-use Rattle.cmd_base.specs.Walk.{FileReading, shelf_reading, CommandWalk, portless_walk}
-use Rattle.cmd_base.specs.Writing.{AreWritten, IsCutInLine}
+use Rattle.cmd_cert.specs.Words.{RefusalValue, Files, Aig, RootsValue, roots_of, IsSound, CertificateValue, IsValid, IsLowerBound, FileReading, shelf_reading, CommandWalk, portless_walk, AreWritten, IsCutInLine, File, Netlist, Params, Script, Pack, Cert, Source, HasText, IsLongText, ToGraph, HasGraph, IsSourceRefused, ReachesSource, IsSourceSettled}
 use Rattle.cmd_base.specs.Refusals.{too_long}
-use Rattle.cmd_base.specs.declared.outcome.File.{File}
-use Rattle.cmd_base.specs.declared.outcome.File.TheVariants.{Netlist, Params, Script, Pack, Cert}
-use Rattle.cmd_stations.specs.declared.source.Source.{Source}
-use Rattle.cmd_stations.specs.Texts.{HasText, IsLongText}
-use Rattle.cmd_stations.specs.Mapped.{ToGraph}
-use Rattle.cmd_stations.specs.Source.{HasGraph, IsSourceRefused, ReachesSource, IsSourceSettled}
 use Rattle.cmd_cert.specs.Certs.{CertWords, cert_word, HasCert, IsCertRefusal, IsCertSettled, audited_line}
 
 -- the files hold a certificate that is valid for the graph of their source circuit

@@ -1,21 +1,11 @@
 -- The arguments of `prove` and `audit`, and what a certificate's file says and is refused for.
 use Rattle.std.specs.Prelude.{◌≡◌, ℕ, List, [], ◌∷◌, Some, codes, decimal, if◌then◌else◌, bytes_eq, Option, None}
 use Rattle.std.specs.List.{concat}
-use Rattle.tl_fault.specs.RefusalValue.{RefusalValue}
-use Rattle.tl_io.specs.Shelf.{Files}
-use Rattle.aig_core.specs.Aig.{Aig}
-use Rattle.aig_core.specs.Roots.{RootsValue, roots_of}
-use Rattle.cert_check.specs.CertificateValue.{CertificateValue}
-use Rattle.cert_check.specs.CertText.{IsCertText, IsCertTextFault, HasOneReading}
+use Rattle.cmd_cert.specs.Words.{RefusalValue, Files, Aig, RootsValue, roots_of, CertificateValue, IsCertText, IsCertTextFault, HasOneReading, HasText, Rule, File, Cert, SourceWords, source_words, k_of, source_seen, source_word}
 use Rattle.cert_check.specs.Faults.{IsFault, HasOneVerdict}
 use Rattle.cert_check.specs.Refusals.{refusal_of}
 use Rattle.cert_check.specs.declared.cert_err.CertErr.{CertErr}
-use Rattle.cmd_stations.specs.Texts.{HasText}
-use Rattle.cover_pick.specs.declared.rule.Rule.{Rule}
-use Rattle.cmd_base.specs.declared.outcome.File.{File}
-use Rattle.cmd_base.specs.declared.outcome.File.TheVariants.{Cert}
 use Rattle.cmd_cert.specs.declared.words.CertWords.{CertWords as CertWordsRead}
-use Rattle.cmd_stations.specs.Source.{SourceWords, source_words, k_of, source_seen, source_word}
 
 -- the certificate that a file has
 pub record HasCert (files : Files) (name : List ℕ) (cert : CertificateValue) : Type 0 where

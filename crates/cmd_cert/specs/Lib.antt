@@ -1,5 +1,6 @@
 -- What public clauses say: of the arguments of both commands,
 -- of a certificate's file,
+pub mod Words
 pub mod Certs
 -- and of each walk.
 pub mod Prove

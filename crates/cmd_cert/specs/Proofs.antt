@@ -1,22 +1,11 @@
 -- The certificate of a labelled source circuit, as the code makes it, and the outcome of a certificate's refusal; out of memory has none.
 use Rattle.std.specs.Prelude.{◌≡◌, ℕ, List, [], ◌∷◌, string_bytes, Option, Some, None, Result}
 use Rattle.tl_io.specs.Port.{PortSeen}
-use Rattle.tl_io.specs.Shelf.{ShelfSeen}
+use Rattle.cmd_cert.specs.Words.{ShelfSeen, roots_of, IsLeastDepth, label_at, Rule, IsValid, IsWritable, cert_text, AreLabelClaims, AreNeeded, outside, AreLabelsBy, RefusalValue, Cert}
 use Rattle.tl_io.specs.Sink.{SinkSeen}
-use Rattle.aig_core.specs.Roots.{roots_of}
-use Rattle.cut_sets.specs.Covers.{IsLeastDepth}
-use Rattle.cut_sets.specs.Labels.{label_at}
-use Rattle.cover_pick.specs.declared.rule.Rule.{Rule}
-use Rattle.cert_check.specs.Valid.{IsValid}
-use Rattle.cert_check.specs.WrittenText.{IsWritable, cert_text}
-use Rattle.flow_cert.specs.Needed.{AreLabelClaims, AreNeeded}
-use Rattle.cmd_base.specs.Walk.{outside}
 use Rattle.cmd_stations.specs.FileWrites.{WritesAll}
-use Rattle.cmd_stations.specs.Mapped.{AreLabelsBy}
 use Rattle.cmd_cert.specs.declared.prove.job.Proof.{Proof}
 use Rattle.cmd_cert.specs.Certs.{proved_line}
-use Rattle.tl_fault.specs.RefusalValue.{RefusalValue}
-use Rattle.cmd_base.specs.declared.outcome.File.TheVariants.{Cert}
 use Rattle.cmd_base.specs.declared.outcome.Outcome.{Outcome}
 use Rattle.cmd_base.specs.declared.outcome.Outcome.TheVariants as outcome
 

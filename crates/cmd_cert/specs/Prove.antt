@@ -1,21 +1,6 @@
 -- The walk of `prove`: a source circuit is labelled, and the certificate of its least depth is written.
 use Rattle.std.specs.Prelude.{ℕ, List, [], ◌∷◌}
-use Rattle.tl_io.specs.Shelf.{Files}
-use Rattle.aig_core.specs.Aig.{Aig}
-use Rattle.aig_core.specs.Roots.{RootsValue, roots_of}
-use Rattle.netlist.specs.Sound.{IsSound}
-use Rattle.cut_sets.specs.Covers.{IsLeastDepth}
-use Rattle.cert_check.specs.CertificateValue.{CertificateValue}
-use Rattle.cert_check.specs.CertText.{IsCertText}
-use Rattle.cert_check.specs.Valid.{IsValid}
-use Rattle.cert_check.specs.WrittenText.{cert_text}
-use Rattle.cut_sets.specs.Labels.{label_at}
-use Rattle.flow_cert.specs.Needed.{AreLabelClaims, AreNeeded}
-use Rattle.cmd_base.specs.Walk.{CommandWalk}
-use Rattle.cmd_base.specs.Writing.{FileText}
-use Rattle.cmd_stations.specs.declared.source.Source.{Source}
-use Rattle.cmd_stations.specs.Source.{SourceWords, HasLabels}
-use Rattle.cmd_stations.specs.Mapped.{ToLabels}
+use Rattle.cmd_cert.specs.Words.{Files, Aig, RootsValue, roots_of, IsSound, IsLeastDepth, CertificateValue, IsCertText, IsValid, cert_text, label_at, AreLabelClaims, AreNeeded, CommandWalk, FileText, Source, SourceWords, HasLabels, ToLabels}
 use Rattle.cmd_stations.specs.WritingWalk.{writing_walk}
 use Rattle.cmd_cert.specs.Certs.{CertWords, proved_line}
 

@@ -11,3 +11,5 @@ pub use Rattle.cmd_stations.specs.declared.graphs.BuiltSource.{BuiltSource}
 pub use Rattle.tl_io.proofs.PutLemmas.{put_as}
 pub use Rattle.tl_io.specs.Shelf.{Files, emptied, ShelfSeen}
 pub use Rattle.cmd_graph.specs.Graph.{circuit_at, HasOtherNames, IsExported, HasExport, HasGraphJob, graph_walk, GraphWords, graph_seen}
+pub use Rattle.cmd_stations.specs.Source.{IsSourceRefused, IsSourceSettled, source_seen}
+pub use Rattle.cmd_graph.specs.Exports.{IsExport, export_text, circuit_of}

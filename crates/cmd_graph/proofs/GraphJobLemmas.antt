@@ -1,5 +1,5 @@
 -- A job of `graph`: a source circuit that has a graph is accepted, and the circuit of its graph is the verdict's, whole or cut off.
-use Rattle.cmd_graph.proofs.Common.{◌≡◌, ◌≤◌, ℕ, List, [], ◌∷◌, Some, subst, Result, string_bytes, Files, ShelfSeen, FileText, writing_outcome, WritesAll, BuiltSource, ComesToGraph, GraphWords, HasExport, HasGraphJob, graph_walk, writing_ends, ◌⊎◌, Option, Ok, Err, emptied, WritesFile, not_begun}
+use Rattle.cmd_graph.proofs.Common.{◌≡◌, ◌≤◌, ℕ, List, [], ◌∷◌, Some, subst, Result, string_bytes, Files, ShelfSeen, FileText, writing_outcome, WritesAll, BuiltSource, ComesToGraph, GraphWords, HasExport, HasGraphJob, graph_walk, writing_ends, ◌⊎◌, Option, Ok, Err, emptied, WritesFile, not_begun, IsSourceRefused, IsSourceSettled, IsExport, export_text}
 use Rattle.tl_text.specs.declared.logical_lines.TheConstants.{MOST_BYTES}
 use Rattle.tl_fault.specs.RefusalValue.{RefusalValue}
 use Rattle.tl_io.specs.Port.{PortSeen}
@@ -8,10 +8,8 @@ use Rattle.cmd_base.specs.Walk.{outside, Told, IsBegun, Ends, HasLaws}
 use Rattle.cmd_base.specs.declared.outcome.File.{File}
 use Rattle.cmd_base.specs.declared.outcome.Outcome.{Outcome}
 use Rattle.cmd_stations.specs.Mapped.{ToGraph}
-use Rattle.cmd_stations.specs.Source.{IsSourceRefused, IsSourceSettled}
 use Rattle.cmd_stations.proofs.RefusedLemmas.{refused_unmade, source_refused_once}
 use Rattle.cmd_graph.specs.declared.export.Export.{Export}
-use Rattle.cmd_graph.specs.Exports.{IsExport, export_text}
 use Rattle.std.specs.Result.{IsErr}
 
 -- a source circuit whose graph was made is accepted

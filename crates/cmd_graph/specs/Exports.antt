@@ -1,14 +1,8 @@
 -- A source circuit's graph that is ready to be written, as the code makes it.
 use Rattle.std.specs.Prelude.{◌≡◌, ℕ, List, [], ◌∷◌, string_bytes, Result}
 use Rattle.tl_io.specs.Port.{PortSeen}
-use Rattle.tl_io.specs.Shelf.{ShelfSeen}
+use Rattle.cmd_graph.specs.Words.{ShelfSeen, Circuit, circuit_text, IsWrittenFrom, AreRegularPlaces, outside, FileText}
 use Rattle.tl_io.specs.Sink.{SinkSeen}
-use Rattle.aiger_io.specs.Circuit.{Circuit}
-use Rattle.aiger_io.specs.WrittenText.{circuit_text}
-use Rattle.aiger_io.specs.GraphCircuit.{IsWrittenFrom}
-use Rattle.param_list.specs.RegularPlaces.{AreRegularPlaces}
-use Rattle.cmd_base.specs.Walk.{outside}
-use Rattle.cmd_base.specs.Writing.{FileText}
 use Rattle.cmd_stations.specs.FileWrites.{WritesAll}
 use Rattle.cmd_stations.specs.Tables.{IsBuiltSource}
 use Rattle.cmd_stations.specs.declared.graphs.BuiltSource.{BuiltSource}

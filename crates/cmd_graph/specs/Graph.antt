@@ -5,22 +5,16 @@ use Rattle.cmd_graph.specs.declared.words.GraphWords.{GraphWords as GraphWordsRe
 use Rattle.cmd_stations.specs.Source.{SourceWords, source_seen, HasGraph}
 use Rattle.std.specs.List.{concat}
 use Rattle.list_laws.specs.Members.{In}
-use Rattle.tl_io.specs.Shelf.{Files}
+use Rattle.cmd_graph.specs.Words.{Files, AreRegularPlaces, Circuit, graph_circuit, circuit_text, CommandWalk, FileText}
 use Rattle.aig_core.specs.Aig.{Aig}
 use Rattle.aig_core.specs.Roots.{RootsValue}
 use Rattle.netlist.specs.Sound.{IsSound}
 use Rattle.netlist.specs.Weight.{Weighs}
-use Rattle.param_list.specs.RegularPlaces.{AreRegularPlaces}
 use Rattle.aiger_io.specs.AigerText.{IsOfFormat, IsAigerText}
-use Rattle.aiger_io.specs.Circuit.{Circuit}
 use Rattle.aiger_io.specs.CircuitLibrary.{model_of, library_of, library_weight}
-use Rattle.aiger_io.specs.GraphCircuit.{graph_circuit}
 use Rattle.aiger_io.specs.Refused.{IsNameRefused}
 use Rattle.aiger_io.specs.Run.{HasOneFit, HasSameRuns}
-use Rattle.aiger_io.specs.WrittenText.{circuit_text}
 use Rattle.aiger_io.specs.declared.header.Header.{Header}
-use Rattle.cmd_base.specs.Walk.{CommandWalk}
-use Rattle.cmd_base.specs.Writing.{FileText}
 use Rattle.cmd_stations.specs.declared.source.Source.{Source}
 use Rattle.cmd_stations.specs.Mapped.{ToGraph}
 use Rattle.cmd_stations.specs.WritingWalk.{writing_walk}

@@ -2,7 +2,7 @@
 pub use Rattle.std.proofs.Common.{◌≡◌, ℕ, Bool, List, ◌∷◌, refl, sym, ap, ◌∙◌, subst, inl, inr, ◌≤◌, [], Some, Result, length, Option}
 pub use Rattle.aig_core.specs.Aig.{Aig}
 pub use Rattle.cmd_base.proofs.EndLemmas.{only_read, unbegun_ends, Rose_from, memory_ends}
-pub use Rattle.cmd_base.specs.Walk.{Told, IsBegun, Ends, outside}
+pub use Rattle.cmd_base.specs.Walk.{Told, IsBegun, Ends, outside, HasLaws}
 pub use Rattle.cmd_base.specs.Writing.{FileText, writing_outcome}
 pub use Rattle.cmd_base.specs.declared.outcome.Outcome.{Outcome}
 pub use Rattle.cmd_stations.proofs.GraphLemmas.{same_graph}
@@ -10,7 +10,7 @@ pub use Rattle.cmd_stations.proofs.RefusedLemmas.{least_mapped, source_or_not, s
 pub use Rattle.cmd_stations.proofs.WriteLemmas.{cut_in_file, line_ends, writing_ends}
 pub use Rattle.cmd_stations.specs.Mapped.{ToTables, IsLeastMapping, IsMapped, template_header}
 pub use Rattle.cmd_stations.specs.FileWrites.{WritesAll}
-pub use Rattle.cmd_stations.specs.Machine.{Job}
+pub use Rattle.cmd_stations.specs.Machine.{Job, IsStart, Stage, AreSteps}
 pub use Rattle.cmd_stations.specs.Packs.{present_bytes}
 pub use Rattle.cmd_stations.specs.Source.{IsMappedFrom}
 pub use Rattle.cmd_stations.specs.Tables.{AreMade, ComesPast}

@@ -1,5 +1,5 @@
 -- The pack of a source circuit's LUTs is played as their machine plays it.
-use Rattle.cmd_map.proofs.Common.{◌≡◌, ℕ, Bool, List, ◌∷◌, refl, sym, ap, ◌∙◌, subst, inl, inr, Aig, PackValue, IsConf, IsLeastMapping, IsMapped, Job, same_graph, present_bytes, ReplaysMachine}
+use Rattle.cmd_map.proofs.Common.{◌≡◌, ℕ, Bool, List, ◌∷◌, refl, sym, ap, ◌∙◌, subst, inl, inr, Aig, PackValue, IsConf, IsLeastMapping, IsMapped, Job, same_graph, present_bytes, ReplaysMachine, IsStart, Stage, AreSteps}
 use Rattle.list_laws.specs.Members.{In}
 use Rattle.aig_core.specs.Roots.{roots_of}
 use Rattle.cover_pick.specs.declared.rule.Rule.{Rule}
@@ -14,7 +14,6 @@ use Rattle.spec_core.specs.Specialiser.{SpecialiserValue}
 use Rattle.cmd_stations.specs.declared.source.Source.{Source}
 use Rattle.cmd_stations.specs.Tunable.{IsTunable}
 use Rattle.machine.specs.Machine.{none, more}
-use Rattle.cmd_stations.specs.Machine.{IsStart, Stage, AreSteps}
 use Rattle.cmd_stations.specs.Host.{IsHostStart, AreHostSteps}
 use Rattle.cmd_stations.proofs.ShowLemmas.{pack_inits}
 use Rattle.cmd_stations.proofs.ReplayLemmas.{same_packs_replay, same_both, file_same, pack_at}

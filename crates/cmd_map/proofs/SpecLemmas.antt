@@ -1,10 +1,9 @@
 -- A job of `spec`: a source circuit that is mapped is accepted, and its written netlist is the verdict's, whole or cut off; and the laws of the walks of `spec` and `map`.
-use Rattle.cmd_map.proofs.Common.{◌≡◌, ◌≤◌, Bool, List, [], ◌∷◌, ℕ, length, Some, subst, Result, MOST_BYTES, PortSeen, Files, ShelfSeen, SinkSeen, Aig, param_inits, IsConf, outside, FileText, writing_outcome, Told, IsBegun, Ends, Outcome, WritesAll, MappedSource, template_header, AreMade, ComesPast, RunsSpecialised, specialised_text, writing_ends, SpecWords, HasSpec, spec_walk, least_mapped, same_graph, ToTables, IsMappedFrom, MapWords, map_walk, source_or_not, source_refused_once}
+use Rattle.cmd_map.proofs.Common.{◌≡◌, ◌≤◌, Bool, List, [], ◌∷◌, ℕ, length, Some, subst, Result, MOST_BYTES, PortSeen, Files, ShelfSeen, SinkSeen, Aig, param_inits, IsConf, outside, FileText, writing_outcome, Told, IsBegun, Ends, Outcome, WritesAll, MappedSource, template_header, AreMade, ComesPast, RunsSpecialised, specialised_text, writing_ends, SpecWords, HasSpec, spec_walk, least_mapped, same_graph, ToTables, IsMappedFrom, MapWords, map_walk, source_or_not, source_refused_once, HasLaws}
 use Rattle.std.proofs.lemmas.List.{length-map}
 use Rattle.param_list.specs.declared.params.Param.{Param}
 use Rattle.bit_fun.specs.Configuration.{IsConfiguration}
 use Rattle.cmd_stations.proofs.InitLemmas.{init_params}
-use Rattle.cmd_base.specs.Walk.{HasLaws}
 
 spec_begun : (files : Files) (words : SpecWords) (m : MappedSource) → ComesPast files words.source m → IsBegun (spec_walk words) files
 spec_begun files words m past = record { accepted = record { source = m.source; template = m.tables.template; has = past.has }; settled = past.settled }

@@ -1,4 +1,5 @@
 -- What public clauses say: of the command `spec`,
+pub mod Words
 pub mod Spec
 -- and of `map`,
 pub mod Map

@@ -1,28 +1,17 @@
 -- The command `map`: a source circuit is mapped, and its template and the pack of its bits are written.
 use Rattle.std.specs.Prelude.{ℕ, not, ◌&&◌, if◌then◌else◌, List, [], ◌∷◌, codes, bytes_eq, Option, Some, None, ◌≡◌}
-use Rattle.cover_pick.specs.declared.rule.Rule.{Rule}
+use Rattle.cmd_map.specs.Words.{Rule, SourceWords, source_words, k_of, source_seen, HasMapped, IsLeastMapped, IsMappedFrom, Files, TemplateValue, Source, HasPack, present_bytes, netlist_text, CommandWalk, FileText, template_header, ToTables, writing_walk, IsTuned, template_of}
 use Rattle.cmd_map.specs.declared.map.words.MapWords.{MapWords as MapWordsRead}
-use Rattle.cmd_stations.specs.Source.{SourceWords, source_words, k_of, source_seen, HasMapped, IsLeastMapped, IsMappedFrom}
 use Rattle.std.specs.FinMap.{get}
-use Rattle.tl_io.specs.Shelf.{Files}
 use Rattle.ppc_pack.specs.Pack.{PackValue}
 use Rattle.ppc_file.specs.PackFile.{IsPackFile}
 use Rattle.run_text.specs.EventValue.{EventValue}
-use Rattle.cover_pick.specs.Template.{TemplateValue}
 use Rattle.port_bank.specs.Bank.{BankSeen}
 use Rattle.run_core.specs.Events.{MachineValue}
 use Rattle.spec_core.specs.Specialiser.{SpecialiserValue}
-use Rattle.cmd_stations.specs.declared.source.Source.{Source}
-use Rattle.cmd_stations.specs.Packs.{HasPack, present_bytes}
 use Rattle.cmd_stations.specs.Machine.{IsStart, Stage, HasCome}
 use Rattle.cmd_stations.specs.Host.{IsHostStart, AreHostSteps}
-use Rattle.blif_write.specs.PlainNetlist.{netlist_text}
-use Rattle.cmd_base.specs.Walk.{CommandWalk}
-use Rattle.cmd_base.specs.Writing.{FileText}
-use Rattle.cmd_stations.specs.Mapped.{template_header, ToTables}
-use Rattle.cmd_stations.specs.WritingWalk.{writing_walk}
 use Rattle.cmd_stations.specs.Tunable.{IsTunable}
-use Rattle.cmd_stations.specs.Written.{IsTuned, template_of}
 
 -- the source circuit, and the words that name the files to be written
 pub record MapWords : Type 0 where

@@ -1,13 +1,9 @@
 -- What `spec` and `map` write of a mapped source circuit.
 use Rattle.std.specs.Prelude.{ℕ, Bool, List, [], ◌∷◌, Result}
 use Rattle.tl_io.specs.Port.{PortSeen}
-use Rattle.tl_io.specs.Shelf.{ShelfSeen}
+use Rattle.cmd_map.specs.Words.{ShelfSeen, outside, FileText, template_header, present_bytes}
 use Rattle.tl_io.specs.Sink.{SinkSeen}
-use Rattle.cmd_base.specs.Walk.{outside}
-use Rattle.cmd_base.specs.Writing.{FileText}
 use Rattle.cmd_stations.specs.FileWrites.{WritesAll}
-use Rattle.cmd_stations.specs.Mapped.{template_header}
-use Rattle.cmd_stations.specs.Packs.{present_bytes}
 use Rattle.cmd_stations.specs.declared.mapped.MappedSource.{MappedSource}
 pub use Rattle.cmd_stations.specs.Written.{specialised_text, RunsSpecialised, template_text, IsTunedSource}
 

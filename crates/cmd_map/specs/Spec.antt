@@ -1,19 +1,9 @@
 -- The command `spec`: a source circuit is mapped, and its LUTs are written under the configuration of the listed values.
 use Rattle.std.specs.Prelude.{ℕ, if◌then◌else◌, List, [], ◌∷◌, codes, bytes_eq, Option, Some, None, Bool}
-use Rattle.cover_pick.specs.declared.rule.Rule.{Rule}
+use Rattle.cmd_map.specs.Words.{Rule, SourceWords, source_words, k_of, source_seen, HasMapped, IsLeastMapped, IsMappedFrom, Files, TemplateValue, netlist_text, CommandWalk, FileText, Source, template_header, ToTables, writing_walk, RunsAs, specialised_of}
 use Rattle.cmd_map.specs.declared.spec.words.SpecWords.{SpecWords as SpecWordsRead}
-use Rattle.cmd_stations.specs.Source.{SourceWords, source_words, k_of, source_seen, HasMapped, IsLeastMapped, IsMappedFrom}
-use Rattle.tl_io.specs.Shelf.{Files}
-use Rattle.cover_pick.specs.Template.{TemplateValue}
 use Rattle.bit_fun.specs.Configuration.{IsConfiguration}
 use Rattle.param_list.specs.Parameters.{param_inits}
-use Rattle.blif_write.specs.PlainNetlist.{netlist_text}
-use Rattle.cmd_base.specs.Walk.{CommandWalk}
-use Rattle.cmd_base.specs.Writing.{FileText}
-use Rattle.cmd_stations.specs.declared.source.Source.{Source}
-use Rattle.cmd_stations.specs.Mapped.{template_header, ToTables}
-use Rattle.cmd_stations.specs.WritingWalk.{writing_walk}
-use Rattle.cmd_stations.specs.Written.{RunsAs, specialised_of}
 
 -- the source circuit, and the word that names the file to be written
 pub record SpecWords : Type 0 where

@@ -1,5 +1,5 @@
 -- A job that is done shows its source circuit, mapped with the least depth; and the laws of the walk of `pace`.
-use Rattle.cmd_pace.proofs.Common.{◌≡◌, ℕ, ◌≤◌, ◌∷◌, refl, sym, ap, ◌∙◌, subst, concat, extended, Files, TemplateValue, param_inits, PacerValue, Outside, init_count, init_params, IsAllPaced, HasPace, stage_of, IsFirst, ShowAll, HasPaceHeadline, PaceJob, IsPaceStart, PaceWords, pace_walk, scripted_of}
+use Rattle.cmd_pace.proofs.Common.{◌≡◌, ℕ, ◌≤◌, ◌∷◌, refl, sym, ap, ◌∙◌, subst, concat, extended, Files, TemplateValue, param_inits, PacerValue, Outside, init_count, init_params, IsAllPaced, HasPace, stage_of, IsFirst, ShowAll, HasPaceHeadline, PaceJob, IsPaceStart, PaceWords, pace_walk, scripted_of, HasLaws}
 use Rattle.aig_core.specs.Aig.{Aig}
 use Rattle.netlist.specs.Flat.{IsFlat}
 use Rattle.cmd_stations.specs.Mapped.{template_header}
@@ -7,7 +7,6 @@ use Rattle.cmd_stations.proofs.GraphLemmas.{same_graph}
 use Rattle.cmd_pace.proofs.StartLemmas.{script_fits}
 use Rattle.cmd_pace.proofs.ShownLemmas.{IsKept, all_shown}
 use Rattle.cmd_pace.proofs.SteadyLemmas.{start_steady, stalls_anywhere}
-use Rattle.cmd_base.specs.Walk.{HasLaws}
 use Rattle.cmd_stations.proofs.ScriptedLemmas.{scripted_or_not, scripted_refused_once}
 
 -- a machine at the start

@@ -4,10 +4,9 @@ use Rattle.std.specs.List.{concat}
 use Rattle.machine.specs.Machine.{MealyMachine, Passes}
 use Rattle.tl_io.specs.Assigns.{assigned}
 use Rattle.tl_io.specs.Content.{extended}
-use Rattle.tl_io.specs.Shelf.{Files}
+use Rattle.cmd_pace.specs.Words.{Files, TemplateValue, PaceValue, Ask, Tick, PacerValue, Shown, shown_line, ArePaced, Outside, Source, IsLeastMapping, template_header}
 use Rattle.tl_io.specs.Writes.{written}
 use Rattle.aig_core.specs.Aig.{Aig}
-use Rattle.cover_pick.specs.Template.{TemplateValue}
 use Rattle.netlist.specs.Runs.{AreInits}
 use Rattle.netlist.specs.Sound.{IsSound}
 use Rattle.lut_sim.specs.Cycle.{IsTableCycle, IsOnlyTableCycle}
@@ -16,12 +15,7 @@ use Rattle.param_list.specs.Parameters.{param_inits}
 use Rattle.ppc_pack.specs.Pack.{IsConf}
 use Rattle.run_text.specs.Lines.{cycle_line, ask_line, wait_line}
 use Rattle.spec_core.specs.Differences.{differences}
-use Rattle.pace_core.specs.EventValue.{PaceValue, Ask, Tick}
-use Rattle.pace_core.specs.Pace.{PacerValue, Shown, shown_line, ArePaced}
 use Rattle.pace_core.specs.Stalls.{HasStalls}
-use Rattle.cmd_base.specs.Walk.{Outside}
-use Rattle.cmd_stations.specs.declared.source.Source.{Source}
-use Rattle.cmd_stations.specs.Mapped.{IsLeastMapping, template_header}
 use Rattle.cmd_stations.specs.SourceCircuit.{shape_of, IsSourceCycle}
 use Rattle.cmd_pace.specs.Job.{PaceJob, IsPaceJob, IsPaceStart, PaceWords}
 

@@ -4,17 +4,10 @@ use Rattle.std.specs.Option.{option_and_then}
 use Rattle.tl_text.specs.Decimal.{decimal_of}
 use Rattle.cover_pick.specs.declared.rule.Rule.{Rule}
 use Rattle.run_text.specs.declared.event.Forms.TheVariants as forms
-use Rattle.cmd_stations.specs.Source.{SourceWords, source_words, k_of, source_seen, IsTableSize}
-use Rattle.cmd_stations.specs.Script.{ScriptedWords, HasScripted}
+use Rattle.cmd_pace.specs.Words.{SourceWords, source_words, k_of, source_seen, IsTableSize, ScriptedWords, HasScripted, Files, TemplateValue, PaceValue, PacerValue, Source, template_header}
 use Rattle.cmd_pace.specs.declared.words.PaceWords.{PaceWords as PaceWordsRead}
-use Rattle.tl_io.specs.Shelf.{Files}
-use Rattle.cover_pick.specs.Template.{TemplateValue}
 use Rattle.run_text.specs.EventValue.{EventValue}
-use Rattle.pace_core.specs.EventValue.{PaceValue}
 use Rattle.pace_core.specs.PaceText.{ArePaced as AreAsksAndTicks}
-use Rattle.pace_core.specs.Pace.{PacerValue}
-use Rattle.cmd_stations.specs.declared.source.Source.{Source}
-use Rattle.cmd_stations.specs.Mapped.{template_header}
 use Rattle.cmd_stations.specs.Machine.{IsSourceStart}
 
 -- the source circuit, the word that names the script, and how many bits the configuration port takes a tick

@@ -1,13 +1,7 @@
 -- A job of `pace` that is ready to be played, and the playing of its events.
 use Rattle.std.specs.Prelude.{◌≡◌, ℕ, List, [], Option, Result}
 use Rattle.list_laws.specs.Members.{In}
-use Rattle.tl_io.specs.Shelf.{Files}
-use Rattle.cover_pick.specs.Template.{TemplateValue}
-use Rattle.pace_core.specs.EventValue.{PaceValue, pace_values}
-use Rattle.pace_core.specs.Pace.{PacerValue, FitsPacer}
-use Rattle.cmd_stations.specs.declared.source.Source.{Source}
-use Rattle.cmd_stations.specs.Playing.{PutsAll}
-use Rattle.cmd_stations.specs.Script.{IsScriptedSettled}
+use Rattle.cmd_pace.specs.Words.{Files, TemplateValue, PaceValue, pace_values, PacerValue, FitsPacer, Source, PutsAll, IsScriptedSettled}
 use Rattle.cmd_pace.specs.declared.prepare.ReadyPace.{ReadyPace}
 use Rattle.cmd_pace.specs.Job.{PaceWords, scripted_of, PaceJob, IsPaceJob, StartsPace, IsPaceStart, pacer_header}
 use Rattle.cmd_pace.specs.Verdict.{HaveShown, IsShown}

@@ -1,13 +1,7 @@
 -- The walk of `pace`, and how its job ends: what stands in the output.
 use Rattle.std.specs.Prelude.{◌≡◌, ◌⊎◌, ℕ, List, map}
 use Rattle.tl_io.specs.Causes.{Rose}
-use Rattle.tl_io.specs.Shelf.{Files}
-use Rattle.pace_core.specs.EventValue.{PaceValue}
-use Rattle.pace_core.specs.Pace.{PacerValue, Shown, shown_line, IsPaced, ArePaced}
-use Rattle.cmd_base.specs.Walk.{Outside, CommandWalk, portless_walk}
-use Rattle.cmd_stations.specs.Playing.{AreAllPut, IsCutInFront, IsCutInLine}
-use Rattle.cmd_stations.specs.Script.{scripted_reading}
-use Rattle.cmd_stations.specs.Source.{IsLeastMapped}
+use Rattle.cmd_pace.specs.Words.{Files, PaceValue, PacerValue, Shown, shown_line, IsPaced, ArePaced, Outside, CommandWalk, portless_walk, AreAllPut, IsCutInFront, IsCutInLine, scripted_reading, IsLeastMapped}
 use Rattle.cmd_pace.specs.Job.{PaceJob, IsPaceJob, IsPaceStart, pacer_header, PaceWords, scripted_of}
 use Rattle.cmd_pace.specs.Headline.{HasPaceHeadline}
 

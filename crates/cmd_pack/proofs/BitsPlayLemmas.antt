@@ -1,5 +1,5 @@
 -- The playing of a script on a pack: what can be played, what is after some events, and how it ends at the next one.
-use Rattle.cmd_pack.proofs.Common.{◌≡◌, ℕ, ◌+◌, ◌≤◌, List, [], length, Option, Result, Ok, Err, OnErr, refl, sym, subst, inl, arith, length-map, none-some, Rose, extended, PortSeen, Files, ShelfSeen, SinkSeen, PackValue, EventValue, Set, Cycle, Upset, event_values, FitsPack, IsOfHost, SpecialiserValue, outside, writing_outcome, HasPack, IsPackSettled, pack_names, HasScript, IsScriptSettled, Told, IsBegun, IsBegunFrom, Ends, Outcome, Rose_from, only_read, IsSplit, BitsWords, IsHostStep, AreHostSteps, pack_header, PutsHostStep, AreLinesPut, AreLinesCut, HasBits, bits_walk, KeepsFiles, host_line}
+use Rattle.cmd_pack.proofs.Common.{◌≡◌, ℕ, ◌+◌, ◌≤◌, List, [], length, Option, Result, Ok, Err, OnErr, refl, sym, subst, inl, arith, length-map, none-some, Rose, extended, PortSeen, Files, ShelfSeen, SinkSeen, PackValue, EventValue, Set, Cycle, Upset, event_values, FitsPack, IsOfHost, SpecialiserValue, outside, writing_outcome, HasPack, IsPackSettled, pack_names, HasScript, IsScriptSettled, Told, IsBegun, IsBegunFrom, Ends, Outcome, Rose_from, only_read, IsSplit, BitsWords, IsHostStep, AreHostSteps, pack_header, PutsHostStep, AreLinesPut, AreLinesCut, HasBits, bits_walk, KeepsFiles, host_line, AreAllPut, IsCutInLine, all_behind, puts_behind}
 use Rattle.list_laws.specs.Members.{In}
 use Rattle.tl_io.specs.Assigns.{AreAssigned}
 use Rattle.ppc_pack.specs.declared.pack.PackParam.{PackParam}
@@ -10,8 +10,6 @@ use Rattle.run_core.specs.declared.step_err.StepErr.TheVariants.{WriteFault, Por
 use Rattle.run_core.specs.Ends.{HasLine, HasSinkCause, HasPlaces}
 use Rattle.tl_text.specs.declared.logical_lines.TheConstants.{MOST_BYTES}
 use Rattle.cmd_pack.specs.declared.bits.prepare.ReadyScript.{ReadyScript}
-use Rattle.cmd_stations.specs.Playing.{AreAllPut, IsCutInLine}
-use Rattle.cmd_stations.proofs.PlayingLemmas.{all_behind, puts_behind}
 use Rattle.cmd_pack.specs.BitsReady.{CanPlay, IsReady, IsReadyFor, EventsEnd, PlayEnd, PlayEnds}
 use Rattle.cmd_pack.proofs.BitsWalkLemmas.{names_settled}
 

@@ -3,3 +3,4 @@ mod BitsWalkLemmas
 mod BitsPlayLemmas
 mod FileReplayLemmas
 mod RepackLemmas
+mod Lemmas

@@ -1,12 +1,11 @@
 -- The job of `repack`: the pack's file, and then the line; and the laws of the walks of `bits` and of `repack`.
-use Rattle.cmd_pack.proofs.Common.{◌≡◌, ℕ, ◌≤◌, List, [], ◌∷◌, Result, Ok, Err, refl, sym, subst, Rose, PortSeen, ShelfSeen, SinkSeen, PackValue, Outside, outside, FileText, HasPrefix, AreWritten, IsCut, writing_outcome, Told, IsBegunFrom, Ends, Outcome, HasPack, IsPackSettled, present_text, cut_in_file, cut_cause, pack_header, RepackWords, HasRepack, repack_walk, BitsWords, bits_walk, pack_or_not, pack_refused_once}
+use Rattle.cmd_pack.proofs.Common.{◌≡◌, ℕ, ◌≤◌, List, [], ◌∷◌, Result, Ok, Err, refl, sym, subst, Rose, PortSeen, ShelfSeen, SinkSeen, PackValue, Outside, outside, FileText, HasPrefix, AreWritten, IsCut, writing_outcome, Told, IsBegunFrom, Ends, Outcome, HasPack, IsPackSettled, present_text, cut_in_file, cut_cause, pack_header, RepackWords, HasRepack, repack_walk, BitsWords, bits_walk, pack_or_not, pack_refused_once, HasLaws}
 use Rattle.std.specs.Prelude.{IsErrAnd}
 use Rattle.cmd_base.specs.Refusals.{most_bytes}
 use Rattle.cmd_base.specs.declared.outcome.File.TheVariants.{Pack}
 use Rattle.cmd_stations.specs.FileWrites.{WritesAll}
 use Rattle.cmd_pack.proofs.FileReplayLemmas.{replays_file}
 use Rattle.cmd_pack.proofs.BitsWalkLemmas.{bits_or_not, bits_refused_once}
-use Rattle.cmd_base.specs.Walk.{HasLaws}
 
 -- a fault in the file, of the answer that a `?` makes of it
 pub passed_cut : {E : Type 0} (text : FileText) (line : List ℕ) (old new : ShelfSeen) (out : SinkSeen) (r : Result Unit E) (e : E) → IsErrAnd r (λ x. x ≡ e) → HasPrefix text old.files new.files

@@ -2,21 +2,13 @@
 use Rattle.std.specs.Prelude.{ℕ, if◌then◌else◌, List, [], ◌∷◌, codes, bytes_eq, Option, Some, None, ◌≡◌, ◌⊎◌, length}
 use Rattle.cmd_pack.specs.declared.bits.words.BitsWords.{BitsWords as BitsWordsRead}
 use Rattle.tl_fault.specs.RefusalValue.{RefusalValue}
-use Rattle.tl_io.specs.Shelf.{Files}
-use Rattle.ppc_pack.specs.Pack.{PackValue}
-use Rattle.run_text.specs.EventValue.{EventValue}
-use Rattle.cmd_base.specs.Walk.{FileReading, shelf_reading, CommandWalk, portless_walk, Outside}
+use Rattle.cmd_pack.specs.Words.{Files, PackValue, EventValue, FileReading, shelf_reading, CommandWalk, portless_walk, Outside, HasPack, IsPackRefused, IsPackSettled, pack_names, present_bytes, AreAllPut, IsCutInFront, IsCutInLine, host_line, SpecialiserValue, IsHostStart, IsHostStep, AreHostSteps}
 use Rattle.cmd_base.specs.Refusals.{most_bytes}
 use Rattle.cmd_base.specs.declared.outcome.File.{File}
 use Rattle.cmd_base.specs.declared.outcome.File.TheVariants.{Netlist, Params, Script, Pack, Cert}
-use Rattle.cmd_stations.specs.Packs.{HasPack, IsPackRefused, IsPackSettled, pack_names, present_bytes}
-use Rattle.cmd_stations.specs.Playing.{AreAllPut, IsCutInFront, IsCutInLine}
 use Rattle.cmd_stations.specs.Script.{HasScript, IsScriptRefused, IsScriptSettled}
 use Rattle.tl_io.specs.Causes.{Rose}
 use Rattle.run_text.specs.Lines.{bits_header_line}
-use Rattle.run_core.specs.Events.{host_line}
-use Rattle.spec_core.specs.Specialiser.{SpecialiserValue}
-use Rattle.cmd_stations.specs.Host.{IsHostStart, IsHostStep, AreHostSteps}
 use Rattle.std.specs.FinMap.{get}
 use Rattle.cmd_stations.specs.Texts.{HasBytes}
 

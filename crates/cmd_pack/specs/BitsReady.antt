@@ -1,18 +1,9 @@
 -- A job of `bits` that is ready to be played, and the playing of its events.
 use Rattle.std.specs.Prelude.{◌≡◌, ℕ, List, [], length, Option, Result, MatchResult}
 use Rattle.list_laws.specs.Members.{In}
-use Rattle.tl_io.specs.Port.{PortSeen}
-use Rattle.tl_io.specs.Shelf.{Files, ShelfSeen}
-use Rattle.tl_io.specs.Sink.{SinkSeen}
-use Rattle.ppc_pack.specs.Pack.{PackValue}
-use Rattle.run_text.specs.EventValue.{EventValue, event_values}
-use Rattle.run_core.specs.Events.{FitsPack, IsOfHost}
-use Rattle.spec_core.specs.Specialiser.{SpecialiserValue}
-use Rattle.cmd_base.specs.Walk.{Outside, outside}
+use Rattle.cmd_pack.specs.Words.{PortSeen, Files, ShelfSeen, SinkSeen, PackValue, EventValue, event_values, FitsPack, IsOfHost, SpecialiserValue, Outside, outside, PutsAll, IsHostStart, AreHostSteps}
 use Rattle.cmd_pack.specs.declared.bits.prepare.ReadyScript.{ReadyScript}
-use Rattle.cmd_stations.specs.Playing.{PutsAll}
 use Rattle.cmd_pack.specs.Bits.{BitsWords, IsBitsJob, IsBitsSettled, PutsHostStep, AreLinesPut, AreLinesCut}
-use Rattle.cmd_stations.specs.Host.{IsHostStart, AreHostSteps}
 
 -- each event is of the host and can be played
 pub record CanPlay (pack : PackValue) (events : List EventValue) : Type 0 where

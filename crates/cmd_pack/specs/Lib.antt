@@ -1,4 +1,5 @@
 -- What public clauses say: of the command `bits`,
+pub mod Words
 pub mod Bits
 -- and of `repack`.
 pub mod Repack

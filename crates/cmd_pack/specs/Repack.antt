@@ -1,14 +1,9 @@
 -- The command `repack`: a pack is written in version 2.
 use Rattle.std.specs.Prelude.{ℕ, not, ◌&&◌, if◌then◌else◌, List, [], ◌∷◌, codes, bytes_eq, Option, Some, None, Result}
 use Rattle.cmd_pack.specs.declared.repack.words.RepackWords.{RepackWords as RepackWordsRead}
-use Rattle.tl_io.specs.Port.{PortSeen}
-use Rattle.tl_io.specs.Shelf.{Files, ShelfSeen}
-use Rattle.tl_io.specs.Sink.{SinkSeen}
-use Rattle.ppc_pack.specs.Pack.{PackValue}
-use Rattle.cmd_base.specs.Walk.{CommandWalk, portless_walk, outside}
+use Rattle.cmd_pack.specs.Words.{PortSeen, Files, ShelfSeen, SinkSeen, PackValue, CommandWalk, portless_walk, outside, HasPack, pack_reading, present_bytes}
 use Rattle.cmd_base.specs.Writing.{FileText, AreWritten, IsCut}
 use Rattle.cmd_stations.specs.FileWrites.{WritesAll}
-use Rattle.cmd_stations.specs.Packs.{HasPack, pack_reading, present_bytes}
 use Rattle.cmd_pack.specs.Bits.{pack_header, ReplaysFile}
 
 -- the words that name the pack, and the file to be written

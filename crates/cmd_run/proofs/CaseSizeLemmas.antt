@@ -1,10 +1,9 @@
 -- A case that is ready is so small that what its events add up to fits its types.
-use Rattle.cmd_run.proofs.Common.{◌≡◌, ℕ, ◌+◌, ◌^◌, ◌≤◌, true, false, leb, List, [], ◌∷◌, length, map, Option, Some, None, refl, sym, ap, ◌∙◌, subst, inl, inr, arith, cases_lt, le-leb, none-some, same_Some, slice_get-get_or, WordsLine, words_line, Denotes, Lit, bits_of, TemplateValue, EventValue, event_values, NamesValue, text_of, HasNetlist, GenWords, Ready, IsReadyFor, case_words, case_files, IsSmall, HasDigits, is_aag, DenotesLibrary}
+use Rattle.cmd_run.proofs.Common.{◌≡◌, ℕ, ◌+◌, ◌^◌, ◌≤◌, true, false, leb, List, [], ◌∷◌, length, map, Option, Some, None, refl, sym, ap, ◌∙◌, subst, inl, inr, arith, cases_lt, le-leb, none-some, same_Some, slice_get-get_or, WordsLine, words_line, Denotes, Lit, bits_of, TemplateValue, EventValue, event_values, NamesValue, text_of, HasNetlist, GenWords, Ready, IsReadyFor, case_words, case_files, IsSmall, HasDigits, is_aag, DenotesLibrary, in_front, each_of}
 use Rattle.gen_case.specs.Netlist.{netlist_lines}
 use Rattle.std.specs.Option.{option_and_then}
 use Rattle.list_laws.proofs.Choice.{none_both}
 use Rattle.cover_pick.proofs.BitsLemmas.{bits_worked}
-use Rattle.run_text.specs.EventValue.{in_front, each_of}
 use Rattle.run_text.specs.ScriptText.{line_refusal, refusal_at, line_event, IsScript}
 use Rattle.run_text.specs.declared.event.TheConstants.{MOST_EVENTS}
 use Rattle.run_text.specs.declared.script_err.ScriptErr.TheVariants.{Events}

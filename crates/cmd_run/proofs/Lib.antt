@@ -14,3 +14,4 @@ mod CaseTextLemmas
 mod CaseSizeLemmas
 mod GenLemmas
 mod TotalLemmas
+mod Lemmas

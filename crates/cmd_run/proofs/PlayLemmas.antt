@@ -1,10 +1,6 @@
 -- The playing of events: how it ends at the next one, and what it is behind the header and the full load.
-use Rattle.cmd_run.proofs.Common.{◌≡◌, ℕ, ◌<◌, List, [], length, get_or, Option, Result, Ok, Err, refl, sym, ◌∙◌, subst, inr, extended, Event, EventValue, event_value, event_values, value_has, BankSeen, Holds, StepErr, WriteFault, PortFault, MachineValue, IsPlayed, IsSteady, event_line, IsSplit, HasCome, EventsEnd, RunEnd}
-use Rattle.list_laws.specs.Members.{In}
+use Rattle.cmd_run.proofs.Common.{◌≡◌, ℕ, ◌<◌, List, [], length, get_or, Option, Result, Ok, Err, refl, sym, ◌∙◌, subst, inr, extended, Event, EventValue, event_value, event_values, value_has, BankSeen, Holds, StepErr, WriteFault, PortFault, MachineValue, IsPlayed, IsSteady, event_line, IsSplit, HasCome, EventsEnd, RunEnd, In, machine_header, Stage, AreSteps, IsLoaded, AreAllPut, all_behind, cut_behind}
 use Rattle.run_core.specs.Ends.{IsSent, HasLine, LeavesPorts, HasPlaces, StillHolds}
-use Rattle.cmd_stations.specs.Machine.{machine_header, Stage, AreSteps, IsLoaded}
-use Rattle.cmd_stations.specs.Playing.{AreAllPut}
-use Rattle.cmd_stations.proofs.PlayingLemmas.{all_behind, cut_behind}
 
 -- what each event of a list fits at the start, the one at a place fits while that stays
 pub still_fits : {S : Type 0} {start now : S} (events : List Event) (i : ℕ) (item : Event) → i < length events → item ≡ get_or events i item → (Fits : S → EventValue → Type 0) → now ≡ start

@@ -1,8 +1,6 @@
 -- The ports after a job: those that serve and stand by were called, and spares took the places of those that failed.
-use Rattle.cmd_run.proofs.Common.{◌≡◌, ℕ, ◌+◌, ◌≤◌, List, length, take, drop, Option, Result, Ok, Err, sym, subst, ◌∙◌, arith, inl, inr, refl, length-drop, length-take-le, PortSeen, EventValue, BankSeen, all_ports, StepErr, WriteFault, PortFault, MachineValue, PortCounts, HasCome, bank_of, HaveFailed, RunEnd, IsServed}
+use Rattle.cmd_run.proofs.Common.{◌≡◌, ℕ, ◌+◌, ◌≤◌, List, length, take, drop, Option, Result, Ok, Err, sym, subst, ◌∙◌, arith, inl, inr, refl, length-drop, length-take-le, PortSeen, EventValue, BankSeen, all_ports, StepErr, WriteFault, PortFault, MachineValue, PortCounts, HasCome, bank_of, HaveFailed, RunEnd, IsServed, none, more, Stage, AreSteps}
 use Rattle.port_bank.specs.Moves.{Becomes, start, accepted, replaced, FallsShort, LosesPlace}
-use Rattle.machine.specs.Machine.{none, more}
-use Rattle.cmd_stations.specs.Machine.{Stage, AreSteps}
 
 -- calls one after the other
 becomes_on : {old mid new : BankSeen} → Becomes old mid → Becomes mid new → Becomes old new

@@ -1,13 +1,10 @@
 -- The events of a script without upsets show the source circuit.
-use Rattle.cmd_run.proofs.Common.{◌≡◌, ℕ, Bool, false, cond, List, [], ◌∷◌, length, map, filter, Ok, refl, sym, ap, ◌∙◌, subst, inl, inr, range_with_len, In, assigned, PortSeen, EventValue, Set, Cycle, Upset, Scrub, Image, TemplateValue, PackValue, IsConf, HasOneConf, IsTableCycle, IsOnlyTableCycle, SimValue, BankSeen, differs_at, write_of, differences, config_bit, SpecialiserValue, event_line, FitsShape, Source, shape_of, IsTunable}
+use Rattle.cmd_run.proofs.Common.{◌≡◌, ℕ, Bool, false, cond, List, [], ◌∷◌, length, map, filter, Ok, refl, sym, ap, ◌∙◌, subst, inl, inr, range_with_len, In, assigned, PortSeen, EventValue, Set, Cycle, Upset, Scrub, Image, TemplateValue, PackValue, IsConf, HasOneConf, IsTableCycle, IsOnlyTableCycle, SimValue, BankSeen, differs_at, write_of, differences, config_bit, SpecialiserValue, event_line, FitsShape, Source, shape_of, IsTunable, IsNoUpset, ShownSource, Shows, ShowsSet, ShowsCycle, ShowsScrub, ShowsImage, ShowAll, Stage, IsStep, AreSteps, none, more}
 use Rattle.tl_io.specs.declared.Write.{Write}
 use Rattle.run_text.specs.Lines.{set_line, scrub_line, image_line}
 use Rattle.bit_fun.specs.Configuration.{IsConfiguration}
 use Rattle.port_bank.specs.Send.{Sends, start, accepted, replaced, with_port, Plays}
 use Rattle.spec_core.proofs.MarkLemmas.{xor-same}
-use Rattle.cmd_run.specs.Run.Headline.{IsNoUpset, ShownSource, Shows, ShowsSet, ShowsCycle, ShowsScrub, ShowsImage, ShowAll}
-use Rattle.cmd_stations.specs.Machine.{Stage, IsStep, AreSteps}
-use Rattle.machine.specs.Machine.{none, more}
 use Rattle.cmd_run.proofs.KeptLemmas.{IsKept, same_config, of_tables, cycle_is, step_keeps}
 
 -- where nothing passes a test, nothing is left

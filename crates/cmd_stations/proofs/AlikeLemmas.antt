@@ -1,5 +1,5 @@
 -- Hosts of packs with the same configurations put the same lines for the same events.
-use Rattle.cmd_stations.proofs.Common.{◌≡◌, ℕ, Bool, not, List, [], ◌∷◌, length, get_or, drop, refl, sym, ap, ◌∙◌, subst, arith, PackValue, IsConf, HasOneConf, EventValue, Set, Cycle, Upset, Scrub, Image, host_line, SpecialiserValue, IsHostPlayed, IsOfHost}
+use Rattle.cmd_stations.proofs.Common.{◌≡◌, ℕ, Bool, not, List, [], ◌∷◌, length, get_or, drop, refl, sym, ap, ◌∙◌, subst, arith, PackValue, IsConf, HasOneConf, EventValue, Set, Cycle, Upset, Scrub, Image, host_line, SpecialiserValue, IsHostPlayed, IsOfHost, AreHostSteps}
 use Rattle.tl_io.specs.declared.Assign.{Assign}
 use Rattle.tl_io.specs.declared.Write.{Write}
 use Rattle.tl_io.specs.Assigns.{assigned}
@@ -8,7 +8,6 @@ use Rattle.run_text.specs.Lines.{set_line, scrub_line, upset_line, image_line}
 use Rattle.spec_core.specs.Differences.{config_bit, differences, write_of}
 use Rattle.spec_core.proofs.AssignLemmas.{length-assigned}
 use Rattle.machine.specs.Machine.{none, more}
-use Rattle.cmd_stations.specs.Host.{AreHostSteps}
 
 -- packs with as many parameters, and a configuration of one is one of the other
 pub record AreAlike (p q : PackValue) : Type 0 where

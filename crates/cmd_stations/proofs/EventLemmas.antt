@@ -1,12 +1,8 @@
 -- The events of a script up to one of them, with their lines, and one event more.
-use Rattle.cmd_stations.proofs.Common.{◌≡◌, ℕ, ◌+◌, ◌<◌, List, [], ◌∷◌, ◌++◌, length, get_or, map, take, drop, Option, refl, sym, ap, ◌∙◌, append-nil, concat, map-append, take_more, take-append-drop, extended, IsSplit, In, EventValue, event_line, host_line, SpecialiserValue}
+use Rattle.cmd_stations.proofs.Common.{◌≡◌, ℕ, ◌+◌, ◌<◌, List, [], ◌∷◌, ◌++◌, length, get_or, map, take, drop, Option, refl, sym, ap, ◌∙◌, append-nil, concat, map-append, take_more, take-append-drop, extended, IsSplit, In, EventValue, event_line, host_line, SpecialiserValue, In-map, extended_twice, Stage, IsStep, script_machine, AreSteps, IsHostStep, host_machine, AreHostSteps}
 use Rattle.std.proofs.lemmas.List.Folds.{concat-append}
 use Rattle.list_laws.proofs.Items.{drop_at, member_at}
-use Rattle.list_laws.proofs.Members.{In-map}
-use Rattle.tl_io.proofs.ContentLemmas.{extended_twice}
 use Rattle.machine.proofs.PassLemmas.{then_one}
-use Rattle.cmd_stations.specs.Machine.{Stage, IsStep, script_machine, AreSteps}
-use Rattle.cmd_stations.specs.Host.{IsHostStep, host_machine, AreHostSteps}
 
 -- the values of the items before a place, and that of the one at it
 module _ {Item Value : Type 0} (value : Item → Value) (items : List Item) (i : ℕ) (item : Item) (within : i < length items) (there : item ≡ get_or items i item) where

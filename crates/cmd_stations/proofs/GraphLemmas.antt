@@ -1,12 +1,11 @@
 -- A graph has one template, or is refused for one reason.
-use Rattle.cmd_stations.proofs.Common.{◌≡◌, ℕ, ◌≤◌, ◌/◌, [], ◌∷◌, length, sym, ap, subst, inl, inr, arith, In, Regular, Aig, IsSource, RootsValue, roots_of, Lut, IsTableOf, source, free, node, IsMapping, IsLeast, TemplateValue, HasFewLeaves, IsLeastMapping, ◌<◌, List, Some, ◌∙◌, most_nodes, GRAPH_ROOM, Literals, IsGraphOf, HasTooManyNodes, HasOneGraph, fun_ext, same_Some, none-some, node_count, IsLimit, CutErr, LabelsValue, label_of, AreLabelled, HasOneLabelling, Rule, IsTemplate, IsTooMuch, PickErr, RefusalValue, Source, IsChosen, IsUnchosen, cuts, work, IsMapped, IsUnmappedGraph, IsUnmapped, too_many, unchosen, IsBuilt, IsUnlabelled, unbuilt, many_cuts, IsGraphSettled, IsMappingSettled, IsBuildingSettled, IsLabellingSettled, AreMade, AreTables, SourceTables, HasSupply, AreLabelsBy, HasOneLimit, Supply, Rows, Sets, FewestLeaves, LeastCost, AreLeastHeights, AreLowsOf}
+use Rattle.cmd_stations.proofs.Common.{◌≡◌, ℕ, ◌≤◌, ◌/◌, [], ◌∷◌, length, sym, ap, subst, inl, inr, arith, In, Regular, Aig, IsSource, RootsValue, roots_of, Lut, IsTableOf, source, free, node, IsMapping, IsLeast, TemplateValue, HasFewLeaves, IsLeastMapping, ◌<◌, List, Some, ◌∙◌, most_nodes, GRAPH_ROOM, Literals, IsGraphOf, HasTooManyNodes, HasOneGraph, fun_ext, same_Some, none-some, node_count, IsLimit, CutErr, LabelsValue, label_of, AreLabelled, HasOneLabelling, Rule, IsTemplate, IsTooMuch, PickErr, RefusalValue, Source, IsChosen, IsUnchosen, cuts, work, IsMapped, IsUnmappedGraph, IsUnmapped, too_many, unchosen, IsBuilt, IsUnlabelled, unbuilt, many_cuts, IsGraphSettled, IsMappingSettled, IsBuildingSettled, IsLabellingSettled, AreMade, AreTables, SourceTables, HasSupply, AreLabelsBy, HasOneLimit, Supply, Rows, Sets, FewestLeaves, LeastCost, AreLeastHeights, AreLowsOf, HasOneLow}
 use Rattle.cut_sets.specs.Cuts.{CanBeLeaf}
 use Rattle.cut_enum.specs.Table.{AreRows}
 use Rattle.cut_enum.specs.Refusals.{refusal_of as cut_refusal}
 use Rattle.cover_pick.specs.Work.{IsLight}
 use Rattle.cover_pick.specs.Refusals.{refusal_of as pick_refusal}
 use Rattle.cover_pick.specs.declared.lut.PickErr.TheVariants as pick_err
-use Rattle.flow_label.specs.Lows.{HasOneLow}
 use Rattle.flow_label.specs.Value.{HasOneLabelling as HasOneFlow}
 use Rattle.cmd_stations.specs.Mapped as mapped
 use Rattle.cmd_stations.proofs.InputLemmas.{same_parts}

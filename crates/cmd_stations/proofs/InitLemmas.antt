@@ -1,9 +1,7 @@
 -- The inits of a source circuit that was read: those of its latches, and the values of its parameters.
-use Rattle.cmd_stations.proofs.Common.{◌≡◌, Bool, List, length, sym, ap, ◌∙◌, subst, length-map, IsFlat, flat_inits, FlatLatch, Param, param_inits, PackValue, pack_param, Source, IsTunable, TemplateValue, HasOneConf, IsConf, SourceTables, AreMade, IsReadSource, rules}
+use Rattle.cmd_stations.proofs.Common.{◌≡◌, Bool, List, length, sym, ap, ◌∙◌, subst, length-map, IsFlat, flat_inits, FlatLatch, Param, param_inits, PackValue, pack_param, Source, IsTunable, TemplateValue, HasOneConf, IsConf, SourceTables, AreMade, IsReadSource, rules, IsSourceStart, AreInits}
 use Rattle.lut_sim.specs.Sim.{SimValue}
 use Rattle.ppc_pack.specs.Pack as pack
-use Rattle.cmd_stations.specs.Machine.{IsSourceStart}
-use Rattle.netlist.specs.Runs.{AreInits}
 use Rattle.netlist.proofs.EvaluateLemmas.{its_start}
 pub use Rattle.netlist.proofs.RunLemmas.{cycle_count}
 

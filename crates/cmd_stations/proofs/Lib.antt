@@ -23,3 +23,4 @@ pub mod PlayingLemmas
 pub mod PackLemmas
 mod AlikeLemmas
 pub mod ReplayLemmas
+mod Lemmas

@@ -1,6 +1,5 @@
 -- What is put of some events, of one event more, and behind a text in front.
-use Rattle.cmd_stations.proofs.Common.{◌≡◌, ℕ, List, [], ◌∷◌, ◌++◌, Option, Result, Ok, Err, inl, inr, sym, ap, ◌∙◌, arith, concat, extended}
-use Rattle.tl_io.proofs.ContentLemmas.{extended_none}
+use Rattle.cmd_stations.proofs.Common.{◌≡◌, ℕ, List, [], ◌∷◌, ◌++◌, Option, Result, Ok, Err, inl, inr, sym, ap, ◌∙◌, arith, concat, extended, extended_none}
 use Rattle.cmd_stations.specs.Playing.{AreAllPut, IsCutInLine, PutsAll}
 use Rattle.cmd_stations.proofs.EventLemmas.{put_then, one_line}
 

@@ -1,9 +1,8 @@
 -- Hosts that start on the same pack are alike, and a file is of one pack.
-use Rattle.cmd_stations.proofs.Common.{◌≡◌, ℕ, Bool, List, length, map, Some, Ok, sym, ap, ◌∙◌, subst, subst₂, inr, refl, option_and_then, length-map, same_Some, fun_ext, Files, Aig, FitsGraph, Kind, Lit, Pair, PackParam, PackValue, IsConf, inits_of, IsPackFile, AreSame, SpecialiserValue, HasPack, pack_names, present_bytes, IsHostStart, names_of, HasScript, HasMapped, IsMapped, IsTunable, SourceWords, Source, TemplateValue, EventValue, NamesValue, event_of, line_event, SamePacksReplay, arith, rules}
+use Rattle.cmd_stations.proofs.Common.{◌≡◌, ℕ, Bool, List, length, map, Some, Ok, sym, ap, ◌∙◌, subst, subst₂, inr, refl, option_and_then, length-map, same_Some, fun_ext, Files, Aig, FitsGraph, Kind, Lit, Pair, PackParam, PackValue, IsConf, inits_of, IsPackFile, AreSame, SpecialiserValue, HasPack, pack_names, present_bytes, IsHostStart, names_of, HasScript, HasMapped, IsMapped, IsTunable, SourceWords, Source, TemplateValue, EventValue, NamesValue, event_of, line_event, SamePacksReplay, arith, rules, each_of}
 use Rattle.std.specs.FinMap.{get}
 use Rattle.ppc_file.proofs.OneReading.{one_reading}
 use Rattle.cmd_stations.proofs.ShowLemmas.{pack_param_names}
-use Rattle.run_text.specs.EventValue.{each_of}
 use Rattle.run_text.specs.Sayings.{said_of}
 use Rattle.tl_text.specs.LineValue.{WordsLine, words_line}
 use Rattle.tl_text.specs.Lines.{lines_of}

@@ -1,8 +1,6 @@
 -- The LUTs of a source circuit's graph, under the configuration of any values of the parameters, play the source circuit's cycles.
-use Rattle.cmd_stations.proofs.Common.{◌≡◌, ℕ, Bool, List, length, map, sym, ap, ◌∙◌, subst, length-map, In, In-left, In-right, AreOnce, flat_inits, Param, PackParam, param_names, param_inits, is_split, Lit, Aig, first_and, AreNormal, roots_of, lits_of, value_of, HasOneFit, input_names, source_values, literal_values, Lut, TemplateValue, FitsTables, PackValue, inits_of, pack_param, IsPackOf, Source, width_of, shape_of, source_machine, HasTables, IsReadSource, HasSourceTables}
+use Rattle.cmd_stations.proofs.Common.{◌≡◌, ℕ, Bool, List, length, map, sym, ap, ◌∙◌, subst, length-map, In, In-left, In-right, AreOnce, flat_inits, Param, PackParam, param_names, param_inits, is_split, Lit, Aig, first_and, AreNormal, roots_of, lits_of, value_of, HasOneFit, input_names, source_values, literal_values, Lut, TemplateValue, FitsTables, PackValue, inits_of, pack_param, IsPackOf, Source, width_of, shape_of, source_machine, HasTables, IsReadSource, HasSourceTables, refines_by, lut_machine}
 use Rattle.std.proofs.lemmas.Simd.{map-map}
-use Rattle.machine.proofs.RefineLemmas.{refines_by}
-use Rattle.lut_sim.specs.Cycle.{lut_machine}
 use Rattle.aig_core.proofs.FitLemmas.{one_fit}
 use Rattle.bit_fun.specs.Configuration.{IsMapped, IsLawful}
 use Rattle.bit_fun.specs.PackLaw.{HasConfigurations}

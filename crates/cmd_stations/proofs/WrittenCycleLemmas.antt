@@ -1,7 +1,6 @@
 -- The written netlists of a source circuit mean the source circuit: read again, their cycles and their runs are its own.
-use Rattle.cmd_stations.proofs.Common.{◌≡◌, ℕ, Bool, List, [], ◌++◌, length, refl, sym, ap, ◌∙◌, append-nil, length-map, LibraryValue, FlatLatch, FlatValue, Place, latch_at, Param, regular_names, TemplateValue, IsConf, IsCycle, IsTableCycle, Means, free_control, all_bit_names, input_bits, naming_of, PlainNetlist, library_of, Source, SourceTables, shape_of, source_machine, IsSourceCycle, IsReadSource, AreMade, regular_values, RunsAs, HasConfiguration, IsTuned, specialised_of, template_of}
+use Rattle.cmd_stations.proofs.Common.{◌≡◌, ℕ, Bool, List, [], ◌++◌, length, refl, sym, ap, ◌∙◌, append-nil, length-map, LibraryValue, FlatLatch, FlatValue, Place, latch_at, Param, regular_names, TemplateValue, IsConf, IsCycle, IsTableCycle, Means, free_control, all_bit_names, input_bits, naming_of, PlainNetlist, library_of, Source, SourceTables, shape_of, source_machine, IsSourceCycle, IsReadSource, AreMade, regular_values, RunsAs, HasConfiguration, IsTuned, specialised_of, template_of, refines_by}
 use Rattle.machine.specs.Machine.{reading, restricted}
-use Rattle.machine.proofs.RefineLemmas.{refines_by}
 use Rattle.netlist.specs.Runs.{AreInits, init_state, inits_of, library_machine}
 use Rattle.lut_sim.proofs.FitLemmas.{cycle_only}
 use Rattle.blif_write.proofs.MeaningLemmas.{specialised_denotes, template_denotes, specialised_means, template_means}

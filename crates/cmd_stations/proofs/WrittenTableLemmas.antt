@@ -1,6 +1,5 @@
 -- The LUTs of a source circuit that was read can be written: they are few, their numbers are small, and an output that is a regular input has this input as its root.
-use Rattle.cmd_stations.proofs.Common.{◌≡◌, ℕ, zero, suc, ◌+◌, ◌-◌, ◌*◌, ◌/◌, ◌^◌, ◌<◌, ◌≤◌, Bool, true, cond, ◌&&◌, leb, ltb, List, [], length, map, Some, refl, sym, ap, ◌∙◌, inl, inr, subst, subst₂, arith, slice_get, slice_index_or, option_map, and_from, or_left, le-leb, none-some, same_Some, slice_get-map, slice_get_within, get_or_from_slice_get, In, place_in, length-filter_le, get_left, AreOnce, LibraryValue, FlatLatch, OutPort, FlatValue, Places, IsFlat, IsNumbered, IsNetOf, AreNetsOf, In-filter, Param, param_names, regular_names, is_split, Lit, Pair, Aig, node_count, GRAPH_ROOM, Literals, input_names, IsSourceLiteral, Makes, a_source, MakesAll, none, more, Lut, IsTableOf, bits_of, TemplateValue, IsPlayable, is_regular, last_source, HasPorts, AreTablesOf, naming_of, literal_name, latch_name, Source, shape_of, HasTables, IsReadSource, rules}
-use Rattle.netlist.specs.declared.flat.FlatNet.{FlatNet}
+use Rattle.cmd_stations.proofs.Common.{◌≡◌, ℕ, zero, suc, ◌+◌, ◌-◌, ◌*◌, ◌/◌, ◌^◌, ◌<◌, ◌≤◌, Bool, true, cond, ◌&&◌, leb, ltb, List, [], length, map, Some, refl, sym, ap, ◌∙◌, inl, inr, subst, subst₂, arith, slice_get, slice_index_or, option_map, and_from, or_left, le-leb, none-some, same_Some, slice_get-map, slice_get_within, get_or_from_slice_get, In, place_in, length-filter_le, get_left, AreOnce, LibraryValue, FlatLatch, OutPort, FlatValue, Places, IsFlat, IsNumbered, IsNetOf, AreNetsOf, In-filter, Param, param_names, regular_names, is_split, Lit, Pair, Aig, node_count, GRAPH_ROOM, Literals, input_names, IsSourceLiteral, Makes, a_source, MakesAll, none, more, Lut, IsTableOf, bits_of, TemplateValue, IsPlayable, is_regular, last_source, HasPorts, AreTablesOf, naming_of, literal_name, latch_name, Source, shape_of, HasTables, IsReadSource, rules, FlatNet}
 use Rattle.netlist.specs.declared.flat.FlatNet.TheVariants.{Input, Latch}
 use Rattle.netlist.specs.Flat as flat_fields
 use Rattle.netlist.specs.Instances.{IsMainInput}

@@ -1,8 +1,6 @@
 -- What the writing of files does.
 use Rattle.std.specs.Prelude.{◌≡◌, ℕ, List, Option, Result, MatchResult}
-use Rattle.tl_io.specs.Shelf.{Files, with_file}
-use Rattle.cmd_base.specs.Walk.{Outside}
-use Rattle.cmd_base.specs.Writing.{FileText, HasPrefix, AreWritten, IsCut}
+use Rattle.cmd_stations.specs.Words.{Files, with_file, Outside, FileText, HasPrefix, AreWritten, IsCut}
 
 -- one file: it has its bytes, or after an error not all of them
 abbrev pub WritesFile : {E : Type 0} → FileText → Option Files → Option Files → Result Unit E → Type 0

@@ -1,11 +1,7 @@
 -- The host of a pack: initially, and after events; and that packs with the same configurations show the same for the same script.
 use Rattle.std.specs.Prelude.{◌≡◌, Bool, List, [], ◌∷◌, ℕ, length}
-use Rattle.machine.specs.Machine.{MealyMachine, Passes}
-use Rattle.ppc_pack.specs.Pack.{PackValue, IsConf, HasOneConf, inits_of}
-use Rattle.run_text.specs.EventValue.{EventValue}
-use Rattle.run_core.specs.Events.{IsHostPlayed, IsSteady, host_line, IsOfHost}
+use Rattle.cmd_stations.specs.Words.{MealyMachine, Passes, PackValue, IsConf, HasOneConf, inits_of, EventValue, IsHostPlayed, IsSteady, host_line, IsOfHost, AreSame}
 use Rattle.spec_core.specs.Specialiser.{SpecialiserValue}
-use Rattle.ppc_file.specs.PackFile.{AreSame}
 
 -- the host at the start: under any values of the parameters there is one configuration; they have the pack's values, with their configuration
 pub record IsHostStart (own : PackValue) (h : SpecialiserValue) : Type 0 where

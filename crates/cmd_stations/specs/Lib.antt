@@ -1,4 +1,5 @@
 -- What public clauses say of the stations: the texts of a source circuit, and what is made of it,
+pub mod Words
 pub mod Texts
 pub mod SourceCircuit
 pub mod Mapped

@@ -1,22 +1,16 @@
 -- The machine of a job with its ports: initially, and after events.
 use Rattle.std.specs.Prelude.{◌≡◌, ℕ, Bool, List, [], ◌∷◌, length, Ok}
-use Rattle.machine.specs.Machine.{MealyMachine, Passes}
+use Rattle.cmd_stations.specs.Words.{MealyMachine, Passes, PackValue, IsConf, HasOneConf, EventValue, param_inits, MachineValue, IsPlayed, IsSteady, event_line, AreInits, TemplateValue}
 use Rattle.tl_io.specs.Writes.{writes_from}
-use Rattle.ppc_pack.specs.Pack.{PackValue, IsConf, HasOneConf}
 use Rattle.lut_sim.specs.Sim.{SimValue}
-use Rattle.run_text.specs.EventValue.{EventValue}
-use Rattle.param_list.specs.Parameters.{param_inits}
 use Rattle.port_bank.specs.Bank.{BankSeen}
 use Rattle.port_bank.specs.Image.{Holds}
 use Rattle.port_bank.specs.Moves.{Becomes, KeepsPlaces}
 use Rattle.port_bank.specs.Send.{Plays}
-use Rattle.run_core.specs.Events.{MachineValue, IsPlayed, IsSteady, event_line}
 use Rattle.run_core.specs.Ends.{HasSent}
 use Rattle.cmd_stations.specs.Mapped.{template_header}
 use Rattle.cmd_stations.specs.SourceCircuit.{shape_of}
-use Rattle.netlist.specs.Runs.{AreInits}
 use Rattle.cmd_stations.specs.Tunable.{IsTunable}
-use Rattle.cover_pick.specs.Template.{TemplateValue}
 use Rattle.cmd_stations.specs.declared.source.Source.{Source}
 
 -- a job: a source circuit, the template that it is mapped to, and the events of a script

@@ -3,10 +3,8 @@ use Rattle.std.specs.Prelude.{◌≡◌, ℕ, ◌≤◌, List, length, Some}
 use Rattle.aig_build.specs.declared.TheConstants.{MOST_NODES}
 use Rattle.cmd_stations.specs.declared.limits.TheConstants.{GRAPH_ROOM}
 use Rattle.aig_build.specs.declared.build_err.BuildErr.TheVariants.{TooManyNodes}
-use Rattle.aig_build.specs.NetlistGraph.{IsGraphOf, HasTooManyNodes}
+use Rattle.cmd_stations.specs.Words.{IsGraphOf, HasTooManyNodes, Aig, node_count, RootsValue, roots_of, label_at, AreLeastHeights, Rule, TemplateValue, IsTemplate, IsTooMuch, RefusalValue}
 use Rattle.aig_build.specs.Refusals.{refusal_of as build_refusal}
-use Rattle.aig_core.specs.Aig.{Aig, node_count}
-use Rattle.aig_core.specs.Roots.{RootsValue, roots_of}
 use Rattle.list_laws.specs.Members.{In}
 use Rattle.cut_sets.specs.Cuts.{CanBeLeaf}
 use Rattle.cut_enum.specs.Table.{AreRows}
@@ -14,19 +12,15 @@ use Rattle.cut_enum.specs.Limits.{IsLimit}
 use Rattle.cut_enum.specs.Refusals.{refusal_of as cut_refusal}
 use Rattle.cut_enum.specs.declared.table.CutErr.{CutErr}
 use Rattle.depth_label.specs.Label.{LabelsValue, AreLabelled, label_of}
-use Rattle.cut_sets.specs.Labels.{label_at, AreLeastHeights}
 use Rattle.flow_label.specs.Lows.{AreLowsOf}
 use Rattle.cover_pick.specs.Rounds.{Supply, Rows, Sets}
-use Rattle.cover_pick.specs.declared.rule.Rule.{Rule}
 use Rattle.cover_pick.specs.declared.rule.Rule.TheVariants.{FewestLeaves, LeastCost}
 use Rattle.cover_pick.specs.declared.lut.Lut.{Lut}
-use Rattle.cover_pick.specs.Template.{TemplateValue, IsTemplate, IsTooMuch}
 use Rattle.cover_pick.specs.Mapping.{IsMapping, IsLeast}
 use Rattle.cover_pick.specs.Work.{IsLight}
 use Rattle.cover_pick.specs.Refusals.{refusal_of as pick_refusal}
 use Rattle.cover_pick.specs.declared.lut.PickErr.TheVariants.{Work}
 use Rattle.run_text.specs.Lines.{header_line}
-use Rattle.tl_fault.specs.RefusalValue.{RefusalValue}
 use Rattle.cmd_stations.specs.declared.source.Source.{Source}
 
 -- how many AND nodes a graph may have, by the rule that chooses cuts of its nodes; each graph has room for as many as any

@@ -1,21 +1,12 @@
 -- The pack that a file holds.
 use Rattle.std.specs.Prelude.{◌≡◌, ℕ, List, length, map, Option, None, Some}
-use Rattle.tl_fault.specs.RefusalValue.{RefusalValue}
-use Rattle.tl_io.specs.Shelf.{Files}
-use Rattle.ppc_pack.specs.declared.pack.PackParam.{PackParam}
-use Rattle.ppc_pack.specs.Pack.{PackValue}
+use Rattle.cmd_stations.specs.Words.{RefusalValue, Files, PackParam, PackValue, NamesValue, Forms, FileReading, shelf_reading, most_bytes, too_long, File, Netlist, Params, Script, Pack, Cert}
 use Rattle.ppc_file.specs.declared.pack_err.PackErr.{PackErr}
 use Rattle.ppc_file.specs.Refusals.{refusal_of}
 use Rattle.ppc_file.specs.declared.version.Version.TheVariants.{Two}
 use Rattle.ppc_file.specs.Bytes.{bytes_of}
 use Rattle.ppc_file.specs.PackFile.{IsPackFile, IsPackFault, HasOneReading}
-use Rattle.run_text.specs.NamesValue.{NamesValue}
-use Rattle.run_text.specs.declared.event.Forms.{Forms}
 use Rattle.run_text.specs.declared.event.Forms.TheVariants as forms
-use Rattle.cmd_base.specs.Walk.{FileReading, shelf_reading}
-use Rattle.cmd_base.specs.Refusals.{most_bytes, too_long}
-use Rattle.cmd_base.specs.declared.outcome.File.{File}
-use Rattle.cmd_base.specs.declared.outcome.File.TheVariants.{Netlist, Params, Script, Pack, Cert}
 use Rattle.cmd_stations.specs.Texts.{HasBytes, IsOverlong}
 
 -- the file of this name is the file of a pack

@@ -1,21 +1,11 @@
 -- The script that a file holds, and a mapped source circuit with its script: the walk through NETLIST, PARAMS, the mapping and SCRIPT.
 use Rattle.std.specs.Prelude.{◌≡◌, ℕ, List, ◌∷◌, ◌++◌, Some}
-use Rattle.tl_fault.specs.RefusalValue.{RefusalValue}
-use Rattle.tl_io.specs.Shelf.{Files}
-use Rattle.run_text.specs.EventValue.{EventValue}
-use Rattle.run_text.specs.NamesValue.{NamesValue}
-use Rattle.run_text.specs.declared.event.Forms.{Forms}
+use Rattle.cmd_stations.specs.Words.{RefusalValue, Files, EventValue, NamesValue, Forms, param_names, FileReading, shelf_reading, too_long, File, Netlist, Params, Script, Pack, Cert, TemplateValue}
 use Rattle.run_text.specs.declared.event.Forms.TheVariants.{Run}
-use Rattle.param_list.specs.Parameters.{param_names}
 use Rattle.run_text.specs.ScriptText.{IsScript, HasOneReading}
-use Rattle.cmd_base.specs.Walk.{FileReading, shelf_reading}
-use Rattle.cmd_base.specs.Refusals.{too_long}
-use Rattle.cmd_base.specs.declared.outcome.File.{File}
-use Rattle.cmd_base.specs.declared.outcome.File.TheVariants.{Netlist, Params, Script, Pack, Cert}
 use Rattle.cmd_stations.specs.declared.source.Source.{Source}
 use Rattle.cmd_stations.specs.SourceCircuit.{width_of}
 use Rattle.cmd_stations.specs.Texts.{HasText, IsLongText, IsScriptRefusal}
-use Rattle.cover_pick.specs.Template.{TemplateValue}
 use Rattle.cmd_stations.specs.declared.scripted.ScriptedWords.{ScriptedWords as ScriptedWordsRead}
 use Rattle.cmd_stations.specs.Source.{SourceWords, source_seen, HasMapped, ReachesSource, IsSourceRefused, source_word, IsSourceSettled}
 use Rattle.cmd_stations.specs.Mapped.{ToTables}

@@ -1,27 +1,13 @@
 -- The source circuit: the words that name it, what files hold of it, and its LUTs: the walk through NETLIST, PARAMS and what a command makes of them; and that each file says one thing, or is refused for one reason.
 use Rattle.std.specs.Prelude.{ℕ, ◌≤◌, ◌+◌, ◌-◌, ◌&&◌, nat_le, if◌then◌else◌, List, [], ◌∷◌, Option, Some, None, ◌≡◌, true}
 use Rattle.cut_sets.specs.declared.limits.TheConstants.{MOST_LEAVES}
-use Rattle.cover_pick.specs.declared.rule.Rule.{Rule}
+use Rattle.cmd_stations.specs.Words.{Rule, RefusalValue, Files, FlatValue, IsSound, IsParamsText, HasOneReading, Aig, RootsValue, TemplateValue, too_long, File, Netlist, Params, Script, Pack, Cert, HasOneGraph, HasRunsOf, FileReading, shelf_reading}
 use Rattle.cmd_stations.specs.declared.words.SourceWords.{SourceWords as SourceWordsRead}
-use Rattle.tl_fault.specs.RefusalValue.{RefusalValue}
-use Rattle.tl_io.specs.Shelf.{Files}
-use Rattle.netlist.specs.FlatValue.{FlatValue}
-use Rattle.netlist.specs.Sound.{IsSound}
 use Rattle.param_list.specs.declared.params.Param.{Param}
-use Rattle.param_list.specs.ParamsText.{IsParamsText, HasOneReading}
-use Rattle.aig_core.specs.Aig.{Aig}
-use Rattle.aig_core.specs.Roots.{RootsValue}
-use Rattle.cover_pick.specs.Template.{TemplateValue}
-use Rattle.cmd_base.specs.Refusals.{too_long}
-use Rattle.cmd_base.specs.declared.outcome.File.{File}
-use Rattle.cmd_base.specs.declared.outcome.File.TheVariants.{Netlist, Params, Script, Pack, Cert}
 use Rattle.cmd_stations.specs.declared.netlist_text.Netlist.{Netlist as NetlistValue}
 use Rattle.cmd_stations.specs.declared.source.Source.{Source}
 use Rattle.cmd_stations.specs.Texts.{HasText, IsLongText, IsNetlistText, NetlistRefusal, IsParamsRefusal, is_aag}
 use Rattle.cmd_stations.specs.Mapped.{AreLabelsBy, IsLeastMapping, IsMapped, Aim, IsBuilt, IsUnmade, IsChosen, IsUnchosen, IsUnmapped, ToGraph, ToLabels, ToTables, IsUnbuilt, IsUnlabelled}
-use Rattle.aig_build.specs.NetlistGraph.{HasOneGraph}
-use Rattle.aiger_io.specs.Reading.{HasRunsOf}
-use Rattle.cmd_base.specs.Walk.{FileReading, shelf_reading}
 
 -- the rule by which cuts are chosen, the size of the tables, and the words that name the netlist and the parameters
 pub record SourceWords : Type 0 where

@@ -1,10 +1,8 @@
 -- The source circuit of a job: its netlist under its parameters, a clock cycle of it, and its machine.
 use Rattle.std.specs.Prelude.{ℕ, length, ◌≡◌, Bool, List, map}
-use Rattle.param_list.specs.Parameters.{regular_names, param_names}
+use Rattle.cmd_stations.specs.Words.{regular_names, param_names, MealyMachine, AreInits, IsCycle}
 use Rattle.lut_sim.specs.declared.shape.Shape.{Shape}
 use Rattle.cmd_stations.specs.declared.source.Source.{Source}
-use Rattle.machine.specs.Machine.{MealyMachine}
-use Rattle.netlist.specs.Runs.{AreInits, IsCycle}
 
 -- how many inputs are left besides the parameters: each cycle gives them values
 abbrev pub width_of : Source → ℕ

@@ -1,14 +1,10 @@
 -- Why a stop at a file occurs: its refusal, or that it was not read. Running out of memory is free, and has no refusal.
 use Rattle.std.specs.Prelude.{Option, Some, None, IfSome, ◌≡◌, ℕ, ◌<◌, ◌≤◌, List}
-use Rattle.tl_fault.specs.RefusalValue.{RefusalValue}
+use Rattle.cmd_stations.specs.Words.{RefusalValue, File, ShelfSeen, Told, IsReadFault, most_bytes}
 use Rattle.cmd_stations.specs.declared.stop.Stop.{Stop}
 use Rattle.cmd_stations.specs.declared.stop.Stop.TheVariants.{Refused, Memory}
-use Rattle.cmd_base.specs.declared.outcome.File.{File}
 use Rattle.cmd_base.specs.declared.outcome.Outcome.{Outcome}
 use Rattle.cmd_base.specs.declared.outcome.Outcome.TheVariants as outcome
-use Rattle.tl_io.specs.Shelf.{ShelfSeen}
-use Rattle.cmd_base.specs.Walk.{Told, IsReadFault}
-use Rattle.cmd_base.specs.Refusals.{most_bytes}
 use Rattle.cmd_stations.specs.Texts.{IsOverlong}
 
 abbrev pub refusal_of : Stop → Option RefusalValue

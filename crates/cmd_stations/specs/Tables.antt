@@ -2,30 +2,16 @@
 use Rattle.netlist.specs.HasCleanNames.{HasCleanNames}
 use Rattle.netlist.specs.WellFormed.{IsWellFormed}
 use Rattle.netlist.specs.Bounds.{IsWithinBounds}
-use Rattle.netlist.specs.Flat.{IsFlat}
+use Rattle.cmd_stations.specs.Words.{IsFlat, HasCycles, IsSound, Files, Aig, first_and, AreNormal, RootsValue, AreRoots, roots_of, IsGraphOf, HasOneGraph, label_at, AreLeastHeights, Rule, TemplateValue, PackParam, inits_of, AreParameters, param_names, param_inits, AreTablesOf, IsPackFile, event_values}
 use Rattle.netlist.specs.Flattened.{HasValues}
-use Rattle.netlist.specs.FlatCycle.{HasCycles}
-use Rattle.netlist.specs.Sound.{IsSound}
 use Rattle.cmd_stations.specs.declared.netlist_text.Netlist.{Netlist, Netlist as NetlistValue}
 use Rattle.std.specs.Prelude.{◌≡◌, ℕ, length, map}
-use Rattle.tl_io.specs.Shelf.{Files}
-use Rattle.aig_core.specs.Aig.{Aig, first_and, AreNormal}
-use Rattle.aig_core.specs.Roots.{RootsValue, AreRoots, roots_of}
-use Rattle.aig_build.specs.NetlistGraph.{IsGraphOf, HasOneGraph}
-use Rattle.cut_sets.specs.Labels.{label_at, AreLeastHeights}
 use Rattle.aig_build.specs.NetlistCycle.{HasSourceCycles}
-use Rattle.cover_pick.specs.declared.rule.Rule.{Rule}
-use Rattle.cover_pick.specs.Template.{TemplateValue}
 use Rattle.cmd_stations.specs.declared.limits.TheConstants.{GRAPH_ROOM}
 use Rattle.cmd_stations.specs.declared.source.Source.{Source}
 use Rattle.cmd_stations.specs.declared.tables.SourceTables.{SourceTables}
 use Rattle.cmd_stations.specs.declared.mapped.MappedSource.{MappedSource}
-use Rattle.ppc_pack.specs.declared.pack.PackParam.{PackParam}
-use Rattle.ppc_pack.specs.Pack.{inits_of}
-use Rattle.param_list.specs.Parameters.{AreParameters, param_names, param_inits}
 use Rattle.lut_sim.specs.Playable.{IsPlayable}
-use Rattle.blif_write.specs.Meaning.{AreTablesOf}
-use Rattle.ppc_file.specs.PackFile.{IsPackFile}
 use Rattle.cmd_stations.specs.Packs.{present_bytes}
 use Rattle.cmd_stations.specs.Source.{SourceWords, HasNetlist, HasSource, HasMapped, IsNetlistSettled, AreParamsSettled, IsSourceSettled, HasGraph, HasLabels}
 use Rattle.cmd_stations.specs.SourceCircuit.{shape_of}
@@ -35,7 +21,6 @@ use Rattle.cmd_stations.specs.declared.graphs.BuiltSource.{BuiltSource}
 use Rattle.cmd_stations.specs.declared.labelling.LabelledSource.{LabelledSource}
 use Rattle.blif_write.specs.Writable.{CanBeNamed}
 use Rattle.cmd_stations.specs.declared.drafts.WritableSource.{WritableSource}
-use Rattle.run_text.specs.EventValue.{event_values}
 use Rattle.cmd_stations.specs.declared.scripted.Scripted.{Scripted}
 use Rattle.cmd_stations.specs.Script.{ScriptedWords, HasScripted, IsScriptedSettled}
 

@@ -1,30 +1,23 @@
 -- What the texts of a netlist, of a parameter list and of a script say, and what each is refused for.
 use Rattle.std.specs.Prelude.{◌≡◌, ℕ, Bool, true, false, List, take, bytes_eq, codes, Some, ◌<◌, ◌≤◌, length}
-use Rattle.tl_fault.specs.RefusalValue.{RefusalValue}
+use Rattle.cmd_stations.specs.Words.{RefusalValue, Denotes, IsLibraryOf, HasRunsOf, Files, FlatValue, IsFlat, IsParamsFault, NamesValue}
 use Rattle.netlist.specs.LibraryValue.{LibraryValue}
 use Rattle.blif_read.specs.declared.blif_err.BlifErr.{BlifErr}
 use Rattle.blif_read.specs.Refusals.{refusal_of as blif_refusal}
-use Rattle.blif_read.specs.Denotes.{Denotes}
 use Rattle.blif_read.specs.ReadFault.{read_fault}
 use Rattle.aiger_io.specs.declared.aag_err.AagErr.{AagErr}
 use Rattle.aiger_io.specs.Refusals.{refusal_of as aag_refusal}
-use Rattle.aiger_io.specs.Reading.{IsLibraryOf, HasRunsOf}
 use Rattle.aiger_io.specs.Refused.{IsRefused}
 use Rattle.std.specs.FinMap.{get}
 use Rattle.tl_text.specs.declared.logical_lines.TheConstants.{MOST_BYTES}
-use Rattle.tl_io.specs.Shelf.{Files}
 use Rattle.blif_flat.specs.declared.flat_err.FlatErr.{FlatErr}
 use Rattle.blif_flat.specs.Refusals.{refusal_of as flat_refusal}
 use Rattle.blif_flat.specs.Faults.{IsFault}
-use Rattle.netlist.specs.FlatValue.{FlatValue}
-use Rattle.netlist.specs.Flat.{IsFlat}
 use Rattle.param_list.specs.declared.par_err.ParErr.{ParErr}
 use Rattle.param_list.specs.Refusals.{refusal_of as params_refusal}
-use Rattle.param_list.specs.ParamsText.{IsParamsFault}
 use Rattle.run_text.specs.declared.script_err.ScriptErr.{ScriptErr}
 use Rattle.run_text.specs.ScriptRefusals.{refusal_of as script_refusal}
 use Rattle.run_text.specs.ScriptText.{IsScriptFault}
-use Rattle.run_text.specs.NamesValue.{NamesValue}
 use Rattle.cmd_stations.specs.declared.netlist_text.Netlist.{Netlist}
 
 -- does a text begin as AIGER's ASCII form does, with `aag` and a blank

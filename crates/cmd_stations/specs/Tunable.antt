@@ -1,15 +1,9 @@
 -- The configuration bits of a source circuit's LUTs as functions of its parameters.
 use Rattle.std.specs.Prelude.{◌≡◌, Bool, List, length}
-use Rattle.aig_core.specs.Aig.{Aig}
-use Rattle.aig_core.specs.Roots.{RootsValue}
-use Rattle.aig_build.specs.NetlistGraph.{IsGraphOf, HasOneGraph}
-use Rattle.cover_pick.specs.Template.{TemplateValue}
-use Rattle.ppc_pack.specs.Pack.{PackValue, IsConf}
+use Rattle.cmd_stations.specs.Words.{Aig, RootsValue, IsGraphOf, HasOneGraph, TemplateValue, PackValue, IsConf, Refines, flat_inits}
 use Rattle.bit_fun.specs.PackOf.{IsPackOf}
 use Rattle.bit_fun.specs.PackLaw.{HasConfigurations}
 use Rattle.lut_sim.specs.Cycle.{lut_machine}
-use Rattle.machine.specs.Machine.{Refines}
-use Rattle.netlist.specs.FlatCycle.{flat_inits}
 use Rattle.cmd_stations.specs.declared.limits.TheConstants.{GRAPH_ROOM}
 use Rattle.cmd_stations.specs.declared.source.Source.{Source}
 use Rattle.cmd_stations.specs.SourceCircuit.{shape_of, source_machine}

@@ -1,8 +1,6 @@
 -- The walk of a command that makes files of its source circuit, and then prints a line.
 use Rattle.std.specs.Prelude.{ℕ, List}
-use Rattle.tl_io.specs.Shelf.{Files}
-use Rattle.cmd_base.specs.Walk.{CommandWalk, portless_walk}
-use Rattle.cmd_base.specs.Writing.{FileText, AreWritten, IsCut}
+use Rattle.cmd_stations.specs.Words.{Files, CommandWalk, portless_walk, FileText, AreWritten, IsCut}
 use Rattle.cmd_stations.specs.Mapped.{Aim}
 use Rattle.cmd_stations.specs.Source.{source_reading, SourceWords}
 

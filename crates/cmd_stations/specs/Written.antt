@@ -1,21 +1,11 @@
 -- What the written netlists of a source circuit mean: read again, they are sound, and their machines refine the source circuit's.
 use Rattle.std.specs.Prelude.{◌≡◌, ℕ, Bool, List, ◌++◌, length, map}
-use Rattle.machine.specs.Machine.{GivesCycle, GivesRun, Refines, reading, restricted}
-use Rattle.blif_read.specs.Denotes.{Denotes}
-use Rattle.netlist.specs.Flat.{IsFlat}
-use Rattle.netlist.specs.FlatValue.{FlatValue}
-use Rattle.netlist.specs.Runs.{library_machine}
-use Rattle.netlist.specs.Sound.{IsSound}
-use Rattle.cover_pick.specs.Template.{TemplateValue}
-use Rattle.ppc_pack.specs.Pack.{PackValue, IsConf}
-use Rattle.param_list.specs.Parameters.{regular_names}
+use Rattle.cmd_stations.specs.Words.{GivesCycle, GivesRun, Refines, reading, restricted, Denotes, IsFlat, FlatValue, library_machine, IsSound, TemplateValue, PackValue, IsConf, regular_names, free_control, all_bit_names, input_bits, FileText}
 use Rattle.blif_write.specs.PlainNetlist.{PlainNetlist, netlist_text, library_of}
 use Rattle.blif_write.specs.OwnNames.{naming_of}
 use Rattle.blif_write.specs.Netlists.{specialised_netlist, template_netlist}
-use Rattle.blif_write.specs.Meaning.{free_control, all_bit_names, input_bits}
 use Rattle.cmd_stations.specs.declared.source.Source.{Source}
 use Rattle.cmd_stations.specs.SourceCircuit.{source_machine}
-use Rattle.cmd_base.specs.Writing.{FileText}
 use Rattle.cmd_stations.specs.declared.mapped.MappedSource.{MappedSource}
 
 -- the values of the regular inputs, by their names

@@ -1,11 +1,9 @@
 -- The chosen cut by the rule's own words, and that the rule keeps within the required depth.
-use Rattle.cover_pick.proofs.Common.{◌≡◌, ℕ, ◌<◌, ◌≤◌, true, ◌&&◌, ltb, eqb, List, [], ◌∷◌, length, Option, Some, None, refl, sym, ap, ◌∙◌, subst, inl, inr, ◌⊎◌, arith, same_Some, none-some, cases_order, ltb-true, ltb-false, eqb-true, and_parts, and_from, both_ways, lt-ltb, eq-eqb, In, lex, comes_before, IsOrdered, height, choose, better, fewest, rules, zero, suc, get_or, drop, drop_more, IsAt, IsOffer, IsShorter, cases_lt, comes_before, before_trans, cases_Bool, cond, false, less, earlier, cheaper, cheaper_low, cheapest, sum_by, sum_by-cons, cases_eq, flow_at, cost_where, leaf_cost, cut_cost, need}
+use Rattle.cover_pick.proofs.Common.{◌≡◌, ℕ, ◌<◌, ◌≤◌, true, ◌&&◌, ltb, eqb, List, [], ◌∷◌, length, Option, Some, None, refl, sym, ap, ◌∙◌, subst, inl, inr, ◌⊎◌, arith, same_Some, none-some, cases_order, ltb-true, ltb-false, eqb-true, and_parts, and_from, both_ways, lt-ltb, eq-eqb, In, lex, comes_before, IsOrdered, height, choose, better, fewest, rules, zero, suc, get_or, drop, drop_more, IsAt, IsOffer, IsShorter, cases_lt, comes_before, before_trans, cases_Bool, cond, false, less, earlier, cheaper, cheaper_low, cheapest, sum_by, sum_by-cons, cases_eq, flow_at, cost_where, leaf_cost, cut_cost, need, IfSome, before_none}
 use Rattle.cover_pick.specs.Choice.{Precedes, fewer, lower, before, IsChosen}
 use Rattle.cut_enum.proofs.LevelLemmas.{IsRising, IsRising-ordered, first_least}
 use Rattle.cover_pick.specs.declared.choice.Candidate.{Candidate}
 use Rattle.cover_pick.specs.declared.cost.Offer.{Offer}
-use Rattle.std.specs.Prelude.{IfSome}
-use Rattle.cut_sets.proofs.OrderLemmas.{before_none}
 use Rattle.cover_pick.specs.Sharing.{IsNeededAbove, root, leaf, IsLeafCost, shared, free, new, AreLeafCosts, IsCost, IsCheaper, IsCheapest}
 
 before_says : (a b : List ℕ) → comes_before a b ≡ true → (length a < length b) ⊎ ((length a ≡ length b) × (lex a b ≡ true))

@@ -1,8 +1,5 @@
 -- The free nodes: how they are marked, and that they can be counted once.
-use Rattle.cover_pick.proofs.Common.{◌≡◌, ℕ, zero, suc, ◌+◌, ◌-◌, ◌/◌, ◌<◌, ◌≤◌, Bool, true, false, List, [], ◌∷◌, length, replicate, slice_set, slice_get, slice_get_within, get_or-replicate, get_or_past, length-set, length-replicate, refl, sym, ap, ◌∙◌, subst, inl, inr, ◌⊎◌, arith, cases_lt, cases_eq, Option, Some, None, none-some, In, Pair, Aig, first_and, node_count, pair_of, IsNode, IsNormal, IsSource, Regular, Parameter, AreNormal, node_normal, source_below, Lut, CanBeLeaf, IsFree, free_constant, free_parameter, free_product, mark_of, AreFree, AreFreeTo, HasFreeParts, is_constant, is_parameter, has_fan_ins, unmarked, all_unmarked, once_in, CountOnce, rules}
-use Rattle.std.proofs.lemmas.Bool.{true≢false}
-use Rattle.aig_core.proofs.NodeLemmas.{same_pair}
-use Rattle.list_laws.proofs.Members.{in_or}
+use Rattle.cover_pick.proofs.Common.{◌≡◌, ℕ, zero, suc, ◌+◌, ◌-◌, ◌/◌, ◌<◌, ◌≤◌, Bool, true, false, List, [], ◌∷◌, length, replicate, slice_set, slice_get, slice_get_within, get_or-replicate, get_or_past, length-set, length-replicate, refl, sym, ap, ◌∙◌, subst, inl, inr, ◌⊎◌, arith, cases_lt, cases_eq, Option, Some, None, none-some, In, Pair, Aig, first_and, node_count, pair_of, IsNode, IsNormal, IsSource, Regular, Parameter, AreNormal, node_normal, source_below, Lut, CanBeLeaf, IsFree, free_constant, free_parameter, free_product, mark_of, AreFree, AreFreeTo, HasFreeParts, is_constant, is_parameter, has_fan_ins, unmarked, all_unmarked, once_in, CountOnce, rules, true≢false, same_pair, in_or}
 use Rattle.cover_pick.proofs.MarkLemmas.{mark_here, mark_other}
 use Rattle.cover_pick.proofs.MappingLemmas.{kind_there}
 

@@ -24,3 +24,4 @@ mod ChosenLemmas
 mod ThereLemmas
 mod Examples
 mod WorkExample
+mod Lemmas

@@ -1,6 +1,5 @@
 -- The LUTs of the needed literals, whose work is counted by either rule.
-use Rattle.cover_pick.proofs.Common.{◌≡◌, ℕ, ◌*◌, ◌/◌, ◌%◌, ◌<◌, List, [], Option, Some, sym, ◌∙◌, ap, subst, inl, inr, ◌⊎◌, arith, cases_eq, cases_lt, same_Some, false≢true, Aig, first_and, node_count, IsSource, Regular, AreNormal, AreRoots, In, MOST_WORK, PickErr, Work, Memory, OrMemory, refusal_of, Lut, CanBeLeaf, IsMarked, tables_of, AreMade, Supply, IsLight, once_by, IsFree, AreFree, mark_of, once_in, IsWithin, IsPast, AreCountable, CountOnce, subst₂, Bool, true, rules}
-use Rattle.cover_pick.specs.Marks.{leaves_of, source_leaves}
+use Rattle.cover_pick.proofs.Common.{◌≡◌, ℕ, ◌*◌, ◌/◌, ◌%◌, ◌<◌, List, [], Option, Some, sym, ◌∙◌, ap, subst, inl, inr, ◌⊎◌, arith, cases_eq, cases_lt, same_Some, false≢true, Aig, first_and, node_count, IsSource, Regular, AreNormal, AreRoots, In, MOST_WORK, PickErr, Work, Memory, OrMemory, refusal_of, Lut, CanBeLeaf, IsMarked, tables_of, AreMade, Supply, IsLight, once_by, IsFree, AreFree, mark_of, once_in, IsWithin, IsPast, AreCountable, CountOnce, subst₂, Bool, true, rules, leaves_of, source_leaves}
 use Rattle.cover_pick.proofs.BitsLemmas.{bits_worked}
 use Rattle.cover_pick.proofs.TableLemmas.{tables_needed}
 use Rattle.cover_pick.proofs.TemplateLemmas.{leaves_and, cut_in}

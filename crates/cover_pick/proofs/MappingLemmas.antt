@@ -1,7 +1,6 @@
 -- The chosen LUTs map the graph, and are a cover of the least depth.
-use Rattle.cover_pick.proofs.Common.{◌≡◌, ℕ, ◌-◌, ◌*◌, ◌/◌, ◌%◌, ◌<◌, ◌≤◌, cond, List, [], ◌∷◌, Option, Some, None, IsSome, refl, sym, ap, ◌∙◌, subst, inl, inr, ◌⊎◌, arith, get_or, slice_get, same_Some, none-some, slice_get-get_or, cases_lt, cases_eq, eq-eqb, ne_eqb, lt-ltb, false≢true, Aig, first_and, node_count, IsAnd, IsSource, Kind, Regular, Parameter, AreRoots, In, Lut, target, need, cover_of, chosen, Supply, IsServed, choice_of, cut_at, depths_of, FromChoice, IsLeastCover, HasTable, rules}
+use Rattle.cover_pick.proofs.Common.{◌≡◌, ℕ, ◌-◌, ◌*◌, ◌/◌, ◌%◌, ◌<◌, ◌≤◌, cond, List, [], ◌∷◌, Option, Some, None, IsSome, refl, sym, ap, ◌∙◌, subst, inl, inr, ◌⊎◌, arith, get_or, slice_get, same_Some, none-some, slice_get-get_or, cases_lt, cases_eq, eq-eqb, ne_eqb, lt-ltb, false≢true, Aig, first_and, node_count, IsAnd, IsSource, Kind, Regular, Parameter, AreRoots, In, Lut, target, need, cover_of, chosen, Supply, IsServed, choice_of, cut_at, depths_of, FromChoice, IsLeastCover, HasTable, rules, leaves_of, source_leaves, Made, IsMarked, root, leaf, IsMade}
 use Rattle.cover_pick.specs.Mapping.{IsTableOf, source, free, node, IsPlain, HasLut, HasNode, IsMapping, IsLeast}
-use Rattle.cover_pick.specs.Marks.{leaves_of, source_leaves, Made, IsMarked, root, leaf, IsMade}
 use Rattle.cover_pick.proofs.TemplateLemmas.{leaves_and, cut_in}
 
 pub leaves_zero : (g : Aig) (cuts : List (Option (List ℕ))) (l : ℕ) → l / 2 ≡ 0 → leaves_of g cuts l ≡ Some []

@@ -1,6 +1,5 @@
 -- The pass down from the last AND node counts each node at or below those that were met once.
-use Rattle.cover_pick.proofs.Common.{◌≡◌, ℕ, ◌+◌, ◌-◌, ◌/◌, ◌<◌, ◌≤◌, Bool, true, false, List, [], ◌∷◌, ◌++◌, length, refl, sym, ap, ◌∙◌, subst, inl, inr, arith, slice_set, length-set, length-append, slice_get_within, cases_eq, false≢true, Aig, first_and, node_count, IsAnd, IsNode, IsNormal, AreNormal, node_normal, pair_of, Pair, Option, In, In-left, In-push, In-pushed, IsDescending, IsInner, Path, here, left, right, mark_of, IsBelowMet, HasBelowMet, with_fan_ins}
-use Rattle.aig_core.proofs.NodeLemmas.{same_pair}
+use Rattle.cover_pick.proofs.Common.{◌≡◌, ℕ, ◌+◌, ◌-◌, ◌/◌, ◌<◌, ◌≤◌, Bool, true, false, List, [], ◌∷◌, ◌++◌, length, refl, sym, ap, ◌∙◌, subst, inl, inr, arith, slice_set, length-set, length-append, slice_get_within, cases_eq, false≢true, Aig, first_and, node_count, IsAnd, IsNode, IsNormal, AreNormal, node_normal, pair_of, Pair, Option, In, In-left, In-push, In-pushed, IsDescending, IsInner, Path, here, left, right, mark_of, IsBelowMet, HasBelowMet, with_fan_ins, same_pair}
 use Rattle.list_laws.proofs.Places.{at_within}
 use Rattle.cover_pick.proofs.MarkLemmas.{mark_here, mark_stays, mark_from}
 use Rattle.cover_pick.proofs.OwnLemmas.{path_on, end_inner}

@@ -1,6 +1,5 @@
 -- LUTs have exactly one work, whatever nodes are counted once: their own and their shared nodes exist, and are the only ones.
-use Rattle.cover_pick.proofs.Common.{◌≡◌, ℕ, zero, suc, ◌+◌, ◌*◌, ◌/◌, ◌^◌, ◌<◌, Bool, List, [], ◌∷◌, length, refl, sym, ap, ◌∙◌, subst, inl, inr, ◌⊎◌, arith, cases_Bool, cases_eq, false≢true, Aig, first_and, node_count, AreNormal, In, IsDescending, Lut, IsCone, IsInner, Path, here, left, right, AreOwn, IsOwnWork, AreShared, IsWork, mark_of, once_in}
-use Rattle.list_laws.proofs.Members.{in_or}
+use Rattle.cover_pick.proofs.Common.{◌≡◌, ℕ, zero, suc, ◌+◌, ◌*◌, ◌/◌, ◌^◌, ◌<◌, Bool, List, [], ◌∷◌, length, refl, sym, ap, ◌∙◌, subst, inl, inr, ◌⊎◌, arith, cases_Bool, cases_eq, false≢true, Aig, first_and, node_count, AreNormal, In, IsDescending, Lut, IsCone, IsInner, Path, here, left, right, AreOwn, IsOwnWork, AreShared, IsWork, mark_of, once_in, in_or}
 use Rattle.cover_pick.proofs.WorkLemmas.{cone_of, cone_is}
 use Rattle.cover_pick.proofs.DistinctLemmas.{length_descending}
 

@@ -1,6 +1,5 @@
 -- The rounds that are made are rounds by their own words, and the flows that are found are those of the first plan of the least cost.
-use Rattle.cover_pick.proofs.Common.{◌≡◌, ℕ, ◌/◌, ◌<◌, ◌≤◌, cond, ltb, Bool, true, false, List, [], ◌∷◌, ◌++◌, length, Option, refl, sym, ap, ◌∙◌, subst, inl, inr, arith, ltb-true, ltb-false, Aig, first_and, node_count, AreNormal, In, In-append, choose, choose_one, Rule, LeastCost, Scope, AnyHeight, LeastHeight, flow_at, flows_by, IsPlanBy, uses, cost_of, count_at, AreLeaves, AreUsed, PlanValue, AreRounds, NoneBelow, IsFirst, plan_of, AreFlows, cut_at, IsPlanned, plan_by, next_flows, cost_by, cheaper_flows, three_rounds, six_rounds, AreSixRounds, IsServing, label_at, lits_of, cheaper_cuts, AreCutsBy, CanChoose, flows_over, three_over, rules}
-use Rattle.cover_pick.specs.declared.choices.Choices.{Choices}
+use Rattle.cover_pick.proofs.Common.{◌≡◌, ℕ, ◌/◌, ◌<◌, ◌≤◌, cond, ltb, Bool, true, false, List, [], ◌∷◌, ◌++◌, length, Option, refl, sym, ap, ◌∙◌, subst, inl, inr, arith, ltb-true, ltb-false, Aig, first_and, node_count, AreNormal, In, In-append, choose, choose_one, Rule, LeastCost, Scope, AnyHeight, LeastHeight, flow_at, flows_by, IsPlanBy, uses, cost_of, count_at, AreLeaves, AreUsed, PlanValue, AreRounds, NoneBelow, IsFirst, plan_of, AreFlows, cut_at, IsPlanned, plan_by, next_flows, cost_by, cheaper_flows, three_rounds, six_rounds, AreSixRounds, IsServing, label_at, lits_of, cheaper_cuts, AreCutsBy, CanChoose, flows_over, three_over, rules, Choices}
 use Rattle.cover_pick.proofs.UsesLemmas.{flows_same, flows_fit, uses_same, cost_same}
 use Rattle.cover_pick.proofs.RuleLemmas.{plan_all, plan_is}
 

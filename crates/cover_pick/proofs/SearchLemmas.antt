@@ -1,8 +1,7 @@
 -- A search reaches exactly the own nodes of its top, each once, and meets the nodes that are counted once at which it stops.
-use Rattle.cover_pick.proofs.Common.{◌≡◌, ℕ, ◌+◌, ◌/◌, ◌<◌, ◌≤◌, Bool, true, false, cond, eqb, List, [], ◌∷◌, ◌++◌, length, Some, refl, sym, ap, ◌∙◌, subst, inl, inr, ◌⊎◌, arith, get_or-set_same, get_or-set_other, slice_set, length-append, length-set, get_or-append, same_Some, cases_lt, cases_eq, false≢true, eqb-true, eqb-false, IsNode, Aig, first_and, node_count, IsAnd, pair_of, IsNormal, AreNormal, Pair, In, In-get_or, In-left, In-push, In-pushed, choose, is_stop, IsInner, Path, here, left, right, SearchValue, stamp_at, reach, mark_of, once_in, AreClosed, IsBelowMet, MeetsCone, HasOwn, rules}
+use Rattle.cover_pick.proofs.Common.{◌≡◌, ℕ, ◌+◌, ◌/◌, ◌<◌, ◌≤◌, Bool, true, false, cond, eqb, List, [], ◌∷◌, ◌++◌, length, Some, refl, sym, ap, ◌∙◌, subst, inl, inr, ◌⊎◌, arith, get_or-set_same, get_or-set_other, slice_set, length-append, length-set, get_or-append, same_Some, cases_lt, cases_eq, false≢true, eqb-true, eqb-false, IsNode, Aig, first_and, node_count, IsAnd, pair_of, IsNormal, AreNormal, Pair, In, In-get_or, In-left, In-push, In-pushed, choose, is_stop, IsInner, Path, here, left, right, SearchValue, stamp_at, reach, mark_of, once_in, AreClosed, IsBelowMet, MeetsCone, HasOwn, rules, In-place}
 use Rattle.std.specs.List.{IsDistinct}
 use Rattle.std.proofs.lemmas.Map.Steps.{length-le_from_distinct_below}
-use Rattle.list_laws.proofs.Members.{In-place}
 use Rattle.cover_pick.proofs.WorkLemmas.{stop_inner, stopped, past_sources}
 use Rattle.cover_pick.proofs.DistinctLemmas.{any_In, distinct_push, distinct_descending, length_same}
 use Rattle.cover_pick.proofs.MarkLemmas.{mark_here, mark_stays, mark_from}

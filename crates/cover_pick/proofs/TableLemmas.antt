@@ -1,7 +1,6 @@
 -- The LUTs that are made are those of the needed literals, with their bases and bits.
-use Rattle.cover_pick.proofs.Common.{◌≡◌, ℕ, suc, ◌+◌, ◌*◌, ◌^◌, ◌<◌, ◌≤◌, Bool, true, false, List, [], ◌∷◌, ◌++◌, length, Option, Some, None, refl, sym, ◌∙◌, subst, inl, inr, ◌⊎◌, arith, get_or, slice_set, get_or-set_same, replicate, drop, drop_more, length-set, length-replicate, get_or-replicate, get_or_past, sum_by_push, sum_by-cons, same_Some, none-some, cases_lt, false≢true, Aig, node_count, In, In-left, In-push, In-pushed, OrMemory, refusal_of, MOST_WORK, PickErr, Work, Memory, Lut, HaveBases, AscendByLit, bits_of, rules}
+use Rattle.cover_pick.proofs.Common.{◌≡◌, ℕ, suc, ◌+◌, ◌*◌, ◌^◌, ◌<◌, ◌≤◌, Bool, true, false, List, [], ◌∷◌, ◌++◌, length, Option, Some, None, refl, sym, ◌∙◌, subst, inl, inr, ◌⊎◌, arith, get_or, slice_set, get_or-set_same, replicate, drop, drop_more, length-set, length-replicate, get_or-replicate, get_or_past, sum_by_push, sum_by-cons, same_Some, none-some, cases_lt, false≢true, Aig, node_count, In, In-left, In-push, In-pushed, OrMemory, refusal_of, MOST_WORK, PickErr, Work, Memory, Lut, HaveBases, AscendByLit, bits_of, rules, mark_at, mark_each, mark_leaves, mark_cut, mark_cuts, marks_of, IsMarked, root, leaf, leaves_of, Made, add_table, add_marked, tables_from, tables_of, AreMade}
 use Rattle.cover_pick.proofs.MarkLemmas.{mark_stays, mark_from}
-use Rattle.cover_pick.specs.Marks.{mark_at, mark_each, mark_leaves, mark_cut, mark_cuts, marks_of, IsMarked, root, leaf, leaves_of, Made, add_table, add_marked, tables_from, tables_of, AreMade}
 
 each_stays : (ls : List ℕ) (xs : List Bool) (m : ℕ) → mark_at xs m ≡ true → mark_at (mark_each xs ls) m ≡ true
 each_stays [] xs m h = h

@@ -1,7 +1,5 @@
 -- The depth of the chosen LUTs is the depth of the chosen cuts.
-use Rattle.cover_pick.proofs.Common.{◌≡◌, ℕ, suc, ◌*◌, ◌/◌, ◌<◌, ◌≤◌, List, [], ◌∷◌, length, Option, Some, None, refl, sym, ◌∙◌, subst, inl, inr, ◌⊎◌, arith, get_or_past, none-some, cases_lt, Aig, first_and, node_count, IsAnd, In, IsCover, HasDepth, source, no_leaves, table, In-get_or, Rule, Supply, IsServing, CanBeLeaf, choose_one, ltb, cost_of, label_at, lits_of, cheaper_cuts, AreCutsBy, CanChoose, CanMakeTables, target, cut_at, IsPlanned, HasTable}
-use Rattle.cover_pick.specs.Marks.{leaves_of, Made, AreMade, IsMarked, root, leaf, IsMade}
-use Rattle.cover_pick.specs.declared.choices.Choices.{Choices}
+use Rattle.cover_pick.proofs.Common.{◌≡◌, ℕ, suc, ◌*◌, ◌/◌, ◌<◌, ◌≤◌, List, [], ◌∷◌, length, Option, Some, None, refl, sym, ◌∙◌, subst, inl, inr, ◌⊎◌, arith, get_or_past, none-some, cases_lt, Aig, first_and, node_count, IsAnd, In, IsCover, HasDepth, source, no_leaves, table, In-get_or, Rule, Supply, IsServing, CanBeLeaf, choose_one, ltb, cost_of, label_at, lits_of, cheaper_cuts, AreCutsBy, CanChoose, CanMakeTables, target, cut_at, IsPlanned, HasTable, leaves_of, Made, AreMade, IsMarked, root, leaf, IsMade, Choices}
 use Rattle.cover_pick.specs.Template.{TableDepth, free, over, TablesWithin}
 
 pub leaves_and : (g : Aig) (cuts : List (Option (List ℕ))) (l : ℕ) → IsAnd g (l / 2) → leaves_of g cuts l ≡ cut_at cuts (l / 2)

@@ -1,5 +1,5 @@
 -- The chosen template is there, whether it is found or not; and as there is one, each template maps the graph with the least depth.
-use Rattle.cover_pick.proofs.Common.{◌≡◌, ℕ, zero, suc, ◌+◌, ◌<◌, List, [], ◌∷◌, length, Option, refl, ap, sym, ◌∙◌, subst, arith, Bool, false, cases_lt, Aig, first_and, node_count, AreNormal, RootsValue, roots_of, AreRoots, Supply, Rows, Sets, IsSupplied, HasPlan, HaveOneMaking, Rule, FewestLeaves, LeastCost, IsServing, IsServed, AreServing, AreSets, AreFlows, IsMapping, IsLeast, Made, IsMade, tables_of, cut_at, plan_of, IsPlanned, six_rounds, PlanValue, IsFirst, IsLeastOfMakings, fan_out, uses, has_cut, cost_of, target, TemplateValue, IsTemplate, ◌/◌, ◌^◌, ◌≤◌, inl, inr, ◌⊎◌, Result, Ok, Err, IfOk, Lit, In, Lut, PickErr, Work, Memory, AscendByLit, HaveBases, bits_of, IsWork, IsLight, once_by, TablesWithin, AreChosen, IsTooMuch, rules}
+use Rattle.cover_pick.proofs.Common.{◌≡◌, ℕ, zero, suc, ◌+◌, ◌<◌, List, [], ◌∷◌, length, Option, refl, ap, sym, ◌∙◌, subst, arith, Bool, false, cases_lt, Aig, first_and, node_count, AreNormal, RootsValue, roots_of, AreRoots, Supply, Rows, Sets, IsSupplied, HasPlan, HaveOneMaking, Rule, FewestLeaves, LeastCost, IsServing, IsServed, AreServing, AreSets, AreFlows, IsMapping, IsLeast, Made, IsMade, tables_of, cut_at, plan_of, IsPlanned, six_rounds, PlanValue, IsFirst, IsLeastOfMakings, fan_out, uses, has_cut, cost_of, target, TemplateValue, IsTemplate, ◌/◌, ◌^◌, ◌≤◌, inl, inr, ◌⊎◌, Result, Ok, Err, IfOk, Lit, In, Lut, PickErr, Work, Memory, AscendByLit, HaveBases, bits_of, IsWork, IsLight, once_by, TablesWithin, AreChosen, IsTooMuch, rules, IsNeeded, IsLeaves, HasTable}
 use Rattle.cover_pick.proofs.ChosenLemmas.{template_is, tables_made}
 use Rattle.cover_pick.proofs.MappingLemmas.{mapping_is, least_is}
 use Rattle.cover_pick.proofs.UsesLemmas.{no_flows_fit}
@@ -7,7 +7,6 @@ use Rattle.cover_pick.proofs.RuleLemmas.{plan_all, cuts_all, plan_is, roots_insi
 use Rattle.cover_pick.proofs.RoundLemmas.{six, first_six, six_are, six_fit}
 use Rattle.cover_pick.proofs.ServedLemmas.{serving_of}
 use Rattle.cover_pick.proofs.MakingLemmas.{best as best_of_first, best_flows, other, other_flows, first_wins, second_wins}
-use Rattle.cover_pick.specs.Tables.{IsNeeded, IsLeaves, HasTable}
 use Rattle.cover_pick.proofs.RoundsOnceLemmas.{plan_once, six_once, first_once}
 use Rattle.cover_pick.proofs.OwnLemmas.{work_once}
 

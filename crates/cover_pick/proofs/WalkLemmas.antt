@@ -1,6 +1,5 @@
 -- The walk of required depths: what it keeps, and that its cuts are a cover of the least depth.
-use Rattle.cover_pick.proofs.Common.{◌≡◌, ℕ, zero, suc, ◌+◌, ◌-◌, ◌/◌, ◌<◌, ◌≤◌, min, ltb, List, [], ◌∷◌, length, Option, Some, None, IsSome, refl, sym, ap, ◌∙◌, subst, inl, inr, ◌⊎◌, arith, get_or-set_same, get_or-set_other, replicate, length-replicate, get_or-replicate, get_or_past, length-set, same_Some, none-some, cases_lt, cases_eq, ltb-true, ltb-false, Aig, first_and, node_count, IsAnd, Regular, source_below, In, IsCut, IsCover, HasDepth, source, free, table, RootsWithin, greatest, height, choose, source_level, root_level, target, need, least_of, require, require_each, visit, walk, require_root, require_roots, roots_required, required, chosen, cover_of, AtMost, FromRoot, Chooses, IsWalked, rules, ◌%◌, IsSource, walk_by, met_at}
-use Rattle.cut_sets.specs.Labels.{AreLeastHeights}
+use Rattle.cover_pick.proofs.Common.{◌≡◌, ℕ, zero, suc, ◌+◌, ◌-◌, ◌/◌, ◌<◌, ◌≤◌, min, ltb, List, [], ◌∷◌, length, Option, Some, None, IsSome, refl, sym, ap, ◌∙◌, subst, inl, inr, ◌⊎◌, arith, get_or-set_same, get_or-set_other, replicate, length-replicate, get_or-replicate, get_or_past, length-set, same_Some, none-some, cases_lt, cases_eq, ltb-true, ltb-false, Aig, first_and, node_count, IsAnd, Regular, source_below, In, IsCut, IsCover, HasDepth, source, free, table, RootsWithin, greatest, height, choose, source_level, root_level, target, need, least_of, require, require_each, visit, walk, require_root, require_roots, roots_required, required, chosen, cover_of, AtMost, FromRoot, Chooses, IsWalked, rules, ◌%◌, IsSource, walk_by, met_at, AreLeastHeights}
 use Rattle.cut_sets.proofs.HeightLemmas.{greatest_le, greatest_in}
 use Rattle.cut_sets.proofs.LeastHeightLemmas.{label_le_depth}
 use Rattle.cover_pick.specs.Sharing.{IsNeededAbove, root, leaf}

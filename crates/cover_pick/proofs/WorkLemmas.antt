@@ -1,6 +1,5 @@
 -- The cone of a node, as a list, is what is reached from it.
-use Rattle.cover_pick.proofs.Common.{◌≡◌, ℕ, zero, suc, ◌-◌, ◌/◌, ◌<◌, ◌≤◌, true, false, ltb, eqb, List, [], ◌∷◌, Option, Some, None, refl, sym, length, subst, inl, inr, ◌⊎◌, arith, slice_get_within, cases_Bool, or_cases, or_parts, cases_lt, ltb-true, ltb-false, both_ways, lt-ltb, Aig, first_and, node_count, pair_of, IsNode, IsNormal, AreNormal, Pair, node_normal, In, choose, IsDescending, is_stop, IsInner, Path, here, left, right, IsCone, rules}
-use Rattle.std.specs.Prelude.{if◌then◌else◌, ◌==◌, nat_lt}
+use Rattle.cover_pick.proofs.Common.{◌≡◌, ℕ, zero, suc, ◌-◌, ◌/◌, ◌<◌, ◌≤◌, true, false, ltb, eqb, List, [], ◌∷◌, Option, Some, None, refl, sym, length, subst, inl, inr, ◌⊎◌, arith, slice_get_within, cases_Bool, or_cases, or_parts, cases_lt, ltb-true, ltb-false, both_ways, lt-ltb, Aig, first_and, node_count, pair_of, IsNode, IsNormal, AreNormal, Pair, node_normal, In, choose, IsDescending, is_stop, IsInner, Path, here, left, right, IsCone, rules, if◌then◌else◌, ◌==◌, nat_lt}
 use Rattle.cut_sets.proofs.SetLemmas.{has_true, has_from}
 
 -- what does not end the way down is an AND node that is no leaf

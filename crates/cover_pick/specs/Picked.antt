@@ -1,13 +1,9 @@
 -- What calls are given, and what they return: the LUTs of a plan or its template, within the limit on the work, or the refusal.
 use Rattle.std.specs.Prelude.{◌≡◌, ℕ, ◌*◌, ◌≤◌, List, length, Option, Some, Result, IfOk, IfErr}
-use Rattle.aig_core.specs.Roots.{AreRoots, RootsValue, roots_of}
 use Rattle.bounded_cuts.specs.Making.{AreLows}
-use Rattle.bounded_cuts.specs.Sets.{places}
-use Rattle.cut_sets.specs.Cuts.{CanBeLeaf}
 use Rattle.cut_sets.specs.declared.limits.TheConstants.{MOST_CUTS, MOST_LEAVES}
-use Rattle.depth_label.specs.Label.{AreLabelled, IsCutTable, LabelsValue}
 use Rattle.tl_fault.specs.OrMemory.{OrMemory}
-use Rattle.cover_pick.specs.Words.{Aig, AreLeastHeights, In, Lut, PickErr, label_at, node_count}
+use Rattle.cover_pick.specs.Words.{Aig, AreLeastHeights, In, Lut, PickErr, label_at, node_count, AreRoots, RootsValue, roots_of, places, CanBeLeaf, AreLabelled, IsCutTable, LabelsValue}
 use Rattle.cover_pick.specs.Counted.{IsPast}
 use Rattle.cover_pick.specs.Marks.{IsMade, Made}
 use Rattle.cover_pick.specs.Refusals.{refusal_of}

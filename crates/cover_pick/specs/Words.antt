@@ -10,13 +10,13 @@ pub use Rattle.cut_enum.specs.Table.{AreRows}
 pub use Rattle.bounded_cuts.specs.declared.limits.TheConstants.{MOST_FLOW, TABLE_PRICE}
 pub use Rattle.bounded_cuts.specs.declared.scope.Scope.{Scope}
 pub use Rattle.bounded_cuts.specs.declared.scope.Scope.TheVariants.{AnyHeight, LeastHeight}
-pub use Rattle.bounded_cuts.specs.Flow.{times_read, fan_out, flow_at, cut_flow, least_flow, cuts_within, allowed_row, node_flow, flows_below}
-pub use Rattle.bounded_cuts.specs.Sets.{AreSets, AreServing}
+pub use Rattle.bounded_cuts.specs.Flow.{times_read, fan_out, flow_at, cut_flow, flows_below}
+pub use Rattle.bounded_cuts.specs.Sets.{AreSets, AreServing, places}
 pub use Rattle.cut_sets.specs.Covers.{IsCover, RootsWithin, IsLeastDepth, HasDepth, free, free as no_leaves, source, table}
-pub use Rattle.cut_sets.specs.Cuts.{IsCut, AreMinimal}
+pub use Rattle.cut_sets.specs.Cuts.{IsCut, AreMinimal, CanBeLeaf}
 pub use Rattle.cut_sets.specs.Sets.{lex, before, IsOrdered, before as comes_before}
 pub use Rattle.cut_sets.specs.Labels.{height, greatest, label_at, AreLeastHeights}
-pub use Rattle.depth_label.specs.Label.{AreLabels, IsCutTable, label_of}
+pub use Rattle.depth_label.specs.Label.{AreLabels, IsCutTable, label_of, AreLabelled, LabelsValue}
 pub use Rattle.list_laws.specs.Members.{In}
 pub use Rattle.list_laws.specs.Order.{IsAscending, IsDescending}
 pub use Rattle.cover_pick.specs.declared.limits.TheConstants.{MOST_WORK}

@@ -1,7 +1,6 @@
 -- The least unions of the sets of two fan-ins are the minimal cuts of the node.
-use Rattle.cut_enum.proofs.Common.{◌≡◌, ℕ, suc, ◌/◌, ◌<◌, ◌≤◌, true, false, List, [], ◌∷◌, length, refl, sym, ◌∙◌, subst, inl, inr, ◌⊎◌, arith, Aig, first_and, IsAnd, IsNormal, AreNormal, Regular, Parameter, Pair, In, Within, IsAscending, AreApart, union, merged, starts_empty, with_own, IsSource, IsNode, Blocks, member, constant, parameter, fan_ins, CanBeLeaf, IsCut, IsMinimal, AreMinimal, Covers, Blocks-within, regular_blocked, contains_one, length_within, same_within, false≢true, choose, rules}
+use Rattle.cut_enum.proofs.Common.{◌≡◌, ℕ, suc, ◌/◌, ◌<◌, ◌≤◌, true, false, List, [], ◌∷◌, length, refl, sym, ◌∙◌, subst, inl, inr, ◌⊎◌, arith, Aig, first_and, IsAnd, IsNormal, AreNormal, Regular, Parameter, Pair, In, Within, IsAscending, AreApart, union, merged, starts_empty, with_own, IsSource, IsNode, Blocks, member, constant, parameter, fan_ins, CanBeLeaf, IsCut, IsMinimal, AreMinimal, Covers, Blocks-within, regular_blocked, contains_one, length_within, same_within, false≢true, choose, rules, union_left, union_right, In-union, IsAscending-union, union_within}
 use Rattle.aig_core.proofs.NodeLemmas.{source_below, same_pair}
-use Rattle.cut_sets.proofs.SetLemmas.{union_left, union_right, In-union, IsAscending-union, union_within}
 use Rattle.cut_enum.proofs.LevelLemmas.{IsRising, IsRising-ordered, first_least}
 use Rattle.cut_enum.proofs.LeastLemmas.{IsLeast, IsLeast-merged, merged_covers, merged_only, IsUnionOf}
 

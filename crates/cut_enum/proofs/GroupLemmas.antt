@@ -1,7 +1,6 @@
 -- The words of a group, and the cuts that have them.
-use Rattle.cut_enum.proofs.Common.{◌≡◌, ℕ, suc, ◌+◌, ◌*◌, ◌-◌, ◌^◌, ◌<◌, ◌≤◌, Bool, false, ◌||◌, List, [], ◌∷◌, length, get_or, map, drop, slice_range, refl, sym, ap, ◌∙◌, arith, length-drop, list_any, length-take, GROUP, NoneClear, subset, signature_of}
+use Rattle.cut_enum.proofs.Common.{◌≡◌, ℕ, suc, ◌+◌, ◌*◌, ◌-◌, ◌^◌, ◌<◌, ◌≤◌, Bool, false, ◌||◌, List, [], ◌∷◌, length, get_or, map, drop, slice_range, refl, sym, ap, ◌∙◌, arith, length-drop, list_any, length-take, GROUP, NoneClear, subset, signature_of, outside-subset}
 use Rattle.std.proofs.lemmas.List.Folds.{drop_split, list_any-append}
-use Rattle.cut_sets.proofs.SignatureLemmas.{outside-subset}
 
 -- none of a group whose words all have a bit outside is a part
 pub none_clear : (cut : List ℕ) (outside : ℕ) → outside + signature_of cut ≡ 2 ^ 64 - 1 → (cs : List (List ℕ)) → ((i : ℕ) → i < length (map signature_of cs) → get_or (map signature_of cs) i 0 < 2 ^ 64)

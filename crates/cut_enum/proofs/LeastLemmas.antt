@@ -1,6 +1,5 @@
 -- The least unions of the sets of two lists: which sets they are, and that none is within another.
-use Rattle.cut_enum.proofs.Common.{◌≡◌, ℕ, zero, suc, ◌+◌, ◌-◌, ◌<◌, ◌≤◌, true, false, List, [], ◌∷◌, ◌++◌, length, refl, sym, ap, subst, inl, inr, ◌⊎◌, arith, length-append, list_any, cases_Bool, cases_lt, In, Within, IsAscending, In-left, In-append, before, IsOrdered, AreApart, AreClear, subset, union, add, add_holders, leading, holders, unions_at, unions_below, merged, Covers, length_within, same_length_within, same_within, before_shorter}
-use Rattle.cut_sets.proofs.SetLemmas.{IsAscending-union, union_left, union_right, union_within}
+use Rattle.cut_enum.proofs.Common.{◌≡◌, ℕ, zero, suc, ◌+◌, ◌-◌, ◌<◌, ◌≤◌, true, false, List, [], ◌∷◌, ◌++◌, length, refl, sym, ap, subst, inl, inr, ◌⊎◌, arith, length-append, list_any, cases_Bool, cases_lt, In, Within, IsAscending, In-left, In-append, before, IsOrdered, AreApart, AreClear, subset, union, add, add_holders, leading, holders, unions_at, unions_below, merged, Covers, length_within, same_length_within, same_within, before_shorter, IsAscending-union, union_left, union_right, union_within}
 use Rattle.cut_enum.proofs.LevelLemmas.{IsLevel, IsLevel-none, IsLevel-add, IsRising, In-leading, any_part, holders_keep, pairs_keep, add_only, left_covered, right_covered, both_covered}
 
 -- Sets of fewer than n elements, none of which is within another, in order.

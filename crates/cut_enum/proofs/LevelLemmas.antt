@@ -1,6 +1,5 @@
 -- The sets of one size that are kept: in order, and none with a smaller one within it.
-use Rattle.cut_enum.proofs.Common.{◌≡◌, ℕ, ◌+◌, ◌<◌, ◌≤◌, true, false, cond, eqb, ltb, List, [], ◌∷◌, ◌++◌, length, refl, sym, ap, ◌∙◌, subst, inl, inr, ◌⊎◌, arith, list_any, or_cases, or_parts, false≢true, both_ways, eqb-true, eqb-false, ltb-false, In, Within, IsAscending, before, IsOrdered, union, subset, place, add, add_holder, add_holders, add_union, add_unions, add_pairs, leading, holders, unions_at, Covers, choose, In-left, In-right, In-append, before_trans, before_none, before_length}
-use Rattle.cut_sets.proofs.SetLemmas.{subset_true, subset_from}
+use Rattle.cut_enum.proofs.Common.{◌≡◌, ℕ, ◌+◌, ◌<◌, ◌≤◌, true, false, cond, eqb, ltb, List, [], ◌∷◌, ◌++◌, length, refl, sym, ap, ◌∙◌, subst, inl, inr, ◌⊎◌, arith, list_any, or_cases, or_parts, false≢true, both_ways, eqb-true, eqb-false, ltb-false, In, Within, IsAscending, before, IsOrdered, union, subset, place, add, add_holder, add_holders, add_union, add_unions, add_pairs, leading, holders, unions_at, Covers, choose, In-left, In-right, In-append, before_trans, before_none, before_length, subset_true, subset_from}
 
 -- `place` at a cell
 pub place_at : (P : List (List ℕ) → Type 0) (c d : List ℕ) (ds : List (List ℕ)) → (before c d ≡ true → P (c ∷ d ∷ ds)) → (before d c ≡ true → P (d ∷ place c ds)) → (c ≡ d → P (d ∷ ds)) → P (place c (d ∷ ds))

@@ -12,3 +12,4 @@ mod RowLemmas
 mod LimitLemmas
 mod TableOnceLemmas
 pub mod Examples
+mod Lemmas

@@ -1,6 +1,5 @@
 -- Where a leaf goes in an ascending list.
-use Rattle.cut_enum.proofs.Common.{◌≡◌, ℕ, zero, suc, ◌<◌, ◌≤◌, List, [], ◌∷◌, length, get_or, refl, sym, ap, ◌∙◌, arith, drop, drop_more, drop_all, insert, put, union}
-use Rattle.cut_sets.proofs.SetLemmas.{put_at}
+use Rattle.cut_enum.proofs.Common.{◌≡◌, ℕ, zero, suc, ◌<◌, ◌≤◌, List, [], ◌∷◌, length, get_or, refl, sym, ap, ◌∙◌, arith, drop, drop_more, drop_all, insert, put, union, put_at}
 
 -- the place of x in a list: those before it are less, and what stands there is not
 pub record IsPlace (x : ℕ) (ys : List ℕ) (i : ℕ) : Type 0 where

@@ -1,7 +1,5 @@
 -- The bits that the words of a group share.
-use Rattle.cut_enum.proofs.Common.{◌≡◌, ℕ, suc, ◌+◌, ◌-◌, ◌*◌, ◌^◌, ◌<◌, ◌≤◌, max, min, false, ◌||◌, List, [], ◌∷◌, length, get_or, map, take, refl, sym, ap, ◌∙◌, inl, inr, arith, bit_or, bit_at, bit_and, list_any, cases_Bool, cases_lt, get_or-take, length-take, bit_at_or, bit_at_and, same_from_bits, GROUP, AllHave, AreShared, subset, signature_of, rules}
-use Rattle.cut_sets.proofs.SetLemmas.{subset_true}
-use Rattle.cut_sets.proofs.SignatureLemmas.{signature-within, outside-none}
+use Rattle.cut_enum.proofs.Common.{◌≡◌, ℕ, suc, ◌+◌, ◌-◌, ◌*◌, ◌^◌, ◌<◌, ◌≤◌, max, min, false, ◌||◌, List, [], ◌∷◌, length, get_or, map, take, refl, sym, ap, ◌∙◌, inl, inr, arith, bit_or, bit_at, bit_and, list_any, cases_Bool, cases_lt, get_or-take, length-take, bit_at_or, bit_at_and, same_from_bits, GROUP, AllHave, AreShared, subset, signature_of, rules, subset_true, signature-within, outside-none}
 
 -- a word has the bits that it shares with another
 both_had : (bits word : ℕ) → bit_or (bit_and bits word) word ≡ word

@@ -1,8 +1,7 @@
 -- What is made on the way to the cuts of a node is no longer than what is made in the end.
-use Rattle.cut_enum.proofs.Common.{◌≡◌, ℕ, ◌+◌, ◌<◌, ◌≤◌, List, [], ◌++◌, length, get_or, map, sym, ap, ◌∙◌, subst, drop, arith, length-append, bit_or, count_ones, get_or_default, union, add_holder, add_holders, add_union, add_unions, add_pairs, leading, holders, unions_at, signature_of}
+use Rattle.cut_enum.proofs.Common.{◌≡◌, ℕ, ◌+◌, ◌<◌, ◌≤◌, List, [], ◌++◌, length, get_or, map, sym, ap, ◌∙◌, subst, drop, arith, length-append, bit_or, count_ones, get_or_default, union, add_holder, add_holders, add_union, add_unions, add_pairs, leading, holders, unions_at, signature_of, union_over_bits}
 use Rattle.list_laws.proofs.Items.{drop_at}
 use Rattle.cut_enum.proofs.LevelLemmas.{length-holders, length-unions, length-pairs, union-other}
-use Rattle.cut_sets.proofs.SignatureLemmas.{union_over_bits}
 use Rattle.cut_enum.proofs.SignedLemmas.{signed_at, signed_length}
 
 longer_front : (base xs ys : List (List ℕ)) → length xs ≤ length ys → length (base ++ xs) ≤ length (base ++ ys)

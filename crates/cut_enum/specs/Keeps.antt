@@ -1,9 +1,7 @@
 -- What the fields of a cut and of lists of cuts keep.
 use Rattle.std.specs.Prelude.{◌≡◌, ℕ, ◌+◌, ◌*◌, ◌<◌, ◌≤◌, List, [], length, map, bit_or, slice_index_or}
 use Rattle.std.specs.Int.Bits.{bit_and}
-use Rattle.list_laws.specs.Members.{In}
-use Rattle.list_laws.specs.Order.{IsAscending}
-use Rattle.cut_sets.specs.Sets.{IsOrdered}
+use Rattle.cut_enum.specs.Words.{In, IsAscending, IsOrdered}
 use Rattle.cut_sets.specs.declared.limits.TheConstants.{MOST_LEAVES}
 use Rattle.cut_enum.specs.declared.limits.TheConstants.{GROUP}
 use Rattle.cut_sets.specs.Signature.{signature_of}

@@ -1,4 +1,5 @@
 -- What public clauses say.
+pub mod Words
 pub mod Table
 pub mod Limits
 pub mod Refusals

@@ -1,7 +1,6 @@
 -- When a graph has too many cuts for a table.
 use Rattle.std.specs.Prelude.{ℕ, ◌+◌, ◌<◌, ◌≤◌, List, length, sum_by}
-use Rattle.aig_core.specs.Aig.{Aig, IsAnd}
-use Rattle.cut_sets.specs.Cuts.{AreMinimal}
+use Rattle.cut_enum.specs.Words.{Aig, IsAnd, AreMinimal}
 use Rattle.cut_enum.specs.Table.{AreRows}
 use Rattle.cut_enum.specs.declared.limits.TheConstants.{MOST_OF_A_NODE, MOST_OF_A_TABLE}
 use Rattle.cut_enum.specs.declared.table.CutErr.{CutErr}

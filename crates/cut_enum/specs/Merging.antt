@@ -1,19 +1,14 @@
 -- The lists that the code makes on its way to the minimal cuts.
 use Rattle.std.specs.Prelude.{◌≡◌, ◌<◌, ◌≤◌, ℕ, zero, suc, ◌+◌, ◌-◌, ◌/◌, Bool, true, false, if◌then◌else◌, ◌==◌, nat_lt, List, [], ◌∷◌, ◌++◌, length, Option, Some, None, slice_get, slice_index_or}
 use Rattle.std.specs.List.{list_any}
-use Rattle.aig_core.specs.Aig.{Aig, first_and, IsAnd}
+use Rattle.cut_enum.specs.Words.{Aig, first_and, IsAnd, AreMinimal, In, Within, IsAscending, before, row_at}
 use Rattle.aig_core.specs.declared.lit.Kind.{Kind}
 use Rattle.aig_core.specs.declared.lit.Kind.TheVariants.{Regular, Parameter}
 use Rattle.aig_core.specs.declared.lit.Pair.{Pair}
 use Rattle.cut_enum.specs.declared.limits.TheConstants.{MOST_OF_A_NODE}
 use Rattle.cut_enum.specs.declared.table.CutErr.{CutErr}
 use Rattle.cut_enum.specs.declared.table.CutErr.TheVariants.{NodeCuts}
-use Rattle.cut_sets.specs.Cuts.{AreMinimal}
-use Rattle.list_laws.specs.Members.{In, Within}
-use Rattle.list_laws.specs.Order.{IsAscending}
-use Rattle.cut_sets.specs.Sets.{before}
 use Rattle.cut_sets.specs.Unions.{union, subset}
-use Rattle.cut_sets.specs.Rows.{row_at}
 
 -- a list in order, with one more at its place, unless it stands there
 abbrev pub place : List ℕ → List (List ℕ) → List (List ℕ)

@@ -1,7 +1,5 @@
 -- Ascending lists of which one is within another.
-use Rattle.std.proofs.Common.{◌≡◌, ℕ, ◌<◌, ◌≤◌, List, [], ◌∷◌, length, refl, ap, ◌∙◌, inl, inr, arith}
-use Rattle.list_laws.specs.Members.{In, Within}
-use Rattle.list_laws.specs.Order.{IsAscending}
+use Rattle.cut_sets.proofs.Common.{◌≡◌, ℕ, ◌<◌, ◌≤◌, List, [], ◌∷◌, length, refl, ap, ◌∙◌, inl, inr, arith, In, Within, IsAscending}
 
 -- an ascending list's head is its least
 head_least : (x : ℕ) (xs : List ℕ) (n : ℕ) → IsAscending (x ∷ xs) → In (x ∷ xs) n → x ≤ n

@@ -1,17 +1,6 @@
 -- What blocks a node can be decided, so each list that blocks it has the node itself, or a minimal cut within it.
-use Rattle.std.proofs.Common.{◌≡◌, ℕ, zero, suc, ◌-◌, ◌/◌, ◌<◌, ◌≤◌, List, [], ◌∷◌, length, get_or, Option, Some, None, refl, sym, ◌∙◌, subst, inl, inr, ◌⊎◌, arith}
-use Rattle.std.specs.List.{slice_get}
-use Rattle.std.proofs.lemmas.Option.{slice_get-get_or, same_Some, none-some}
-use Rattle.std.proofs.lemmas.Bool.{cases_lt, cases_eq}
-use Rattle.aig_core.specs.Aig.{Aig, first_and, node_count, pair_of, IsAnd, IsSource, IsNode, AreNormal}
+use Rattle.cut_sets.proofs.Common.{◌≡◌, ℕ, zero, suc, ◌-◌, ◌/◌, ◌<◌, ◌≤◌, List, [], ◌∷◌, length, get_or, Option, Some, None, refl, sym, ◌∙◌, subst, inl, inr, ◌⊎◌, arith, slice_get, slice_get-get_or, same_Some, none-some, cases_lt, cases_eq, Aig, first_and, node_count, pair_of, IsAnd, IsSource, IsNode, AreNormal, Regular, Parameter, Pair, In, Within, IsAscending, in_or, Blocks, member, constant, parameter, fan_ins, CanBeLeaf, IsCut, IsMinimal, AreMinimal, EachContainsOne, source_below, node_normal, same_pair}
 use Rattle.aig_core.specs.declared.lit.Kind.{Kind}
-use Rattle.aig_core.specs.declared.lit.Kind.TheVariants.{Regular, Parameter}
-use Rattle.aig_core.specs.declared.lit.Pair.{Pair}
-use Rattle.list_laws.specs.Members.{In, Within}
-use Rattle.list_laws.specs.Order.{IsAscending}
-use Rattle.list_laws.proofs.Members.{in_or}
-use Rattle.cut_sets.specs.Cuts.{Blocks, member, constant, parameter, fan_ins, CanBeLeaf, IsCut, IsMinimal, AreMinimal, EachContainsOne}
-use Rattle.aig_core.proofs.NodeLemmas.{source_below, node_normal, same_pair}
 use Rattle.cut_sets.proofs.AscendingLemmas.{length_within, same_within}
 
 -- a larger set blocks what a smaller one blocks

@@ -1,7 +1,5 @@
 -- The height of a cut: it grows with the cut and with the labels of its leaves.
-use Rattle.std.proofs.Common.{◌≡◌, ℕ, suc, ◌+◌, ◌<◌, ◌≤◌, List, [], ◌∷◌, refl, ap, inl, inr, arith}
-use Rattle.list_laws.specs.Members.{In, Within}
-use Rattle.cut_sets.specs.Labels.{greatest, height}
+use Rattle.cut_sets.proofs.Common.{◌≡◌, ℕ, suc, ◌+◌, ◌<◌, ◌≤◌, List, [], ◌∷◌, refl, ap, inl, inr, arith, In, Within, greatest, height}
 
 -- where every element's label is at most d, so is the greatest
 pub greatest_le : (label : ℕ → ℕ) (c : List ℕ) (d : ℕ) → ((m : ℕ) → In c m → label m ≤ d) → greatest label c ≤ d

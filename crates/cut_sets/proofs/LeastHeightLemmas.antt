@@ -1,12 +1,6 @@
 -- Least heights are least depths, there is one label for each node, and labels do not fall from a fan-in to its reader.
-use Rattle.std.proofs.Common.{◌≡◌, ℕ, zero, suc, ◌+◌, ◌<◌, ◌≤◌, List, [], Option, Some, sym, ◌∙◌, inl, inr, arith}
-use Rattle.std.proofs.lemmas.Bool.{cases_lt}
-use Rattle.aig_core.specs.Aig.{Aig, first_and, node_count, IsAnd, AreNormal}
-use Rattle.list_laws.specs.Members.{In}
+use Rattle.cut_sets.proofs.Common.{◌≡◌, ℕ, zero, suc, ◌+◌, ◌<◌, ◌≤◌, List, [], Option, Some, sym, ◌∙◌, inl, inr, arith, cases_lt, Aig, first_and, node_count, IsAnd, AreNormal, In, IsCut, height, AreLeastHeights, AreLeastDepths, IsFanIn}
 use Rattle.cut_sets.specs.Covers.{IsCover, HasDepth, source, free, table}
-use Rattle.cut_sets.specs.Cuts.{IsCut}
-use Rattle.cut_sets.specs.Labels.{height, AreLeastHeights, AreLeastDepths}
-use Rattle.cut_sets.specs.Paths.{IsFanIn}
 use Rattle.cut_sets.proofs.BlockLemmas.{cut_within}
 use Rattle.cut_sets.proofs.HeightLemmas.{height_le, height_member, height_same, height_within}
 use Rattle.cut_sets.proofs.PathLemmas.{blocked_below, fan_in_above}

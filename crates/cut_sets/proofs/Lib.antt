@@ -13,3 +13,4 @@ pub mod LeastHeightLemmas
 pub mod PickLemmas
 pub mod SpanLemmas
 mod RowLemmas
+mod Lemmas

@@ -1,9 +1,5 @@
 -- The order of lists: it is transitive, no list is before itself, and of two lists one is before the other or they are equal.
-use Rattle.std.proofs.Common.{◌≡◌, ℕ, ◌<◌, ◌≤◌, Bool, true, false, cond, ltb, eqb, List, [], ◌∷◌, length, refl, sym, ap, ◌∙◌, subst, inl, inr, ◌⊎◌, arith, rules}
-use Rattle.std.proofs.lemmas.Bool.{ltb-true, ltb-false, eqb-true, eqb-false, false≢true}
-use Rattle.list_laws.specs.Members.{In}
-use Rattle.list_laws.proofs.Choice.{choose}
-use Rattle.cut_sets.specs.Sets.{lex, before, IsOrdered}
+use Rattle.cut_sets.proofs.Common.{◌≡◌, ℕ, ◌<◌, ◌≤◌, Bool, true, false, cond, ltb, eqb, List, [], ◌∷◌, length, refl, sym, ap, ◌∙◌, subst, inl, inr, ◌⊎◌, arith, rules, ltb-true, ltb-false, eqb-true, eqb-false, false≢true, In, choose, lex, before, IsOrdered}
 
 lex_at : (P : Bool → Type 0) (x y : ℕ) (xs ys : List ℕ) → (x < y → P true) → (x ≡ y → P (lex xs ys)) → (y < x → P false) → P (lex (x ∷ xs) (y ∷ ys))
 lex_at P x y xs ys less same more = grind arith

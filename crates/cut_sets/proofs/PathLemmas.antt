@@ -1,12 +1,5 @@
 -- The nodes of a path are no higher than its end, and a set that blocks this has one of them.
-use Rattle.std.proofs.Common.{◌≡◌, ℕ, zero, suc, ◌+◌, ◌-◌, ◌/◌, ◌<◌, ◌≤◌, List, [], ◌∷◌, length, get_or, refl, sym, ap, ◌∙◌, subst, inl, inr, ◌⊎◌, arith}
-use Rattle.aig_core.specs.Aig.{Aig, first_and, IsSource, IsNode, IsNormal, AreNormal}
-use Rattle.aig_core.specs.declared.lit.Kind.TheVariants.{Regular, Parameter}
-use Rattle.aig_core.specs.declared.lit.Pair.{Pair}
-use Rattle.aig_core.proofs.NodeLemmas.{source_below, node_normal, same_pair}
-use Rattle.list_laws.specs.Members.{In}
-use Rattle.cut_sets.specs.Cuts.{Blocks, member, constant, parameter, fan_ins}
-use Rattle.cut_sets.specs.Paths.{IsFanIn, first, second, Climbs, IsPath}
+use Rattle.cut_sets.proofs.Common.{◌≡◌, ℕ, zero, suc, ◌+◌, ◌-◌, ◌/◌, ◌<◌, ◌≤◌, List, [], ◌∷◌, length, get_or, refl, sym, ap, ◌∙◌, subst, inl, inr, ◌⊎◌, arith, Aig, first_and, IsSource, IsNode, IsNormal, AreNormal, Regular, Parameter, Pair, source_below, node_normal, same_pair, In, Blocks, member, constant, parameter, fan_ins, IsFanIn, first, second, Climbs, IsPath}
 use Rattle.cut_sets.proofs.BlockLemmas.{regular_blocked}
 
 -- a node with a fan-in has a pair

@@ -1,15 +1,7 @@
 -- Paths to a node that share no low node: each of its cuts has a leaf on each of them, and a low leaf is on one path only. So more paths
 -- than a cut may have leaves mean that no cut of the node is low.
-use Rattle.std.proofs.Common.{◌≡◌, ℕ, suc, ◌+◌, ◌<◌, ◌≤◌, List, [], ◌∷◌, Some, length, refl, sym, subst, inl, inr, arith}
-use Rattle.std.specs.List.{slice_get}
-use Rattle.std.proofs.lemmas.Bool.{cases_lt}
-use Rattle.aig_core.specs.Aig.{Aig}
-use Rattle.list_laws.specs.Members.{In}
+use Rattle.cut_sets.proofs.Common.{◌≡◌, ℕ, suc, ◌+◌, ◌<◌, ◌≤◌, List, [], ◌∷◌, Some, length, refl, sym, subst, inl, inr, arith, slice_get, cases_lt, Aig, In, place_in, Blocks, IsCut, height, IsPath, ArePathsTo}
 use Rattle.list_laws.proofs.Apart.{AreApart, apart_short}
-use Rattle.list_laws.proofs.Members.{place_in}
-use Rattle.cut_sets.specs.Cuts.{Blocks, IsCut}
-use Rattle.cut_sets.specs.Labels.{height}
-use Rattle.cut_sets.specs.Paths.{IsPath, ArePathsTo}
 use Rattle.cut_sets.proofs.HeightLemmas.{height_member}
 use Rattle.cut_sets.proofs.PathLemmas.{Meets, path_meets}
 

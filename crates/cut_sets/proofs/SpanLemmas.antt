@@ -1,7 +1,5 @@
 -- Reading a part, and putting one more at the end.
-use Rattle.std.proofs.Common.{◌≡◌, ℕ, zero, suc, ◌+◌, ◌<◌, ◌≤◌, List, [], ◌∷◌, ◌++◌, length, get_or, slice_range, refl, sym, ap, ◌∙◌, arith, length-drop}
-use Rattle.std.proofs.lemmas.List.{take-append-le, drop-append-le, drop_all, take_all, get_or_read}
-use Rattle.cut_sets.specs.Spans.{parts_from, parts_of, RisesTo, StartsTo}
+use Rattle.cut_sets.proofs.Common.{◌≡◌, ℕ, zero, suc, ◌+◌, ◌<◌, ◌≤◌, List, [], ◌∷◌, ◌++◌, length, get_or, slice_range, refl, sym, ap, ◌∙◌, arith, length-drop, take-append-le, drop-append-le, drop_all, take_all, get_or_read, parts_from, parts_of, RisesTo, StartsTo}
 
 pub rises_le : (last start : ℕ) (ends : List ℕ) → RisesTo last start ends → start ≤ last
 rises_le last start [] r = omega arith

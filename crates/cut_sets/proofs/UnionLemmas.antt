@@ -1,6 +1,5 @@
 -- The union that the code makes is the union of the two lists, of which there is one.
-use Rattle.cut_sets.proofs.Common.{◌≡◌, ℕ, ◌<◌, ◌≤◌, List, length, Option, Some, None, MatchOption, IfSome, IfNone, sym, subst, inl, inr, Within, IsAscending, union}
-use Rattle.cut_sets.specs.Unions.{IsUnion}
+use Rattle.cut_sets.proofs.Common.{◌≡◌, ℕ, ◌<◌, ◌≤◌, List, length, Option, Some, None, MatchOption, IfSome, IfNone, sym, subst, inl, inr, Within, IsAscending, union, IsUnion}
 use Rattle.cut_sets.proofs.SetLemmas.{In-union, union_left, union_right, IsAscending-union}
 
 pub IsUnion-union : (a b : List ℕ) → IsAscending b → IsUnion a b (union a b)

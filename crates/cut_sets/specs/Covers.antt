@@ -1,8 +1,6 @@
 -- Covers of a graph by cuts, their depth, and the least depth of any cover.
 use Rattle.std.specs.Prelude.{◌≡◌, ℕ, suc, ◌/◌, ◌%◌, ◌<◌, ◌≤◌, List, [], Option, Some, IsSome}
-use Rattle.aig_core.specs.Aig.{Aig, first_and, IsAnd, IsSource}
-use Rattle.aig_core.specs.declared.lit.Kind.TheVariants.{Regular}
-use Rattle.list_laws.specs.Members.{In}
+use Rattle.cut_sets.specs.Words.{Aig, first_and, IsAnd, IsSource, Regular, In}
 use Rattle.cut_sets.specs.Cuts.{IsCut}
 
 -- A cover assigns cuts to AND nodes, and has every AND node of a root and every AND leaf of its cuts.

@@ -1,12 +1,7 @@
 -- The cuts of a node: what blocks it, and which of these are minimal.
 use Rattle.std.specs.Prelude.{◌≡◌, ℕ, ◌/◌, ◌<◌, ◌≤◌, List, length, ◌⊎◌}
-use Rattle.aig_core.specs.Aig.{Aig, IsAnd}
-use Rattle.aig_core.specs.declared.lit.Kind.TheVariants.{Regular, Parameter}
-use Rattle.aig_core.specs.declared.lit.Pair.{Pair}
-use Rattle.list_laws.specs.Members.{In, Within}
-use Rattle.list_laws.specs.Order.{IsAscending}
+use Rattle.cut_sets.specs.Words.{Aig, IsAnd, Regular, Parameter, Pair, In, Within, IsAscending, IsSource, IsNode}
 use Rattle.cut_sets.specs.Sets.{IsOrdered}
-use Rattle.aig_core.specs.Aig.{IsSource, IsNode}
 
 -- A set blocks a node when the node is in it, or is the constant or a parameter, or both fan-ins are blocked.
 pub data Blocks (g : Aig) (c : List ℕ) : ℕ → Type 0 where

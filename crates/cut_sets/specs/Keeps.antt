@@ -1,7 +1,6 @@
 -- What the fields of a cut, and of rows of cuts, keep.
 use Rattle.std.specs.Prelude.{◌≡◌, ℕ, ◌≤◌, List, length, map, take, sum_by, slice_index_or}
-use Rattle.list_laws.specs.Members.{In}
-use Rattle.list_laws.specs.Order.{IsAscending}
+use Rattle.cut_sets.specs.Words.{In, IsAscending}
 use Rattle.cut_sets.specs.declared.limits.TheConstants.{MOST_LEAVES, MOST_CUTS}
 use Rattle.cut_sets.specs.Signature.{signature_of}
 use Rattle.cut_sets.specs.Spans.{parts_of, StartsTo}

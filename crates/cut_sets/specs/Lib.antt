@@ -1,4 +1,5 @@
 -- What public clauses say.
+pub mod Words
 pub mod Cuts
 pub mod Sets
 pub mod Covers

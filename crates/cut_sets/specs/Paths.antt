@@ -1,9 +1,6 @@
 -- Paths of a graph, from a regular source up to a node.
 use Rattle.std.specs.Prelude.{◌≡◌, ◌≢◌, ℕ, ◌+◌, ◌/◌, ◌<◌, ◌≤◌, List, [], ◌∷◌, Some, slice_get}
-use Rattle.aig_core.specs.Aig.{Aig, IsNode, IsSource}
-use Rattle.aig_core.specs.declared.lit.Kind.TheVariants.{Regular}
-use Rattle.aig_core.specs.declared.lit.Pair.{Pair}
-use Rattle.list_laws.specs.Members.{In}
+use Rattle.cut_sets.specs.Words.{Aig, IsNode, IsSource, Regular, Pair, In}
 
 -- m is one of the two fan-in nodes of n
 pub data IsFanIn (g : Aig) (m n : ℕ) : Type 0 where

@@ -1,8 +1,7 @@
 -- The union of two ascending lists.
 use Rattle.std.specs.Prelude.{ℕ, Bool, if◌then◌else◌, ◌==◌, nat_lt, List, [], ◌∷◌, ◌⊎◌}
 use Rattle.std.specs.List.{list_any, list_all}
-use Rattle.list_laws.specs.Members.{In, Within}
-use Rattle.list_laws.specs.Order.{IsAscending}
+use Rattle.cut_sets.specs.Words.{In, Within, IsAscending}
 
 -- an ascending list with one more element
 abbrev pub put : ℕ → List ℕ → List ℕ

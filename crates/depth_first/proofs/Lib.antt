@@ -12,3 +12,4 @@ mod BackLemmas
 mod PathLemmas
 pub mod FallLemmas
 mod Examples
+mod Lemmas

@@ -15,7 +15,7 @@ pub use Rattle.list_laws.proofs.Members.{In-get_or}
 pub use Rattle.list_laws.specs.Members.{In}
 pub use Rattle.ppc_pack.specs.Pack.{PackValue, IsPack}
 pub use Rattle.dirty_idx.specs.Layers.{word_at, AreTold, bit_above, IsClimbed, IsSomeOnTheWay, IsNoneOnTheWay, IsRetold}
-pub use Rattle.dirty_idx.specs.Listed.{readers_in, count_below, AreCounted, AreSummed, lists_of, AreOf, AreFilled, node_readings, bit_readings}
+pub use Rattle.dirty_idx.specs.Listed.{readers_in, count_below, AreCounted, AreSummed, lists_of, AreOf, AreFilled, node_readings, bit_readings, parts_of, AreParts}
 pub use Rattle.dirty_idx.specs.Marks.{is_marked, IsLeast, IsEmpty, without}
 pub use Rattle.dirty_idx.specs.Readers.{Reads, IsLitOf, AreAll, AreReaders, ReadersValue, nodes_of, addresses_of}
 pub use Rattle.dirty_idx.specs.declared.lists.Reading.{Reading}

@@ -4,3 +4,4 @@ mod LayerLemmas
 mod MarkLemmas
 mod Examples
 pub mod ReadLemmas
+mod Lemmas

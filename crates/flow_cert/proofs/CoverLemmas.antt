@@ -1,8 +1,6 @@
 -- A cut of the label's height for every AND node is a cover, in which each node has its label as its depth.
-use Rattle.flow_cert.proofs.Common.{◌≡◌, ℕ, zero, suc, ◌+◌, ◌-◌, ◌/◌, ◌^◌, ◌<◌, ◌≤◌, List, [], ◌∷◌, Option, Some, None, IsSome, refl, subst, inl, inr, ◌⊎◌, arith, cases_lt, none-some, same_Some, Aig, first_and, node_count, IsAnd, In, IsCut, height, AreLeastHeights, rules}
+use Rattle.flow_cert.proofs.Common.{◌≡◌, ℕ, zero, suc, ◌+◌, ◌-◌, ◌/◌, ◌^◌, ◌<◌, ◌≤◌, List, [], ◌∷◌, Option, Some, None, IsSome, refl, subst, inl, inr, ◌⊎◌, arith, cases_lt, none-some, same_Some, Aig, first_and, node_count, IsAnd, In, IsCut, height, AreLeastHeights, rules, height_le, height_member, least_depths}
 use Rattle.cut_sets.specs.Covers.{IsCover, HasDepth, source, free, table, IsLeastDepth}
-use Rattle.cut_sets.proofs.HeightLemmas.{height_le, height_member}
-use Rattle.cut_sets.proofs.LeastHeightLemmas.{least_depths}
 use Rattle.flow_cert.specs.Target.{IsTarget, nothing, node, complemented}
 use Rattle.flow_cert.proofs.TargetLemmas.{first_in}
 

@@ -1,10 +1,6 @@
 -- What labels that are least heights tell of the nodes.
-use Rattle.flow_cert.proofs.Common.{◌≡◌, ℕ, ◌+◌, ◌/◌, ◌<◌, ◌≤◌, List, [], ◌∷◌, ◌++◌, length, map, reverse, Some, refl, sym, ap, ◌∙◌, subst, inl, inr, eqb, eqb-false, arith, cases_lt, choose, reverse-append, slice_get, In, In-map, Aig, first_and, node_count, IsAnd, IsNode, AreNormal, Pair, fan_ins, Blocks, IsCut, height, AreLeastHeights, IsFanIn, first, second, ArePathsTo, IsLive, AreKnownTo, PathValue, path_count, IsDownTo, AreShowing, rules}
-use Rattle.std.proofs.lemmas.List.{length-map}
-use Rattle.std.proofs.lemmas.Option.{slice_get-map}
+use Rattle.flow_cert.proofs.Common.{◌≡◌, ℕ, ◌+◌, ◌/◌, ◌<◌, ◌≤◌, List, [], ◌∷◌, ◌++◌, length, map, reverse, Some, refl, sym, ap, ◌∙◌, subst, inl, inr, eqb, eqb-false, arith, cases_lt, choose, reverse-append, slice_get, In, In-map, Aig, first_and, node_count, IsAnd, IsNode, AreNormal, Pair, fan_ins, Blocks, IsCut, height, AreLeastHeights, IsFanIn, first, second, ArePathsTo, IsLive, AreKnownTo, PathValue, path_count, IsDownTo, AreShowing, rules, length-map, slice_get-map, height_none, label_rises}
 use Rattle.std.specs.Option.{option_map}
-use Rattle.cut_sets.proofs.HeightLemmas.{height_none}
-use Rattle.cut_sets.proofs.LeastHeightLemmas.{label_rises}
 use Rattle.flow_cert.proofs.GraphLemmas.{fan_in_below, free_or_live}
 
 module _ (g : Aig) (k : ℕ) (label : ℕ → ℕ) (are : AreLeastHeights g k label) where

@@ -1,4 +1,5 @@
 -- What public clauses say.
+pub mod Words
 pub mod Needed
 -- What only bodies are compared with.
 pub mod Marks

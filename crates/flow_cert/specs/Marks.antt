@@ -1,8 +1,7 @@
 -- The marks of the nodes that are on two paths of a step, path by path. A node that was met has the place after the one of the
 -- first path in which it stands.
 use Rattle.std.specs.Prelude.{◌≡◌, ℕ, ◌-◌, ◌<◌, ◌≤◌, Bool, true, false, List, length, Some, slice_get, slice_index, slice_index_or, slice_set, ◌+◌, ◌≢◌, ◌⊎◌}
-use Rattle.list_laws.specs.Members.{In}
-use Rattle.cert_check.specs.CertificateValue.{PathValue, StepValue}
+use Rattle.flow_cert.specs.Words.{In, PathValue, StepValue}
 use Rattle.flow_cert.specs.Needed.{IsShared}
 
 -- the mark of a node

@@ -1,9 +1,6 @@
 -- What a made certificate keeps beside that it is valid: its claims are the labels, and it claims exactly the nodes whose claims are needed.
 use Rattle.std.specs.Prelude.{◌≡◌, ◌⊎◌, ℕ, ◌/◌, ◌<◌, ◌≤◌, List, [], ◌∷◌, Some, slice_get}
-use Rattle.aig_core.specs.Aig.{Aig, IsAnd}
-use Rattle.list_laws.specs.Members.{In}
-use Rattle.cert_check.specs.CertificateValue.{PathValue, StepValue, CertificateValue}
-use Rattle.cert_check.specs.Valid.{Needs}
+use Rattle.flow_cert.specs.Words.{Aig, IsAnd, In, PathValue, StepValue, CertificateValue, Needs}
 
 -- each step claims its node's label
 pub record AreLabelClaims (label : ℕ → ℕ) (c : CertificateValue) : Type 0 where

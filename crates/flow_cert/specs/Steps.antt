@@ -1,13 +1,10 @@
 -- The steps of the needed nodes, from above.
 use Rattle.std.specs.Prelude.{◌≡◌, ℕ, ◌≤◌, Bool, true, List, length, map, ◌⊎◌, ◌+◌, ◌<◌, ◌≢◌, ◌∷◌, Some, reverse, slice_get}
-use Rattle.aig_core.specs.Aig.{Aig, node_count, IsAnd}
-use Rattle.list_laws.specs.Members.{In}
+use Rattle.flow_cert.specs.Words.{Aig, node_count, IsAnd, In, StepValue, PathValue, IsJustified}
 use Rattle.list_laws.specs.Order.{IsAscending, IsDescending}
-use Rattle.cert_check.specs.CertificateValue.{StepValue, PathValue}
 use Rattle.flow_cert.specs.Marks.{mark}
 use Rattle.flow_cert.specs.Needed.{IsShared, HasStep}
 use Rattle.cut_sets.specs.Paths.{Climbs, IsPath}
-use Rattle.cert_check.specs.Valid.{IsJustified}
 
 -- from v the nodes of the list, read backwards, go up to n
 pub record IsDownTo (g : Aig) (n v : ℕ) (nodes : List ℕ) : Type 0 where

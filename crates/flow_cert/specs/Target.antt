@@ -1,8 +1,7 @@
 -- The depth of some roots, and the node where their certificate begins.
 use Rattle.std.specs.Prelude.{◌≡◌, ℕ, ◌/◌, ◌%◌, ◌<◌, ◌≤◌, List, ◌⊎◌}
-use Rattle.aig_core.specs.Aig.{Aig, IsAnd, IsSource}
+use Rattle.flow_cert.specs.Words.{Aig, IsAnd, IsSource, In}
 use Rattle.aig_core.specs.declared.lit.Kind.TheVariants.{Regular}
-use Rattle.list_laws.specs.Members.{In}
 use Rattle.flow_cert.specs.Needed.{IsFirstToNeed}
 
 -- r is the depth that a root needs

@@ -1,16 +1,6 @@
 -- What blocks a node: the ends do, and so does what a blocked search has met and not passed, which is no more than there are paths.
-use Rattle.flow_label.proofs.Common.{◌≡◌, ℕ, zero, suc, cond, ltb, choose, take, slice_get-get_or, ◌+◌, ◌<◌, ◌≤◌, Bool, true, false, List, [], ◌∷◌, ◌++◌, length, get_or, map, refl, sym, ap, ◌∙◌, subst, inl, inr, eqb, arith, length-append, eqb-true, eqb-false, cases_lt, cases_Bool, source_below, Regular, IsAnd, In, Within, IsAscending, Blocks, member, AreApart, joined_apart, apart_short, In-append, In-map, In-place, from_map, union, ascending_of, unmarked, IsLowCut, FlowNet, IsInner, IsUpper, IsEnd, IsNet, AreEnds, IsChoice, HasChosen, IsLinked, IsHandedOn, AreMet, ArePassed, SiteValue, net_of, owner_in, AreLinks, IsBlocked, label_at, rules}
-use Rattle.std.proofs.Common.{append-nil, drop, not}
-use Rattle.std.proofs.lemmas.Bool.{not-true}
-use Rattle.std.proofs.lemmas.List.{length-map}
+use Rattle.flow_label.proofs.Common.{◌≡◌, ℕ, zero, suc, cond, ltb, choose, take, slice_get-get_or, ◌+◌, ◌<◌, ◌≤◌, Bool, true, false, List, [], ◌∷◌, ◌++◌, length, get_or, map, refl, sym, ap, ◌∙◌, subst, inl, inr, eqb, arith, length-append, eqb-true, eqb-false, cases_lt, cases_Bool, source_below, Regular, IsAnd, In, Within, IsAscending, Blocks, member, AreApart, joined_apart, apart_short, In-append, In-map, In-place, from_map, union, ascending_of, unmarked, IsLowCut, FlowNet, IsInner, IsUpper, IsEnd, IsNet, AreEnds, IsChoice, HasChosen, IsLinked, IsHandedOn, AreMet, ArePassed, SiteValue, net_of, owner_in, AreLinks, IsBlocked, label_at, rules, append-nil, drop, not, not-true, length-map, length-filter_both, filter, filtered_apart, In-filter, in_filter, drop_get, drop_past, put, In-union, union_left, IsAscending-union}
 use Rattle.std.proofs.lemmas.List.Elements.{filter_more}
-use Rattle.std.proofs.lemmas.List.Filters.{length-filter_both}
-use Rattle.std.specs.Prelude.{filter}
-use Rattle.list_laws.proofs.Apart.{filtered_apart}
-use Rattle.list_laws.proofs.Members.{In-filter, in_filter}
-use Rattle.list_laws.proofs.Places.{drop_get, drop_past}
-use Rattle.cut_sets.specs.Unions.{put}
-use Rattle.cut_sets.proofs.SetLemmas.{In-union, union_left, IsAscending-union}
 use Rattle.flow_label.proofs.OnceLemmas.{ascending_apart}
 use Rattle.flow_label.proofs.GraphLemmas.{blocks_by_live, fan_in_below, live_pos, live_leaf}
 use Rattle.flow_label.proofs.LinkLemmas.{inner_pos}

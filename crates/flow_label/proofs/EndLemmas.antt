@@ -1,8 +1,5 @@
 -- The ends of a net, as the definition of low cuts has them.
-use Rattle.flow_label.proofs.Common.{◌≡◌, ℕ, zero, suc, ◌+◌, ◌-◌, ◌<◌, ◌≤◌, List, [], length, subst, inl, inr, arith, ascending_of, FlowNet, IsUpper, IsEnd, IsNet, AreEnds}
-use Rattle.cut_sets.proofs.SetLemmas.{In-union, union_left, IsAscending-union}
-use Rattle.flow_label.specs.LowCuts.{IsFlowCut, by_walk, by_search}
-use Rattle.flow_label.specs.Lows.{IsDeep, top, down, IsEndOf, AreEndsOf, IsNearest}
+use Rattle.flow_label.proofs.Common.{◌≡◌, ℕ, zero, suc, ◌+◌, ◌-◌, ◌<◌, ◌≤◌, List, [], length, subst, inl, inr, arith, ascending_of, FlowNet, IsUpper, IsEnd, IsNet, AreEnds, In-union, union_left, IsAscending-union, IsFlowCut, by_walk, by_search, IsDeep, top, down, IsEndOf, AreEndsOf, IsNearest}
 use Rattle.flow_label.proofs.GraphLemmas.{fan_in_below}
 
 module _ (net : FlowNet) (is : IsNet net) (p : ℕ) (at : net.height ≡ p + 1) where

@@ -1,6 +1,5 @@
 -- A search from one end after another.
-use Rattle.flow_label.proofs.Common.{◌≡◌, ℕ, ◌+◌, ◌-◌, ◌*◌, ◌<◌, ◌≤◌, Bool, true, false, List, [], ◌∷◌, ◌++◌, length, get_or, refl, sym, subst, inl, inr, arith, In, In-place, apart_short, SiteValue, net_of, IsNet, IsEnd, AreEnds, AreLinks, owner_in, IsHandedOn, AreMet, IsFound, IsBlocked, IsSearching}
-use Rattle.flow_label.specs.Search.{HasMet}
+use Rattle.flow_label.proofs.Common.{◌≡◌, ℕ, ◌+◌, ◌-◌, ◌*◌, ◌<◌, ◌≤◌, Bool, true, false, List, [], ◌∷◌, ◌++◌, length, get_or, refl, sym, subst, inl, inr, arith, In, In-place, apart_short, SiteValue, net_of, IsNet, IsEnd, AreEnds, AreLinks, owner_in, IsHandedOn, AreMet, IsFound, IsBlocked, IsSearching, HasMet}
 use Rattle.flow_label.proofs.SearchLemmas.{IsAfter, goes_on, comes_last, comes_end, end_node, end_live, met_extends, met_short}
 use Rattle.flow_label.proofs.HandLemmas.{found_last}
 

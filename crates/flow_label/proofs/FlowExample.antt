@@ -3,8 +3,7 @@
 --
 -- Sources 1 to 4 are regular, 5 and 6 are parameters. 7 and 8 are products of 1 and 2, and of 3 and 4. With each parameter there is a
 -- product of 7, one of 8, and the product of both: 9, 10, 11 and 12, 13, 14. 15 is the product of 11 and 14.
-use Rattle.flow_label.proofs.Common.{◌≡◌, ℕ, zero, suc, ◌+◌, ◌<◌, ◌≤◌, List, [], ◌∷◌, refl, sym, subst, inl, inr, ◌⊎◌, arith, Some, none-some, same_Some, slice_get, ◌-◌, ◌*◌, CanBeLeaf, Aig, IsSource, IsNode, Regular, Parameter, Pair, In, Blocks, member, parameter, fan_ins, IsFanIn, first, second, IsPath, label_at, IsLowCut, IsHigh}
-use Rattle.cut_sets.proofs.PickLemmas.{paths_high}
+use Rattle.flow_label.proofs.Common.{◌≡◌, ℕ, zero, suc, ◌+◌, ◌<◌, ◌≤◌, List, [], ◌∷◌, refl, sym, subst, inl, inr, ◌⊎◌, arith, Some, none-some, same_Some, slice_get, ◌-◌, ◌*◌, CanBeLeaf, Aig, IsSource, IsNode, Regular, Parameter, Pair, In, Blocks, member, parameter, fan_ins, IsFanIn, first, second, IsPath, label_at, IsLowCut, IsHigh, paths_high}
 
 abbrev and : ℕ → ℕ → Pair
 and x y = record { x = record { 0 = 2 * x }; y = record { 0 = 2 * y } }

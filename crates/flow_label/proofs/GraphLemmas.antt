@@ -1,9 +1,8 @@
 -- Fan-ins of a graph.
-use Rattle.flow_label.proofs.Common.{◌≡◌, ℕ, ◌-◌, ◌/◌, ◌<◌, ◌≤◌, List, [], ◌∷◌, ◌++◌, length, get_or, Some, refl, sym, subst, inl, inr, ◌⊎◌, arith, slice_get_within, slice_get-get_or, cases_eq, cases_lt, slice_get, Aig, first_and, node_count, IsAnd, IsNode, IsSource, AreNormal, Regular, Parameter, Pair, node_at, source_below, In, Blocks, constant, parameter, fan_ins, CanBeLeaf, IsLive, AreKnownTo, IsFanIn, first, second, Climbs, IsPath}
+use Rattle.flow_label.proofs.Common.{◌≡◌, ℕ, ◌-◌, ◌/◌, ◌<◌, ◌≤◌, List, [], ◌∷◌, ◌++◌, length, get_or, Some, refl, sym, subst, inl, inr, ◌⊎◌, arith, slice_get_within, slice_get-get_or, cases_eq, cases_lt, slice_get, Aig, first_and, node_count, IsAnd, IsNode, IsSource, AreNormal, Regular, Parameter, Pair, node_at, source_below, In, Blocks, constant, parameter, fan_ins, CanBeLeaf, IsLive, AreKnownTo, IsFanIn, first, second, Climbs, IsPath, Blocks-within}
 use Rattle.aig_core.specs.declared.lit.Kind.{Kind}
-pub use Rattle.cut_sets.proofs.PathLemmas.{fan_in_below, path_below, blocked_below}
+pub use Rattle.cut_sets.proofs.PathLemmas.{fan_in_below, blocked_below}
 pub use Rattle.cut_sets.proofs.PathLemmas.{fan_in_cases}
-use Rattle.cut_sets.proofs.BlockLemmas.{Blocks-within}
 
 node_and : (g : Aig) (p : Pair) (n : ℕ) → IsNode g p n → IsAnd g n
 node_and g p n is = let l : n - first_and g < length g.pairs = slice_get_within g.pairs (n - first_and g) p is.is in let a : first_and g ≤ n = is.above in (a, omega arith)

@@ -1,6 +1,5 @@
 -- The node of an open place is handed on: its owner and the fan-ins of the owner are met.
-use Rattle.flow_label.proofs.Common.{◌≡◌, ℕ, ◌+◌, ◌<◌, ◌≤◌, ◌^◌, Bool, true, false, List, [], ◌∷◌, length, get_or, get_or_read, get_or-set_same, set, refl, sym, ap, ◌∙◌, subst, inl, inr, ◌⊎◌, arith, node_count, In, IsLive, IsFanIn, FlowNet, SiteValue, net_of, IsNet, IsInner, IsChoice, IsHandedOn, AreLinks, owner_in, AreMet, IsFound, IsSearching, Extends}
-use Rattle.flow_label.specs.Search.{HasMet}
+use Rattle.flow_label.proofs.Common.{◌≡◌, ℕ, ◌+◌, ◌<◌, ◌≤◌, ◌^◌, Bool, true, false, List, [], ◌∷◌, length, get_or, get_or_read, get_or-set_same, set, refl, sym, ap, ◌∙◌, subst, inl, inr, ◌⊎◌, arith, node_count, In, IsLive, IsFanIn, FlowNet, SiteValue, net_of, IsNet, IsInner, IsChoice, IsHandedOn, AreLinks, owner_in, AreMet, IsFound, IsSearching, Extends, HasMet}
 use Rattle.flow_label.proofs.SearchLemmas.{IsAfter, IsLast, goes_on, comes_last, comes_choice, choice_node, marked, closed, met_short, met_size, met_extends, met_lengths, owned_inner, extends_twice}
 
 module _ (net : FlowNet) (owner : ℕ → ℕ) (is : IsNet net) (place a : ℕ) (inner : IsInner net a) where

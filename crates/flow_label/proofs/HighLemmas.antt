@@ -1,7 +1,5 @@
 -- K + 1 paths of a matching show that no cut of at most K leaves is low.
-use Rattle.flow_label.proofs.Common.{◌≡◌, ℕ, zero, suc, ◌+◌, ◌<◌, ◌≤◌, List, [], ◌∷◌, length, get_or, refl, subst, inl, inr, arith, cases_eq, IsSource, Regular, In, FlowNet, IsNet, SiteValue, net_of, IsLinked, next_of, IsWayTo, AreWays, owner_in, AreLinks, IsHigh, label_at, slice_get, Some, same_Some, none-some, ◌++◌}
-use Rattle.cut_sets.specs.Paths.{ArePathsTo}
-use Rattle.cut_sets.proofs.PickLemmas.{paths_high}
+use Rattle.flow_label.proofs.Common.{◌≡◌, ℕ, zero, suc, ◌+◌, ◌<◌, ◌≤◌, List, [], ◌∷◌, length, get_or, refl, subst, inl, inr, arith, cases_eq, IsSource, Regular, In, FlowNet, IsNet, SiteValue, net_of, IsLinked, next_of, IsWayTo, AreWays, owner_in, AreLinks, IsHigh, label_at, slice_get, Some, same_Some, none-some, ◌++◌, ArePathsTo, paths_high}
 use Rattle.flow_label.proofs.GraphLemmas.{fan_in_below}
 use Rattle.flow_label.proofs.WayLemmas.{way_start, way_push, on_below, next_above, ways_share, ways_paths}
 

@@ -1,11 +1,5 @@
 -- Labels and low cuts, node by node, are least heights in the end.
-use Rattle.flow_label.proofs.Common.{◌≡◌, ℕ, ◌+◌, ◌<◌, ◌≤◌, List, [], ◌∷◌, ◌++◌, length, get_or, refl, sym, ◌∙◌, subst, inl, inr, ◌⊎◌, arith, cases_lt, length-append, get_or_push, get_or_past, get_or-append, Aig, first_and, node_count, IsAnd, In, height, label_at, rules}
-use Rattle.std.proofs.lemmas.Bool.{cases_order}
-use Rattle.cut_sets.specs.Labels.{AreLeastHeights}
-use Rattle.cut_sets.proofs.HeightLemmas.{height_same, height_bound}
-use Rattle.cut_sets.proofs.LeastHeightLemmas.{least_heights_once}
-use Rattle.flow_label.specs.Labelled.{IsLabelled, AreLabelledTo}
-use Rattle.flow_label.specs.Value.{FlowValue, label_of, low_cut_of, AreLowCuts, HasOneLabelling}
+use Rattle.flow_label.proofs.Common.{◌≡◌, ℕ, ◌+◌, ◌<◌, ◌≤◌, List, [], ◌∷◌, ◌++◌, length, get_or, refl, sym, ◌∙◌, subst, inl, inr, ◌⊎◌, arith, cases_lt, length-append, get_or_push, get_or_past, get_or-append, Aig, first_and, node_count, IsAnd, In, height, label_at, rules, cases_order, AreLeastHeights, height_same, height_bound, least_heights_once, IsLabelled, AreLabelledTo, FlowValue, label_of, low_cut_of, AreLowCuts, HasOneLabelling}
 
 -- no nodes
 pub labelled_none : (g : Aig) (k : ℕ) → AreLabelledTo g k 0 (record { labels = []; cuts = [] })

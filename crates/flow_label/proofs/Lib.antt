@@ -20,3 +20,4 @@ mod LowOnceLemmas
 mod LowSameLemmas
 mod LowLemmas
 mod FlowExample
+mod Lemmas

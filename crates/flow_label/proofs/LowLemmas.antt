@@ -1,11 +1,6 @@
 -- The low cuts, node by node, are those of the definition in the end.
-use Rattle.flow_label.proofs.Common.{◌≡◌, ℕ, ◌+◌, ◌<◌, ◌≤◌, List, [], ◌∷◌, ◌++◌, length, refl, sym, ◌∙◌, subst, inl, inr, ◌⊎◌, arith, cases_lt, length-append, get_or_push, get_or_past, get_or-append, Aig, AreNormal, first_and, node_count, IsAnd, first, label_at, rules}
-use Rattle.std.proofs.lemmas.Bool.{cases_order}
-use Rattle.flow_label.specs.Labelled.{AreLabelledTo}
-use Rattle.flow_label.specs.LowCuts.{by_walk, by_search, by_join, by_flow, IsLowWith, by_fan_ins, by_lower, HasLowWith, AreLowsTo}
+use Rattle.flow_label.proofs.Common.{◌≡◌, ℕ, ◌+◌, ◌<◌, ◌≤◌, List, [], ◌∷◌, ◌++◌, length, refl, sym, ◌∙◌, subst, inl, inr, ◌⊎◌, arith, cases_lt, length-append, get_or_push, get_or_past, get_or-append, Aig, AreNormal, first_and, node_count, IsAnd, first, label_at, rules, cases_order, AreLabelledTo, by_walk, by_search, by_join, by_flow, IsLowWith, by_fan_ins, by_lower, HasLowWith, AreLowsTo, low_at, FlowValue, label_of, low_cut_of}
 use Rattle.flow_label.specs.Lows.{IsLowOf, fan_ins, joined, ends, nearest, AreLowsOf}
-use Rattle.flow_label.specs.Parts.{low_at}
-use Rattle.flow_label.specs.Value.{FlowValue, label_of, low_cut_of}
 use Rattle.flow_label.proofs.GraphLemmas.{reader_and}
 use Rattle.flow_label.proofs.LowSameLemmas.{AgreeBelow, has_same}
 

@@ -1,9 +1,6 @@
 -- A graph has one low cut for each node.
-use Rattle.flow_label.proofs.Common.{◌≡◌, ℕ, zero, suc, ◌+◌, ◌/◌, ◌<◌, ◌≤◌, List, length, refl, sym, ◌∙◌, subst, inl, inr, arith, cases_lt, ap, max, Aig, AreNormal, first_and, node_count, IsAnd, Pair, first, second, union}
+use Rattle.flow_label.proofs.Common.{◌≡◌, ℕ, zero, suc, ◌+◌, ◌/◌, ◌<◌, ◌≤◌, List, length, refl, sym, ◌∙◌, subst, inl, inr, arith, cases_lt, ap, max, Aig, AreNormal, first_and, node_count, IsAnd, Pair, first, second, union, same_pair, same_within, least_heights_once}
 use Rattle.std.proofs.Math.Path.{fun_ext}
-use Rattle.aig_core.proofs.NodeLemmas.{same_pair}
-use Rattle.cut_sets.proofs.AscendingLemmas.{same_within}
-use Rattle.cut_sets.proofs.LeastHeightLemmas.{least_heights_once}
 use Rattle.flow_label.specs.Lows.{AreEndsOf, IsJoin, IsLowOf, fan_ins, joined, ends, nearest, AreLowsOf, HasOneLow, HasLow}
 use Rattle.flow_label.specs.Parts.{IsOwnPart, live, free, IsLowPart, own, low, IsGreatest, IsFanInCut}
 use Rattle.flow_label.proofs.GraphLemmas.{fan_in_below}

@@ -1,7 +1,5 @@
 -- Which low cut a node has depends on the labels and low cuts below it alone.
-use Rattle.flow_label.proofs.Common.{◌≡◌, ℕ, ◌+◌, ◌/◌, ◌<◌, ◌≤◌, List, refl, sym, ◌∙◌, subst, inl, inr, arith, max, Aig, AreNormal, first_and, first, second, IsLive, IsLowCut}
-use Rattle.flow_label.specs.LowCuts.{IsFlowCut, by_walk, by_search, IsLowerCut, by_join, by_flow, IsLowWith, by_fan_ins, by_lower, HasLowWith}
-use Rattle.flow_label.specs.Lows.{IsDeep, top, down, IsEndOf, AreEndsOf, IsJoin, IsNearest}
+use Rattle.flow_label.proofs.Common.{◌≡◌, ℕ, ◌+◌, ◌/◌, ◌<◌, ◌≤◌, List, refl, sym, ◌∙◌, subst, inl, inr, arith, max, Aig, AreNormal, first_and, first, second, IsLive, IsLowCut, IsFlowCut, by_walk, by_search, IsLowerCut, by_join, by_flow, IsLowWith, by_fan_ins, by_lower, HasLowWith, IsDeep, top, down, IsEndOf, AreEndsOf, IsJoin, IsNearest}
 use Rattle.flow_label.specs.Parts.{IsOwnPart, live, free, IsLowPart, own, low, IsGreatest, IsFanInCut}
 use Rattle.flow_label.proofs.GraphLemmas.{fan_in_below}
 

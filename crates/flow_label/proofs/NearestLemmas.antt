@@ -3,17 +3,7 @@
 -- Let d be any low cut. Of the inner nodes, those that d blocks and does not have choose only nodes that d blocks. So what d does not block of
 -- the other inner nodes and of the starts is owned by these others, each by a different one. Therefore d has no fewer leaves than there are
 -- paths. If it has as few, the others own nothing that d blocks, and so d blocks all that the search has met.
-use Rattle.flow_label.proofs.Common.{◌≡◌, ℕ, zero, suc, ◌+◌, ◌-◌, ◌<◌, ◌≤◌, Bool, true, false, List, [], ◌∷◌, ◌++◌, length, get_or, map, refl, sym, subst, inl, inr, ◌⊎◌, arith, length-append, cases_lt, cases_eq, eqb, first_and, node_count, In, Blocks, AreApart, joined_apart, apart_short, In-append, In-place, In-get_or, from_map, ascending_of, unmarked, IsLowCut, FlowNet, IsInner, IsUpper, IsEnd, IsNet, IsFanIn, IsChoice, HasChosen, IsLinked, AreStarts, AreMet, SiteValue, net_of, owner_in, AreLinks, IsBlocked, label_at, rules}
-use Rattle.std.proofs.Common.{not}
-use Rattle.std.proofs.lemmas.Bool.{not-true}
-use Rattle.std.proofs.lemmas.List.{length-map}
-use Rattle.std.proofs.lemmas.List.Filters.{length-filter_both}
-use Rattle.std.specs.Prelude.{filter}
-use Rattle.list_laws.proofs.Apart.{filtered_apart}
-use Rattle.list_laws.proofs.Members.{In-filter, in_filter, in_or}
-use Rattle.cut_sets.proofs.BlockLemmas.{decide_blocks, regular_blocked}
-use Rattle.cut_sets.proofs.SetLemmas.{In-union}
-use Rattle.flow_label.specs.Lows.{IsNearest}
+use Rattle.flow_label.proofs.Common.{◌≡◌, ℕ, zero, suc, ◌+◌, ◌-◌, ◌<◌, ◌≤◌, Bool, true, false, List, [], ◌∷◌, ◌++◌, length, get_or, map, refl, sym, subst, inl, inr, ◌⊎◌, arith, length-append, cases_lt, cases_eq, eqb, first_and, node_count, In, Blocks, AreApart, joined_apart, apart_short, In-append, In-place, In-get_or, from_map, ascending_of, unmarked, IsLowCut, FlowNet, IsInner, IsUpper, IsEnd, IsNet, IsFanIn, IsChoice, HasChosen, IsLinked, AreStarts, AreMet, SiteValue, net_of, owner_in, AreLinks, IsBlocked, label_at, rules, not, not-true, length-map, length-filter_both, filter, filtered_apart, In-filter, in_filter, in_or, decide_blocks, regular_blocked, In-union, IsNearest}
 use Rattle.flow_label.proofs.OnceLemmas.{numbers, in_numbers, numbers_apart}
 use Rattle.flow_label.proofs.GraphLemmas.{fan_in_below, blocked_below, live_pos, source_not_and}
 use Rattle.flow_label.proofs.LinkLemmas.{inner_pos}

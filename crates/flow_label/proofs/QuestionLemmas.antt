@@ -1,7 +1,5 @@
 -- What the outcome of a search means for the cuts of the node.
-use Rattle.flow_label.proofs.Common.{ℕ, suc, ◌+◌, ◌-◌, ◌<◌, ◌≤◌, List, length, sym, subst, arith, Aig, SiteValue, IsNet, net_of, AreLinks, height, label_at, IsLowCut, IsHigh, IsBarrier, ascending_of}
-use Rattle.cut_sets.proofs.HeightLemmas.{height_le}
-use Rattle.flow_label.specs.Lows.{IsNearest}
+use Rattle.flow_label.proofs.Common.{ℕ, suc, ◌+◌, ◌-◌, ◌<◌, ◌≤◌, List, length, sym, subst, arith, Aig, SiteValue, IsNet, net_of, AreLinks, height, label_at, IsLowCut, IsHigh, IsBarrier, ascending_of, height_le, IsNearest}
 use Rattle.flow_label.proofs.NearestLemmas.{blocked_nearest}
 
 -- where each cut is high, there is no low cut

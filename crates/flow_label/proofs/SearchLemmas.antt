@@ -1,6 +1,5 @@
 -- The search, step by step.
-use Rattle.flow_label.proofs.Common.{◌≡◌, ℕ, ◌+◌, ◌-◌, ◌<◌, ◌≤◌, Bool, true, false, List, [], ◌∷◌, ◌++◌, length, get_or, set, refl, sym, ap, ◌∙◌, subst, inl, inr, ◌⊎◌, arith, length-append, get_or-set_other, get_or-set_same, length-set, cases_eq, cases_lt, get_or_push, get_or-append, node_count, In, In-append, In-get_or, In-left, In-right, In-push, IsLive, IsFanIn, pushed_apart, FlowNet, IsLow, IsInner, IsEnd, IsNet, IsChoice, IsLinked, ComesFrom, IsHandedOn, AreMet, IsSearching, Extends, zeros, length-replicate, rules}
-use Rattle.std.proofs.lemmas.Bool.{false≢true}
+use Rattle.flow_label.proofs.Common.{◌≡◌, ℕ, ◌+◌, ◌-◌, ◌<◌, ◌≤◌, Bool, true, false, List, [], ◌∷◌, ◌++◌, length, get_or, set, refl, sym, ap, ◌∙◌, subst, inl, inr, ◌⊎◌, arith, length-append, get_or-set_other, get_or-set_same, length-set, cases_eq, cases_lt, get_or_push, get_or-append, node_count, In, In-append, In-get_or, In-left, In-right, In-push, IsLive, IsFanIn, pushed_apart, FlowNet, IsLow, IsInner, IsEnd, IsNet, IsChoice, IsLinked, ComesFrom, IsHandedOn, AreMet, IsSearching, Extends, zeros, length-replicate, rules, false≢true}
 use Rattle.flow_label.specs.Search.{HasMet, free, old, end, new}
 use Rattle.flow_label.proofs.GraphLemmas.{fan_in_below, live_inside, live_pos}
 use Rattle.flow_label.proofs.OnceLemmas.{once_few}

@@ -1,10 +1,6 @@
 -- Low cuts: what a search has met and not passed, or the ends.
 use Rattle.std.specs.Prelude.{◌≡◌, ℕ, ◌+◌, ◌<◌, ◌≤◌, ◌==◌, List, [], filter, slice_index, Option, MatchOption}
-use Rattle.aig_core.specs.Aig.{Aig}
-use Rattle.list_laws.specs.Members.{In}
-use Rattle.cut_sets.specs.Cuts.{IsCut}
-use Rattle.cut_sets.specs.Labels.{height}
-use Rattle.cut_sets.specs.Unions.{union}
+use Rattle.flow_label.specs.Words.{Aig, In, IsCut, height, union}
 use Rattle.flow_label.specs.Net.{SiteValue}
 use Rattle.flow_label.specs.Search.{IsBlocked}
 

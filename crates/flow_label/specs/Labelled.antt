@@ -1,8 +1,6 @@
 -- Labels and low cuts, node by node.
 use Rattle.std.specs.Prelude.{◌≡◌, ℕ, ◌<◌, ◌≤◌, List, length}
-use Rattle.aig_core.specs.Aig.{Aig, first_and, IsAnd}
-use Rattle.cut_sets.specs.Cuts.{IsCut}
-use Rattle.cut_sets.specs.Labels.{height}
+use Rattle.flow_label.specs.Words.{Aig, first_and, IsAnd, IsCut, height}
 use Rattle.flow_label.specs.Value.{FlowValue, label_of, low_cut_of}
 
 -- what the next node's label and low cut are, over the labels below

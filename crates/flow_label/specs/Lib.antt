@@ -1,4 +1,5 @@
 -- What public clauses say.
+pub mod Words
 pub mod Value
 pub mod Stamps
 pub mod Scratch

@@ -4,12 +4,8 @@
 -- itself has chosen an end for each path. A low node is chosen at most once: `owner` is who has chosen it. So the paths are a
 -- matching of choosers and low nodes, and one more path is one more pair of the matching.
 use Rattle.std.specs.Prelude.{◌≡◌, ℕ, ◌<◌, ◌≢◌, if◌then◌else◌, ◌==◌, List, slice_index, length, ◌⊎◌, ◌+◌, nat_lt, Some, slice_get}
-use Rattle.aig_core.specs.Aig.{node_count, IsSource}
-use Rattle.aig_core.specs.declared.lit.Kind.TheVariants.{Regular}
-use Rattle.list_laws.specs.Apart.{AreApart}
-use Rattle.list_laws.specs.Members.{In}
+use Rattle.flow_label.specs.Words.{node_count, IsSource, Regular, AreApart, In, IsFanIn, IsPath}
 use Rattle.flow_label.specs.Value.{IsLive}
-use Rattle.cut_sets.specs.Paths.{IsFanIn, IsPath}
 use Rattle.flow_label.specs.Net.{FlowNet, SiteValue, net_of, is_inner, IsInner, IsEnd, IsLow, IsUpper}
 
 -- what an inner node may choose: itself or a live node that it reads

@@ -1,13 +1,7 @@
 -- Which cut the low cut of a node is.
 use Rattle.std.specs.Prelude.{◌≡◌, ℕ, ◌+◌, ◌/◌, ◌<◌, ◌≤◌, List, [], length}
-use Rattle.aig_core.specs.Aig.{Aig, IsAnd, IsNode}
-use Rattle.aig_core.specs.declared.lit.Pair.{Pair}
-use Rattle.list_laws.specs.Members.{In}
+use Rattle.flow_label.specs.Words.{Aig, IsAnd, IsNode, Pair, In, Blocks, AreLeastHeights, IsFanIn, union}
 use Rattle.list_laws.specs.Order.{IsAscending}
-use Rattle.cut_sets.specs.Cuts.{Blocks}
-use Rattle.cut_sets.specs.Labels.{AreLeastHeights}
-use Rattle.cut_sets.specs.Paths.{IsFanIn}
-use Rattle.cut_sets.specs.Unions.{union}
 use Rattle.flow_label.specs.Value.{IsLive}
 use Rattle.flow_label.specs.Barriers.{IsLowCut}
 use Rattle.flow_label.specs.Parts.{IsLowPart, IsGreatest, IsFanInCut}

@@ -1,7 +1,6 @@
 -- What the walk and the search do to their working memory.
 use Rattle.std.specs.Prelude.{◌≡◌, ℕ, ◌+◌, ◌-◌, Bool, List, length, slice_index, slice_set}
-use Rattle.aig_core.specs.Aig.{Aig}
-use Rattle.cut_sets.specs.Labels.{label_at}
+use Rattle.flow_label.specs.Words.{Aig, label_at}
 use Rattle.flow_label.specs.declared.scratch.Links.{Links}
 use Rattle.flow_label.specs.declared.scratch.PathSearch.{PathSearch}
 use Rattle.flow_label.specs.declared.scratch.ConeWalk.{ConeWalk}

@@ -3,11 +3,7 @@
 -- A height of at least 2 is given. A node below the node is low where its label is at least two less than the height: of the paths that are
 -- sought at most one may pass a low node.
 use Rattle.std.specs.Prelude.{◌≡◌, ℕ, ◌+◌, ◌<◌, ◌≤◌, ◌⊎◌, Bool, ◌&&◌, nat_lt, List, length, slice_index}
-use Rattle.aig_core.specs.Aig.{Aig, first_and, IsAnd, AreNormal}
-use Rattle.list_laws.specs.Apart.{AreApart}
-use Rattle.list_laws.specs.Members.{In}
-use Rattle.cut_sets.specs.Labels.{label_at}
-use Rattle.cut_sets.specs.Paths.{IsFanIn}
+use Rattle.flow_label.specs.Words.{Aig, first_and, IsAnd, AreNormal, AreApart, In, label_at, IsFanIn}
 use Rattle.flow_label.specs.Value.{IsLive, AreKnownTo}
 
 -- The node, the height, and the readers: for each node that the walk down from it through deep nodes met, the node from which it was met

@@ -1,8 +1,6 @@
 -- What the fan-ins of a node give to its cuts.
 use Rattle.std.specs.Prelude.{◌≡◌, ℕ, ◌/◌, ◌<◌, ◌≤◌, max, List, [], ◌∷◌, slice_index_or}
-use Rattle.aig_core.specs.Aig.{Aig, IsNode}
-use Rattle.aig_core.specs.declared.lit.Pair.{Pair}
-use Rattle.cut_sets.specs.Unions.{union}
+use Rattle.flow_label.specs.Words.{Aig, IsNode, Pair, union}
 use Rattle.flow_label.specs.Value.{IsLive}
 
 -- the low cut at a place, none past the last one

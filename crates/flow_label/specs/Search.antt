@@ -3,9 +3,7 @@
 -- The queue has the low nodes that the search has met, each once, and the stack has the places of those that wait. A node that an inner
 -- node owns is handed on: the owner would choose another node, so its choices are met too. A node without an owner ends the search.
 use Rattle.std.specs.Prelude.{◌≡◌, ℕ, ◌-◌, ◌<◌, ◌≤◌, Bool, true, false, List, [], ◌∷◌, ◌++◌, length, slice_index, slice_set, ◌⊎◌, ◌+◌}
-use Rattle.aig_core.specs.Aig.{node_count}
-use Rattle.list_laws.specs.Apart.{AreApart}
-use Rattle.list_laws.specs.Members.{In}
+use Rattle.flow_label.specs.Words.{node_count, AreApart, In}
 use Rattle.flow_label.specs.Value.{IsLive}
 use Rattle.flow_label.specs.Net.{FlowNet, SiteValue, net_of, IsLow, IsInner, IsEnd}
 use Rattle.flow_label.specs.Links.{IsChoice, owner_in}

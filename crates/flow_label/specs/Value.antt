@@ -1,10 +1,6 @@
 -- Labels and low cuts.
 use Rattle.std.specs.Prelude.{◌≡◌, ℕ, List, [], slice_index_or, ◌<◌, ◌≤◌, ◌⊎◌}
-use Rattle.aig_core.specs.Aig.{Aig, IsAnd, first_and, IsSource}
-use Rattle.cut_sets.specs.Cuts.{IsCut, Blocks}
-use Rattle.cut_sets.specs.Labels.{height, label_at, AreLeastHeights}
-use Rattle.aig_core.specs.declared.lit.Kind.TheVariants.{Regular}
-use Rattle.cut_sets.specs.Paths.{IsFanIn}
+use Rattle.flow_label.specs.Words.{Aig, IsAnd, first_and, IsSource, IsCut, Blocks, height, label_at, AreLeastHeights, Regular, IsFanIn}
 
 -- what labels by flow are seen as: one label and one low cut a node
 pub record FlowValue : Type 0 where

@@ -1,10 +1,7 @@
 -- The walk down from a node through deep nodes, as the code takes it: upper nodes wait in a queue.
 use Rattle.std.specs.Prelude.{◌≡◌, ℕ, ◌+◌, ◌<◌, ◌≤◌, List, [], ◌∷◌, ◌++◌, length, slice_index, slice_set}
-use Rattle.aig_core.specs.Aig.{Aig, IsAnd}
-use Rattle.list_laws.specs.Apart.{AreApart}
-use Rattle.list_laws.specs.Members.{In}
+use Rattle.flow_label.specs.Words.{Aig, IsAnd, AreApart, In, IsFanIn}
 use Rattle.flow_label.specs.Value.{IsLive}
-use Rattle.cut_sets.specs.Paths.{IsFanIn}
 use Rattle.flow_label.specs.Net.{FlowNet, IsUpper, IsMet, AreEnds}
 
 -- m is read by v: it may have been met before or be free, and else it is one more upper node or one more end

@@ -1,5 +1,5 @@
 -- What the proofs of this crate cite of other crates, and its own definitions, passed on from one place.
-pub use Rattle.std.proofs.Common.{◌≡◌, [], ◌∷◌, ◌++◌, map, codes, refl, ℕ, zero, suc, ◌+◌, List, sym, ap, ◌∙◌, arith, append_assoc, ◌-◌, ◌*◌, ◌%◌, ◌<◌, ◌≤◌, Bool, true, false, ◌&&◌, not, leb, eqb, decimal, ◌^◌, cond, ltb, length, string_bytes, rules}
+pub use Rattle.std.proofs.Common.{◌≡◌, [], ◌∷◌, ◌++◌, map, codes, refl, ℕ, zero, suc, ◌+◌, List, sym, ap, ◌∙◌, arith, append_assoc, ◌-◌, ◌*◌, ◌%◌, ◌<◌, ◌≤◌, Bool, true, false, ◌&&◌, not, leb, eqb, decimal, ◌^◌, length, string_bytes, rules}
 pub use Rattle.std.proofs.lemmas.Fmt.{decimal_by_steps, length-decimal-le}
 pub use Rattle.std.proofs.lemmas.Grind.{flat_map-append}
 pub use Rattle.std.proofs.lemmas.List.{append-nil, length-append}

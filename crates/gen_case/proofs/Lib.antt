@@ -3,3 +3,4 @@ pub mod LineLemmas
 mod SizeLemmas
 pub mod PlainLemmas
 mod Examples
+mod Lemmas

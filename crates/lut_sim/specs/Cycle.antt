@@ -1,11 +1,8 @@
 -- One cycle of the LUTs, as a relation between the values of all literals: nothing is played in an order.
 use Rattle.std.specs.Prelude.{◌≡◌, ℕ, ◌+◌, ◌*◌, Bool, false, IsTrue, List, length, map, slice_index_or}
-use Rattle.list_laws.specs.Members.{In}
+use Rattle.lut_sim.specs.Words.{In, lits_of, Lut, TemplateValue}
 use Rattle.list_laws.specs.Digits.{number}
 use Rattle.machine.specs.Machine.{MealyMachine}
-use Rattle.aig_core.specs.Roots.{lits_of}
-use Rattle.cover_pick.specs.declared.lut.Lut.{Lut}
-use Rattle.cover_pick.specs.Template.{TemplateValue}
 use Rattle.lut_sim.specs.declared.shape.Shape.{Shape}
 use Rattle.lut_sim.specs.Sources.{is_regular, is_plain, source_value}
 

@@ -1,11 +1,8 @@
 -- When a graph's sources have a shape, and a list has the values of all its sources.
 use Rattle.std.specs.Prelude.{◌≡◌, ℕ, ◌++◌, IsTrue, Bool, List, length}
 use Rattle.aig_core.specs.Aig.{Aig, IsSource}
-use Rattle.aig_core.specs.Roots.{lits_of}
+use Rattle.lut_sim.specs.Words.{lits_of, IsMapping, TemplateValue, In}
 use Rattle.aig_core.specs.declared.lit.Kind.TheVariants.{Regular}
-use Rattle.cover_pick.specs.Mapping.{IsMapping}
-use Rattle.cover_pick.specs.Template.{TemplateValue}
-use Rattle.list_laws.specs.Members.{In}
 use Rattle.lut_sim.specs.Playable.{IsPlayable}
 use Rattle.lut_sim.specs.declared.shape.Shape.{Shape}
 use Rattle.lut_sim.specs.Sources.{is_regular, last_source}

@@ -1,4 +1,5 @@
 -- What public clauses say.
+pub mod Words
 pub mod Sources
 pub mod GraphShape
 pub mod Playable

@@ -1,10 +1,6 @@
 -- What a template and a shape must agree on before a cycle can be played.
 use Rattle.std.specs.Prelude.{◌≡◌, ℕ, ◌*◌, ◌/◌, ◌<◌, ◌⊎◌, IsTrue, length}
-use Rattle.list_laws.specs.Members.{In}
-use Rattle.aig_core.specs.Roots.{lits_of}
-use Rattle.cover_pick.specs.declared.lut.Lut.{Lut}
-use Rattle.cover_pick.specs.Template.{TemplateValue}
-use Rattle.cover_pick.specs.Mapping.{AscendByLit, HaveBases, HasLut, bits_of}
+use Rattle.lut_sim.specs.Words.{In, lits_of, Lut, TemplateValue, AscendByLit, HaveBases, HasLut, bits_of}
 use Rattle.lut_sim.specs.declared.shape.Shape.{Shape}
 use Rattle.lut_sim.specs.Sources.{last_source, is_regular, is_plain}
 

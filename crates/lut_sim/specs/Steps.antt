@@ -1,12 +1,10 @@
 -- The lists that the steps of a cycle write: private helpers of the code.
 use Rattle.std.specs.Prelude.{◌≡◌, IsTrue, ℕ, ◌+◌, ◌*◌, ◌^◌, ◌<◌, ◌≤◌, Bool, false, if◌then◌else◌, List, [], ◌∷◌, length, slice_set, slice_index_or}
-use Rattle.list_laws.specs.Members.{In}
+use Rattle.lut_sim.specs.Words.{In, Lut, TemplateValue}
 pub use Rattle.list_laws.specs.Digits.{bit_in as value_in}
-use Rattle.cover_pick.specs.declared.lut.Lut.{Lut}
 use Rattle.lut_sim.specs.declared.shape.Shape.{Shape}
 use Rattle.lut_sim.specs.Sources.{is_regular, is_plain, source_value, last_source}
 use Rattle.lut_sim.specs.Cycle.{address}
-use Rattle.cover_pick.specs.Template.{TemplateValue}
 use Rattle.lut_sim.specs.Playable.{IsPlayable}
 
 -- the value of a literal

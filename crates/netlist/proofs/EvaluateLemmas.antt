@@ -1,11 +1,9 @@
 -- Evaluating a flat circuit in its order gives each cover the value of any map that fits, by the numbers of the nets.
-use Rattle.netlist.proofs.Common.{◌≡◌, ℕ, Bool, false, List, [], ◌∷◌, map, Some, refl, sym, ap, ap₂, ◌∙◌, subst, inl, inr, unwrap_or, ◌<◌, eqb, length, replicate, Option, ◌⊎◌, arith, slice_set, slice_get, option_and_then, In, both_ways, cases_Bool, length-set, length-replicate, same_Some, slice_get_within, at_within, set_here, set_other, zero, suc, true, subst₂, option_map, cond-true, cond-false, length-map, none-some, slice_get-map, In-left, In-right, In-get, AreApart, reversed_in, nodes_done, In-map, same_list, mapped_at, not, or_left, not-true, In-filter, has_name, IsMainInput, IsClock, CoverValue, LibraryValue, FlatCoverValue, FlatValue, AreLatches, eqb-true, eq-eqb, rules}
+use Rattle.netlist.proofs.Common.{◌≡◌, ℕ, Bool, false, List, [], ◌∷◌, map, Some, refl, sym, ap, ap₂, ◌∙◌, subst, inl, inr, unwrap_or, ◌<◌, eqb, length, replicate, Option, ◌⊎◌, arith, slice_set, slice_get, option_and_then, In, both_ways, cases_Bool, length-set, length-replicate, same_Some, slice_get_within, at_within, set_here, set_other, zero, suc, true, subst₂, option_map, cond-true, cond-false, length-map, none-some, slice_get-map, In-left, In-right, In-get, AreApart, reversed_in, nodes_done, In-map, same_list, mapped_at, not, or_left, not-true, In-filter, has_name, IsMainInput, IsClock, CoverValue, LibraryValue, FlatCoverValue, FlatValue, AreLatches, eqb-true, eq-eqb, rules, reading, refines_by}
 use Rattle.netlist.specs.Flat.{Places, none, more}
 use Rattle.netlist.specs.{cover_value, ModelValue, Path, body_at, CoverAt, input_net, latch_net, cover_net, Place, cover_in, FlatNet, Fits, an_input, a_latch, a_cover, IsNetOf, AreNetsOf, cover_numbers, IsFlat, reads_at, inputs_at, IsFlatCover, net_value, AreGiven, cover_behind, value_of, gate_value, evaluated, flat_values, Evaluates, same_place, latch_at, is_latch, FlatOrder, OutPort, FlatLatch, flat_roots, IsFlatLatch, init_state, inits_of, state_of, next_state, IsCycle, AreInits, library_machine, flat_outputs, flat_next, flat_inits, IsFlatCycle, flat_machine, input_values, HasCycles, IsSound, latch_nets}
 use Rattle.std.proofs.lemmas.Simd.{map-map}
 use Rattle.netlist.specs.declared.flat.FlatNet.TheVariants.{Cover}
-use Rattle.machine.specs.Machine.{reading}
-use Rattle.machine.proofs.RefineLemmas.{refines_by}
 use Rattle.netlist.proofs.RunLemmas.{cycle_there, run_there}
 use Rattle.netlist.proofs.OrderLemmas.{order_once, places_apart}
 use Rattle.tl_text.proofs.NameSetLemmas.{in_has}

@@ -1,7 +1,5 @@
 -- Where values of all names fit for all values of inputs and latches, there are cycles from any states and runs of any length.
-use Rattle.netlist.proofs.Common.{◌≡◌, ℕ, Bool, List, [], length, map, refl, sym, ap, ◌∙◌, length-map, LibraryValue, ModelValue, Place, latch_at, AreLatches, inits_of, init_state, state_of, next_state, next_states, HasOneCycle}
-use Rattle.machine.specs.Machine.{GivesCycle, GivesRun}
-use Rattle.machine.proofs.RefineLemmas.{gives_runs}
+use Rattle.netlist.proofs.Common.{◌≡◌, ℕ, Bool, List, [], length, map, refl, sym, ap, ◌∙◌, length-map, LibraryValue, ModelValue, Place, latch_at, AreLatches, inits_of, init_state, state_of, next_state, next_states, HasOneCycle, GivesCycle, GivesRun, gives_runs}
 use Rattle.netlist.specs.Runs.{IsCycle, library_machine}
 
 -- a cycle leaves as many states as there were

@@ -51,9 +51,6 @@ pub use CoverWalk.*
 pub use Rattle.netlist.specs.declared.flat.OutPort.{OutPort}
 pub use Rattle.netlist.specs.declared.flat.FlatLatch.{FlatLatch}
 pub use Rattle.netlist.specs.declared.flat.FlatNet.{FlatNet}
-pub use Rattle.netlist.specs.SubcktValue.{formals}
 pub use Rattle.tl_text.specs.Once.{AreOnce}
-pub use Rattle.netlist.specs.WellFormed.{IsWellFormed, IsWellFormedModel}
 pub use Rattle.netlist.specs.declared.cell.Cell.TheVariants.{Zero}
 pub use Rattle.depth_first.specs.DepthFirst.{PostsAll, leads}
-pub use Rattle.list_laws.specs.Members.{In}

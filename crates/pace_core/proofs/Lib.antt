@@ -4,3 +4,4 @@ pub mod StallLemmas
 pub mod KeepLemmas
 pub mod PaceTextLemmas
 pub mod PaceExample
+mod Lemmas

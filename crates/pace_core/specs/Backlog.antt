@@ -1,10 +1,8 @@
 -- A device and what it is behind by: marks at exactly the addresses at which its configuration differs from the wanted one, and how many these are.
 use Rattle.std.specs.Prelude.{◌≡◌, ℕ, ◌+◌, ◌-◌, ◌<◌, ◌≤◌, Bool, true, false, not, List, [], ◌∷◌, ◌++◌, length, slice_set}
-use Rattle.tl_io.specs.declared.Write.{Write}
-use Rattle.tl_io.specs.Writes.{written}
+use Rattle.pace_core.specs.Words.{Write, written, config_bit, differs_at, differences}
 use Rattle.ppc_pack.specs.declared.pack.TheConstants.{MOST_PACK_BITS}
 use Rattle.dirty_idx.specs.Marks.{is_marked}
-use Rattle.spec_core.specs.Differences.{config_bit, differs_at, differences}
 
 pub record BacklogValue : Type 0 where
   pub config : List Bool

@@ -1,7 +1,6 @@
 -- What an event may look at. A step is one reading of a node's pair, or one look at an address of the device.
 use Rattle.std.specs.Prelude.{ℕ, ◌+◌, ◌≤◌, Bool, List, length, take}
-use Rattle.ppc_pack.specs.Pack.{IsConf}
-use Rattle.spec_core.specs.Differences.{differences}
+use Rattle.pace_core.specs.Words.{IsConf, differences}
 use Rattle.spec_core.specs.Touched.{IsWithinTouched}
 use Rattle.pace_core.specs.EventValue.{PaceValue, Ask, Tick}
 use Rattle.pace_core.specs.Pace.{PacerValue}

@@ -1,7 +1,6 @@
 -- Events with plain lists in the vectors' places.
 use Rattle.std.specs.Prelude.{◌≡◌, ℕ, Bool, List, length, map, filter_map, Option, Some, None}
-use Rattle.tl_io.specs.declared.Assign.{Assign}
-use Rattle.tl_io.specs.Assigns.{AreAssigned}
+use Rattle.pace_core.specs.Words.{Assign, AreAssigned}
 use Rattle.run_text.specs.EventValue.{EventValue, Set, Cycle, Upset, Scrub, Image}
 use Rattle.pace_core.specs.declared.event.PaceEvent.{PaceEvent}
 use Rattle.pace_core.specs.declared.event.PaceEvent.TheVariants as event

@@ -1,7 +1,6 @@
 -- What a pacer keeps: its specialiser has the configuration of the values that were asked for, which the backlog's device is behind by what it is said to be.
 use Rattle.std.specs.Prelude.{◌≡◌, ℕ, ◌≤◌, Bool, List, length}
-use Rattle.ppc_pack.specs.Pack.{IsConf, HasOneConf}
-use Rattle.lut_sim.specs.Sim.{SimValue}
+use Rattle.pace_core.specs.Words.{IsConf, HasOneConf, SimValue}
 use Rattle.spec_core.specs.Specialiser.{SpecialiserValue}
 use Rattle.pace_core.specs.Backlog.{BacklogValue, IsBehind}
 

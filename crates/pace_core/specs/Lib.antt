@@ -1,4 +1,5 @@
 -- What public clauses say.
+pub mod Words
 pub mod EventValue
 pub mod PaceText
 pub mod Pace

@@ -1,15 +1,9 @@
 -- The machine at a limited rate, as a relation over configurations that are specialised from scratch (`IsConf`): the values that were asked for last, the configuration that the device has, and the circuit with its states.
 use Rattle.std.specs.Prelude.{◌≡◌, ℕ, ◌<◌, Bool, List, [], ◌∷◌, length, take}
 use Rattle.machine.specs.Machine.{MealyMachine, Passes}
-use Rattle.tl_io.specs.declared.Assign.{Assign}
-use Rattle.tl_io.specs.declared.Write.{Write}
-use Rattle.tl_io.specs.Assigns.{assigned}
-use Rattle.tl_io.specs.Writes.{written}
-use Rattle.ppc_pack.specs.Pack.{PackValue, IsConf}
+use Rattle.pace_core.specs.Words.{Assign, Write, assigned, written, PackValue, IsConf, SimValue, differences}
 use Rattle.lut_sim.specs.Cycle.{IsTableCycle, IsOnlyTableCycle}
-use Rattle.lut_sim.specs.Sim.{SimValue}
 use Rattle.run_text.specs.Lines.{cycle_line, ask_line, wait_line}
-use Rattle.spec_core.specs.Differences.{differences}
 use Rattle.pace_core.specs.EventValue.{PaceValue, Ask, Tick, Fits}
 
 pub record PacerValue : Type 0 where

@@ -1,7 +1,7 @@
 -- What the proofs of this crate cite of other crates, and its own definitions, passed on from one place.
-pub use Rattle.std.proofs.Common.{◌≡◌, ℕ, Bool, true, false, List, [], ◌∷◌, None, Some, Ok, zero, suc, ◌/◌, ◌+◌, ◌-◌, ◌^◌, ◌<◌, refl, ap, subst, ◌∙◌, arith, inl, inr, ◌*◌, ◌≤◌, if◌then◌else◌, not, ◌++◌, length, take, drop, get_or, map, sym, eq-eqb, le-leb, ◌⊎◌, ◌==◌, eqb-true, slice_set, Option, append-nil, append_assoc, Result, Err, OnOk, OnErr, set, ◌%◌, max, is_ok, rules}
+pub use Rattle.std.proofs.Common.{◌≡◌, ℕ, Bool, true, false, List, [], ◌∷◌, None, Some, Ok, zero, suc, ◌/◌, ◌+◌, ◌-◌, ◌^◌, ◌<◌, refl, ap, subst, ◌∙◌, arith, inl, inr, ◌*◌, ◌≤◌, if◌then◌else◌, not, ◌++◌, length, take, drop, get_or, map, sym, eq-eqb, le-leb, ◌⊎◌, ◌==◌, eqb-true, slice_set, Option, append-nil, append_assoc, Result, Err, OnOk, OnErr, set, is_ok, rules}
 pub use Rattle.std.proofs.lemmas.Bool.{cases_eq, ne_eqb, lt-leb, both_ways}
-pub use Rattle.std.proofs.lemmas.List.{length-take, map-append, length-append, map-set, length-set, length-map, length-drop, take-append-le, drop-append-le, take-append-drop, drop-drop, drop-set-lt, take_all, drop_all, drop_more}
+pub use Rattle.std.proofs.lemmas.List.{length-take, map-append, length-append, map-set, length-set, length-map, length-drop, take-append-le, drop-append-le, take-append-drop, drop-drop, drop-set-lt, drop_all, drop_more}
 pub use Rattle.std.proofs.lemmas.List.Edits.{length-remove, get_or-remove_below}
 pub use Rattle.std.proofs.lemmas.Option.{none-some, same_Some, slice_get_within}
 pub use Rattle.std.proofs.lemmas.Result.{MatchResult-weaker, err_from_is_err_and}

@@ -5,3 +5,4 @@ mod FilterLemmas
 mod SendLemmas
 mod PlayLemmas
 mod Examples
+mod Lemmas

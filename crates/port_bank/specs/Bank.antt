@@ -1,7 +1,6 @@
 -- A bank of ports, and what one call of a port does to it.
 use Rattle.std.specs.Prelude.{◌≡◌, ℕ, Bool, true, false, List, [], ◌∷◌, ◌++◌, length, remove, slice_get, slice_set, Some}
-use Rattle.tl_io.specs.Port.{PortSeen, Accepts, Fails}
-use Rattle.tl_io.specs.declared.Write.{Write}
+use Rattle.port_bank.specs.Words.{PortSeen, Accepts, Fails, Write}
 use Rattle.port_bank.specs.Regions.{width}
 
 -- the ports that serve, in the order of their regions, those that stand by, the others, and the failed ones in the order of failure

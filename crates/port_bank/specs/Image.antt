@@ -1,8 +1,6 @@
 -- What a port's log shows, and the configuration that a bank holds.
 use Rattle.std.specs.Prelude.{◌≡◌, ℕ, ◌/◌, ◌==◌, if◌then◌else◌, Bool, List, [], ◌∷◌, slice_get, Option, None, Some}
-use Rattle.tl_io.specs.declared.Write.{Write}
-use Rattle.tl_io.specs.Port.{PortSeen}
-use Rattle.tl_io.specs.Writes.{written}
+use Rattle.port_bank.specs.Words.{Write, PortSeen, written}
 use Rattle.port_bank.specs.Bank.{BankSeen, bank_width}
 
 -- the first that is there

@@ -1,4 +1,5 @@
 -- What public clauses say.
+pub mod Words
 pub mod Regions
 pub mod Bank
 pub mod Send

@@ -1,9 +1,7 @@
 -- Which ports a send moves, and why.
 use Rattle.std.specs.Prelude.{◌≡◌, ◌+◌, ℕ, true, false, List, [], ◌++◌, length, Result, MatchResult}
-use Rattle.list_laws.specs.Members.{In}
+use Rattle.port_bank.specs.Words.{In, PortSeen, Write}
 use Rattle.tl_io.specs.Counts.{raised}
-use Rattle.tl_io.specs.Port.{PortSeen}
-use Rattle.tl_io.specs.declared.Write.{Write}
 use Rattle.port_bank.specs.declared.bank.PortFault.{PortFault}
 use Rattle.port_bank.specs.Bank.{BankSeen, Called, Replaced, Retired}
 

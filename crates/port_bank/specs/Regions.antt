@@ -1,8 +1,7 @@
 -- Which addresses each port serves, and the writes of a region.
 use Rattle.std.specs.Prelude.{ℕ, ◌+◌, ◌*◌, ◌/◌, ◌%◌, max, min, Bool, not, ◌==◌, List, take, drop}
 use Rattle.std.specs.List.{filter}
-use Rattle.tl_io.specs.declared.Write.{Write}
-use Rattle.tl_io.specs.Writes.{writes_from}
+use Rattle.port_bank.specs.Words.{Write, writes_from}
 
 -- how many addresses a region has: the number of bits over that of the serving ports, rounded up
 abbrev pub width : ℕ → ℕ → ℕ

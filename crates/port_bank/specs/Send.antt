@@ -1,7 +1,6 @@
 -- A send of writes, played over the answers of the ports' calls.
 use Rattle.std.specs.Prelude.{◌≡◌, ℕ, Bool, true, false, List, [], ◌∷◌, ◌++◌, Result, MatchResult}
-use Rattle.tl_io.specs.Port.{PortSeen}
-use Rattle.tl_io.specs.declared.Write.{Write}
+use Rattle.port_bank.specs.Words.{PortSeen, Write}
 use Rattle.port_bank.specs.declared.bank.PortFault.{PortFault}
 use Rattle.port_bank.specs.Regions.{region_of, region, outside}
 use Rattle.port_bank.specs.Bank.{BankSeen, bank_width, Called, Replaced, Retired}

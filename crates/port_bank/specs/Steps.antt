@@ -1,8 +1,7 @@
 -- Parts of a send: the load of one region, and one write.
 use Rattle.std.specs.Prelude.{◌≡◌, ◌≤◌, ℕ, Bool, false, nat_le, List, [], ◌∷◌, ◌++◌, remove, slice_index_or, slice_set}
 use Rattle.std.specs.List.{filter}
-use Rattle.list_laws.specs.Members.{In}
-use Rattle.tl_io.specs.declared.Write.{Write}
+use Rattle.port_bank.specs.Words.{In, Write}
 use Rattle.port_bank.specs.Regions.{region_of, region, outside}
 use Rattle.port_bank.specs.Bank.{BankSeen, Called}
 use Rattle.port_bank.specs.Send.{Sends, Reaches, Loses}

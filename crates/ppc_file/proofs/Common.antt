@@ -1,16 +1,16 @@
 -- What the proofs of this crate cite of other crates, and its own definitions, passed on from one place.
-pub use Rattle.std.proofs.Common.{◌≡◌, ℕ, ◌+◌, List, ◌++◌, length, replicate, drop, Some, sym, ap, ◌∙◌, arith, append_assoc, suc, ◌-◌, ◌*◌, ◌/◌, ◌<◌, ◌≤◌, Bool, true, false, not, ◌||◌, cond, ltb, leb, eqb, bytes_eq, [], ◌∷◌, take, Result, Ok, Err, refl, subst, inl, inr, eqb-true, length-append, get_or, append-nil, ◌&&◌, None, zero, ◌%◌, ◌^◌, Option, min, max, ◌⊎◌, rules, slice_index_or}
-pub use Rattle.std.proofs.Math.Nat.{pow-succ', pow-le-pow_right}
-pub use Rattle.std.proofs.lemmas.Bool.{ltb-false, leb-false, eqb-false, cases_Bool, or_parts, not-false, le-ltb, lt-leb, or_from, ne_eqb, both_ways, cases_lt, lt-ltb, and_parts}
+pub use Rattle.std.proofs.Common.{◌≡◌, ℕ, ◌+◌, List, ◌++◌, length, replicate, drop, Some, sym, ap, ◌∙◌, arith, append_assoc, suc, ◌-◌, ◌*◌, ◌/◌, ◌<◌, ◌≤◌, Bool, true, false, not, ◌||◌, cond, ltb, leb, eqb, bytes_eq, [], ◌∷◌, take, Result, Ok, Err, refl, subst, inl, inr, eqb-true, length-append, get_or, append-nil, None, zero, ◌%◌, ◌^◌, Option, min, max, ◌⊎◌, rules, slice_index_or}
+pub use Rattle.std.proofs.Math.Nat.{pow-le-pow_right}
+pub use Rattle.std.proofs.lemmas.Bool.{ltb-false, leb-false, cases_Bool, or_parts, not-false, le-ltb, lt-leb, or_from, ne_eqb, cases_lt, lt-ltb}
 pub use Rattle.std.proofs.lemmas.Bool.Decides.{nat_tests}
 pub use Rattle.std.proofs.lemmas.List.{length-replicate, length-take, take_at, drop_at, map-append, at_drop_more, take-append-drop, get_or-drop, get_or-take, get_or_past, nil_from_length}
 pub use Rattle.std.proofs.lemmas.Option.{none-some, slice_get_within}
 pub use Rattle.std.specs.Int.{w16, w32, to_be_bytes, Width, byte_len, from_be_bytes}
 pub use Rattle.std.specs.List.{list_any, position, flat_map}
-pub use Rattle.std.specs.Prelude.{slice_get}
+pub use Rattle.std.specs.Prelude.{slice_get, IsErrAnd, MatchResult}
 pub use Rattle.aig_core.proofs.Keeping.{AreNormal-push}
 pub use Rattle.aig_core.specs.Aig.{Aig, first_and, IsNormal, AreNormal, node_count}
-pub use Rattle.aig_core.specs.And.{is_pair, Answer, and_of, found_or_new, with_pairs}
+pub use Rattle.aig_core.specs.And.{is_pair, and_of, found_or_new, with_pairs}
 pub use Rattle.aig_core.specs.declared.lit.Kind.TheVariants.{Parameter}
 pub use Rattle.aig_core.specs.declared.lit.Lit.{Lit}
 pub use Rattle.aig_core.specs.declared.lit.Pair.{Pair}
@@ -22,7 +22,7 @@ pub use Rattle.ppc_pack.specs.Pack.{PackValue, IsPack}
 pub use Rattle.ppc_pack.specs.declared.pack.PackParam.{PackParam}
 pub use Rattle.ppc_pack.specs.declared.pack.TheConstants.{MOST_PACK_NODES, MOST_PACK_BITS}
 pub use Rattle.tl_fault.proofs.PassedOn.{passed_on}
-pub use Rattle.tl_fault.specs.OrMemory.{Unless, OrMemory}
+pub use Rattle.tl_fault.specs.OrMemory.{OrMemory}
 pub use Rattle.tl_piece.proofs.AddedLemmas.{added_twice, added_as, put_over}
 pub use Rattle.tl_text.specs.Clean.{IsClean}
 pub use Rattle.tl_text.specs.NameIndex.{place_of}
@@ -39,3 +39,4 @@ pub use Rattle.ppc_file.specs.declared.pack_err.PackErr.{PackErr}
 pub use Rattle.ppc_file.specs.declared.pack_err.PackErr.TheVariants.{Truncated, BadNumber, Trailing}
 pub use Rattle.ppc_file.specs.declared.version.Version.{Version}
 pub use Rattle.ppc_file.specs.declared.version.Version.TheVariants.{One, Two}
+pub use Rattle.tl_fault.proofs.OrMemoryLemmas.{Unless-of, OrMemory-map}

@@ -6,3 +6,4 @@ pub mod OneReading
 mod ReadLemmas
 mod ReadsLemmas
 mod StandLemmas
+mod Lemmas

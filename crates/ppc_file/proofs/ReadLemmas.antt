@@ -1,8 +1,6 @@
 -- What the readers of a file's parts are compared with: refusals, new names, new pairs of a graph, and the pack of a file that was read to its end.
-use Rattle.ppc_file.proofs.Common.{◌≡◌, ℕ, ◌+◌, ◌*◌, ◌/◌, ◌<◌, ◌≤◌, true, false, ◌||◌, List, [], ◌∷◌, ◌++◌, length, replicate, min, max, None, Ok, Err, refl, sym, ap, subst, ◌∙◌, arith, list_any, position, cases_Bool, ne_eqb, length-replicate, position_none, list_any-position_none, OrMemory, place_of, Aig, IsNormal, first_and, node_count, and_of, is_pair, found_or_new, Parameter, Lit, Pair, PackParam, PackErr, Version, Field, ◌>>=◌, offset, param_at, names_of_params, fan_ins_at, is_bad_pair, if_new_pair, node_at, bit_at, in_params, in_nodes, in_bits, IsPackFault, StandsAt, refusal_of, ◌⊎◌, append-nil, PackValue, IsPack, One, Two, bytes_of, IsPackFile, Result, passed_on, lt-ltb, le-ltb, Front, rules}
+use Rattle.ppc_file.proofs.Common.{◌≡◌, ℕ, ◌+◌, ◌*◌, ◌/◌, ◌<◌, ◌≤◌, true, false, ◌||◌, List, [], ◌∷◌, ◌++◌, length, replicate, min, max, None, Ok, Err, refl, sym, ap, subst, ◌∙◌, arith, list_any, position, cases_Bool, ne_eqb, length-replicate, position_none, list_any-position_none, OrMemory, place_of, Aig, IsNormal, first_and, node_count, and_of, is_pair, found_or_new, Parameter, Lit, Pair, PackParam, PackErr, Version, Field, ◌>>=◌, offset, param_at, names_of_params, fan_ins_at, is_bad_pair, if_new_pair, node_at, bit_at, in_params, in_nodes, in_bits, IsPackFault, StandsAt, refusal_of, ◌⊎◌, append-nil, PackValue, IsPack, One, Two, bytes_of, IsPackFile, Result, passed_on, lt-ltb, le-ltb, Front, rules, IsErrAnd, MatchResult, Unless-of}
 use Rattle.std.proofs.lemmas.List.Quantifiers.{position-Some}
-use Rattle.std.specs.Prelude.{IsErrAnd, MatchResult}
-use Rattle.tl_fault.proofs.OrMemoryLemmas.{Unless-of}
 use Rattle.ppc_file.proofs.FieldLemmas.{param_takes, new_place}
 use Rattle.ppc_file.proofs.NumberLemmas.{IsBytes}
 use Rattle.ppc_file.proofs.StandLemmas.{rest_bytes, stands_param, stands_node, stands_bit, field_refused}

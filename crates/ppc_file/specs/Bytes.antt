@@ -2,10 +2,7 @@
 use Rattle.std.specs.Prelude.{ℕ, ◌+◌, ◌-◌, ◌*◌, Bool, if◌then◌else◌, List, [], ◌∷◌, ◌++◌, length, codes}
 use Rattle.std.specs.Int.{w16, w32, to_be_bytes}
 use Rattle.std.specs.List.{flat_map}
-use Rattle.aig_core.specs.declared.lit.Lit.{Lit}
-use Rattle.aig_core.specs.declared.lit.Pair.{Pair}
-use Rattle.ppc_pack.specs.declared.pack.PackParam.{PackParam}
-use Rattle.ppc_pack.specs.Pack.{PackValue}
+use Rattle.ppc_file.specs.Words.{Lit, Pair, PackParam, PackValue}
 use Rattle.ppc_file.specs.declared.version.Version.{Version}
 use Rattle.ppc_file.specs.declared.version.Version.TheVariants.{One, Two}
 use Rattle.ppc_file.specs.Numbers.{spelled}

@@ -5,11 +5,7 @@ use Rattle.std.specs.List.{list_any}
 use Rattle.tl_text.specs.Lines.{ends_in}
 use Rattle.tl_text.specs.NameSets.{has_name}
 use Rattle.aig_core.specs.And.{is_pair}
-use Rattle.aig_core.specs.declared.lit.Lit.{Lit}
-use Rattle.aig_core.specs.declared.lit.Pair.{Pair}
-use Rattle.ppc_pack.specs.declared.pack.PackParam.{PackParam}
-use Rattle.ppc_pack.specs.declared.pack.TheConstants.{MOST_PACK_NODES, MOST_PACK_BITS}
-use Rattle.tl_text.specs.declared.limits.TheConstants.{MOST_PARAMETERS, MOST_NAME_BYTES}
+use Rattle.ppc_file.specs.Words.{Lit, Pair, PackParam, MOST_PACK_NODES, MOST_PACK_BITS, MOST_PARAMETERS, MOST_NAME_BYTES}
 use Rattle.ppc_file.specs.declared.pack_err.PackErr.TheVariants as refused
 use Rattle.ppc_file.specs.declared.version.Version.{Version}
 use Rattle.ppc_file.specs.declared.version.Version.TheVariants.{One, Two}

@@ -3,12 +3,7 @@ use Rattle.std.specs.Prelude.{ℕ, ◌+◌, ◌*◌, ◌<◌, ◌≤◌, if◌th
 use Rattle.list_laws.specs.Members.{In}
 use Rattle.tl_text.specs.Clean.{IsClean}
 use Rattle.tl_text.specs.Once.{AreOnce}
-use Rattle.aig_core.specs.Aig.{AreNormal}
-use Rattle.aig_core.specs.declared.lit.Lit.{Lit}
-use Rattle.aig_core.specs.declared.lit.Pair.{Pair}
-use Rattle.ppc_pack.specs.declared.pack.PackParam.{PackParam}
-use Rattle.ppc_pack.specs.declared.pack.TheConstants.{MOST_PACK_NODES, MOST_PACK_BITS}
-use Rattle.tl_text.specs.declared.limits.TheConstants.{MOST_PARAMETERS, MOST_NAME_BYTES}
+use Rattle.ppc_file.specs.Words.{AreNormal, Lit, Pair, PackParam, MOST_PACK_NODES, MOST_PACK_BITS, MOST_PARAMETERS, MOST_NAME_BYTES}
 use Rattle.ppc_file.specs.declared.pack_err.PackErr.TheVariants as refused
 use Rattle.ppc_file.specs.declared.version.Version.{Version}
 use Rattle.ppc_file.specs.Numbers.{Field, offset}

@@ -1,4 +1,5 @@
 -- What public clauses say.
+pub mod Words
 pub mod Numbers
 pub mod Bytes
 pub mod Fields

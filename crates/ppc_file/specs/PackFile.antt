@@ -1,7 +1,6 @@
 -- The pack of a file, and the first refusal of a file.
 use Rattle.std.specs.Prelude.{◌≡◌, ℕ, ◌⊎◌, List, ◌++◌, length, Some, Err}
-use Rattle.aig_core.specs.Aig.{AreNormal, first_and}
-use Rattle.ppc_pack.specs.Pack.{PackValue, IsPack}
+use Rattle.ppc_file.specs.Words.{AreNormal, first_and, PackValue, IsPack}
 use Rattle.ppc_file.specs.declared.pack_err.PackErr.{PackErr}
 use Rattle.ppc_file.specs.declared.version.Version.TheVariants.{One, Two}
 use Rattle.ppc_file.specs.Bytes.{bytes_of}

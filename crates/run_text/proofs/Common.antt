@@ -1,5 +1,5 @@
 -- What the proofs of this crate cite of other crates, and its own definitions, passed on from one place.
-pub use Rattle.std.proofs.Common.{replicate, ◌≡◌, ℕ, zero, suc, ◌+◌, ◌≤◌, List, [], ◌∷◌, ◌++◌, length, map, take, drop, Option, Some, None, refl, sym, ap, ◌∙◌, ◌||◌, Bool, true, false, not, eqb, ltb, leb, bytes_eq, subst, codes, inl, inr, Ok, arith, ◌<◌, get_or, ◌≢◌, is_some, rules, vec_len}
+pub use Rattle.std.proofs.Common.{replicate, ◌≡◌, ℕ, zero, suc, ◌+◌, ◌≤◌, List, [], ◌∷◌, ◌++◌, length, map, take, drop, Option, Some, None, refl, sym, ap, ◌∙◌, Bool, true, false, eqb, ltb, leb, bytes_eq, subst, codes, inl, inr, Ok, arith, ◌<◌, get_or, ◌≢◌, is_some, rules, vec_len}
 pub use Rattle.std.proofs.lemmas.Bool.{or_parts, eqb-true, ltb-true, cases_lt, cond-true, cond-false, eq-eqb, ne_eqb}
 pub use Rattle.std.proofs.lemmas.List.{take_all, take-append-drop, map-append, take_rest, length-map}
 pub use Rattle.std.proofs.lemmas.Option.{none-some, same_Some, slice_get_within, slice_get_past, slice_get_read, slice_get-get_or}
@@ -22,13 +22,13 @@ pub use Rattle.tl_text.proofs.TextOfLemmas.{text_settled, lines_fault, text_read
 pub use Rattle.tl_text.specs.LineValue.{WordsLine, LineValue, words_line, token_bytes}
 pub use Rattle.tl_text.specs.NameIndex.{place_of}
 pub use Rattle.tl_text.specs.NameSets.{has_name, with_names}
-pub use Rattle.tl_text.specs.TextOf.{at_line, IsLinesFault, by_lines}
+pub use Rattle.tl_text.specs.TextOf.{at_line}
 pub use Rattle.tl_text.specs.declared.token.Token.{Token}
 pub use Rattle.run_text.specs.EventValue.{in_front, each_of, EventValue, Set, Cycle, Upset, Scrub, Image, event_values, event_value}
 pub use Rattle.run_text.specs.Fits.{Fits}
 pub use Rattle.run_text.specs.Lines.{bit_digit, bit_string, header_line, cycle_line, bits_header_line, write_text, set_line, scrub_line, upset_line, image_line, part_text}
 pub use Rattle.run_text.specs.NamesValue.{NamesValue}
-pub use Rattle.run_text.specs.Sayings.{Saying, sets, cycles, upsets, scrubs, images, said_of, split_last, setting_of, settings_of, bits_of, address_of, split_before, digit_bit}
+pub use Rattle.run_text.specs.Sayings.{Saying, said_of, split_last, setting_of, settings_of, bits_of, address_of, split_before, digit_bit}
 pub use Rattle.run_text.specs.ScriptRefusals.{refusal_of}
 pub use Rattle.run_text.specs.ScriptText.{settings_refusal, cycle_refusal, saying_refusal, line_refusal, assigned, assign_of, event_of, line_event, AreEventsOf, refusal_at, IsScript, IsScriptFault, script_err, IsFirstRefusal, HasOneReading}
 pub use Rattle.run_text.specs.declared.script_err.ScriptErr.{ScriptErr}

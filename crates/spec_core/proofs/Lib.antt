@@ -6,3 +6,4 @@ mod SweepLemmas
 pub mod AssignLemmas
 mod KeepLemmas
 mod EventsExample
+mod Lemmas

@@ -1,8 +1,7 @@
 -- Where two configurations differ, as the writes that make the second of the first.
 use Rattle.std.specs.Prelude.{ℕ, Bool, List, length, map}
 use Rattle.std.specs.List.{filter, range_with_len}
-use Rattle.tl_io.specs.declared.Write.{Write}
-use Rattle.aig_core.specs.Value.{xor}
+use Rattle.spec_core.specs.Words.{Write, xor}
 -- the bit at an address
 pub use Rattle.list_laws.specs.Digits.{bit_in as config_bit}
 

@@ -1,10 +1,6 @@
 -- The events of the host over a pack: from the parameters' values and the configuration to the next ones, with the writes that an event makes. A configuration is computed from scratch here, by evaluating the pack (`IsConf`).
 use Rattle.std.specs.Prelude.{◌≡◌, ℕ, Bool, not, List, [], ◌∷◌}
-use Rattle.tl_io.specs.declared.Assign.{Assign}
-use Rattle.tl_io.specs.declared.Write.{Write}
-use Rattle.tl_io.specs.Assigns.{assigned}
-use Rattle.tl_io.specs.Writes.{written}
-use Rattle.ppc_pack.specs.Pack.{PackValue, IsConf}
+use Rattle.spec_core.specs.Words.{Assign, Write, assigned, written, PackValue, IsConf}
 use Rattle.spec_core.specs.Differences.{config_bit, differences}
 
 -- the parameters' values, and the configuration that the device has, with bits that were upset

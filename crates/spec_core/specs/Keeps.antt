@@ -1,15 +1,9 @@
 -- What a specialiser keeps between events.
 use Rattle.std.specs.Prelude.{◌≡◌, ℕ, ◌≤◌, Bool, false, List, length, take, drop, replicate, [], ◌∷◌, ◌++◌, map, slice_set}
-use Rattle.tl_io.specs.declared.Assign.{Assign}
-use Rattle.tl_io.specs.Assigns.{assigned}
-use Rattle.tl_io.specs.Writes.{AreAscending, AreBitsOf, written}
-use Rattle.aig_core.specs.Aig.{first_and, node_count, AreNormal}
-use Rattle.aig_core.specs.Value.{FitsGraph}
+use Rattle.spec_core.specs.Words.{Assign, assigned, AreAscending, AreBitsOf, written, first_and, node_count, AreNormal, FitsGraph, PackValue, Write}
 use Rattle.ppc_pack.specs.declared.pack.TheConstants.{MOST_PACK_BITS}
-use Rattle.ppc_pack.specs.Pack.{PackValue}
 use Rattle.spec_core.specs.Sweep.{EvaluationValue, Progress, IsSwept}
 use Rattle.std.specs.List.{filter, range_with_len}
-use Rattle.tl_io.specs.declared.Write.{Write}
 use Rattle.spec_core.specs.Differences.{write_of}
 
 pub record DeviceValue : Type 0 where

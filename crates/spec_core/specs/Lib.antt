@@ -1,4 +1,5 @@
 -- What public clauses say.
+pub mod Words
 pub mod Differences
 pub mod Events
 pub mod Touched

@@ -1,7 +1,6 @@
 -- What a specialiser is seen as.
 use Rattle.std.specs.Prelude.{ℕ, List}
-use Rattle.tl_io.specs.declared.Write.{Write}
-use Rattle.ppc_pack.specs.Pack.{PackValue}
+use Rattle.spec_core.specs.Words.{Write, PackValue}
 use Rattle.spec_core.specs.Events.{HostState}
 
 -- its pack, the parameters' values and the configuration, the writes of the last event that makes writes, and how many pairs were read since it was made

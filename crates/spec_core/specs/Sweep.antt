@@ -1,13 +1,9 @@
 -- An evaluated pack, and how a change of its parameters runs through it.
 use Rattle.std.specs.Prelude.{◌≡◌, ℕ, ◌+◌, ◌-◌, ◌/◌, ◌<◌, ◌≤◌, Bool, true, false, ◌&&◌, if◌then◌else◌, List, [], ◌∷◌, length, map, take, replicate, Some, slice_get, slice_set}
 use Rattle.std.specs.List.{filter}
-use Rattle.tl_io.specs.declared.Assign.{Assign}
+use Rattle.spec_core.specs.Words.{Assign, Pair, Aig, first_and, node_count, IsAnd, IsNode, AreNormal, xor, node_value, value_of, PackValue, IsPack}
 use Rattle.aig_core.specs.declared.lit.Lit.{Lit}
-use Rattle.aig_core.specs.declared.lit.Pair.{Pair}
-use Rattle.aig_core.specs.Aig.{Aig, first_and, node_count, IsAnd, IsNode, AreNormal}
 use Rattle.aig_core.specs.Roots.{lits_of}
-use Rattle.aig_core.specs.Value.{xor, node_value, value_of}
-use Rattle.ppc_pack.specs.Pack.{PackValue, IsPack}
 use Rattle.dirty_idx.specs.Marks.{is_marked}
 use Rattle.dirty_idx.specs.Readers.{ReadersValue, AreReaders, nodes_of, addresses_of}
 use Rattle.spec_core.specs.Touched.{is_changed, is_touched}

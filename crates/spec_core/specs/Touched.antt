@@ -1,9 +1,7 @@
 -- The AND nodes that a change of parameters touches: those with a fan-in whose value changes.
 use Rattle.std.specs.Prelude.{ℕ, ◌+◌, ◌/◌, ◌≤◌, Bool, ◌||◌, List, length}
 use Rattle.std.specs.List.{filter}
-use Rattle.aig_core.specs.declared.lit.Pair.{Pair}
-use Rattle.aig_core.specs.Aig.{Aig}
-use Rattle.aig_core.specs.Value.{xor, node_value, FitsGraph}
+use Rattle.spec_core.specs.Words.{Pair, Aig, xor, node_value, FitsGraph}
 
 -- has a node another value
 abbrev pub is_changed : List Bool → List Bool → ℕ → Bool

@@ -1,14 +1,12 @@
 -- Worked examples of the definitions: the words of the other commands, the lines of `gen`, and files that are written one after the other.
-use Rattle.std.proofs.Common.{◌≡◌, ℕ, List, [], ◌∷◌, ◌++◌, codes, Some, None, refl, inl, inr, arith}
+use Rattle.test_rows.proofs.Common.{◌≡◌, ℕ, List, [], ◌∷◌, ◌++◌, codes, Some, None, refl, inl, inr, arith, FewestLeaves, LeastCost, Spec, Map, Bits, Gen, Repack, Prove, Audit, Graph, command_of}
 use Rattle.std.specs.Fmt.{digits}
 use Rattle.tl_io.specs.Causes.{Rose}
 use Rattle.tl_io.specs.Content.{extended}
 use Rattle.tl_io.specs.Shelf.{with_file}
-use Rattle.cover_pick.specs.declared.rule.Rule.TheVariants.{FewestLeaves, LeastCost}
 use Rattle.cmd_stations.specs.Source.{SourceWords}
 use Rattle.cmd_base.specs.Walk.{Outside}
 use Rattle.cmd_base.specs.Writing.{FileText, AreWritten, IsCutInFile, IsCutInLine}
-use Rattle.tlut_cli.specs.Commands.{Spec, Map, Bits, Gen, Repack, Prove, Audit, Graph, command_of}
 use Rattle.cmd_run.specs.GenCommand.Verdict.{first_line, last_line}
 
 -- the words K NETLIST PARAMS, for tables of six inputs

@@ -1,12 +1,8 @@
 -- Worked examples of the definitions: words, ports, what a script may name, and fault lines.
-use Rattle.std.proofs.Common.{◌≡◌, ℕ, Bool, true, false, cond, List, [], ◌∷◌, bytes_eq, codes, Option, Some, None, map, refl}
+use Rattle.test_rows.proofs.Common.{◌≡◌, ℕ, Bool, true, false, cond, List, [], ◌∷◌, bytes_eq, codes, Option, Some, None, map, refl, One, Cover, CoverValue, LibraryValue, line_of, FewestLeaves}
 use Rattle.std.specs.Fmt.{digits}
 use Rattle.std.specs.Option.{option_map}
 use Rattle.tl_io.specs.Port.{PortSeen}
-use Rattle.netlist.specs.declared.cell.Cell.TheVariants.{One}
-use Rattle.netlist.specs.declared.command.Body.TheVariants.{Cover}
-use Rattle.netlist.specs.CoverValue.{CoverValue}
-use Rattle.netlist.specs.LibraryValue.{LibraryValue}
 use Rattle.blif_read.specs.Refusals.{refusal_of as blif_refusal}
 use Rattle.blif_read.specs.declared.blif_err.BlifErr.TheVariants as blif_err
 use Rattle.netlist.specs.FlatValue.{FlatValue}
@@ -24,9 +20,7 @@ use Rattle.cmd_base.specs.declared.outcome.Outcome.TheVariants as outcome
 use Rattle.cmd_base.specs.declared.status.Status.TheVariants as status
 use Rattle.cmd_stations.specs.declared.source.Source.{Source}
 use Rattle.tlut_cli.specs.Call.{fault_word}
-use Rattle.tlut_cli.specs.Commands.{line_of}
 use Rattle.cmd_run.specs.Run.Job.{bank_of, RunWords, run_of}
-use Rattle.cover_pick.specs.declared.rule.Rule.TheVariants.{FewestLeaves}
 use Rattle.cmd_stations.specs.Script.{names_of}
 use Rattle.cmd_stations.specs.SourceCircuit.{width_of, shape_of}
 use Rattle.cmd_base.specs.Statuses.{refusal_status, status_of}

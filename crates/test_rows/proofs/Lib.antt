@@ -1,3 +1,4 @@
+mod Common
 mod TextExamples
 mod JobExamples
 mod CommandExamples

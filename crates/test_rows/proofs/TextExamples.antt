@@ -1,12 +1,8 @@
 -- Worked examples of the definitions: a text with the library that it denotes, and texts with their refusals.
-use Rattle.std.proofs.Common.{◌≡◌, ℕ, true, List, [], ◌∷◌, codes, Some, refl, ap, inl, inr, arith}
+use Rattle.test_rows.proofs.Common.{◌≡◌, ℕ, true, List, [], ◌∷◌, codes, Some, refl, ap, inl, inr, arith, Zero, Any, Cover, CoverValue, ModelValue, LibraryValue, Ports, input_ports, output_ports, clock_ports, ports_of}
 use Rattle.tl_text.specs.LineValue.{LineValue}
 use Rattle.blif_read.specs.declared.blif_err.BlifErr.TheVariants.{BadByte, TrailingSlash, NotCommand, Unsupported, OutsideModel, Arity, BadRow, MixedRows, BadLatch, LatchKind, DuplicateModel, DuplicatePort, BadConnection, NoModel}
-use Rattle.netlist.specs.declared.cell.Cell.TheVariants.{Zero, Any}
 use Rattle.blif_read.specs.declared.keyword.Keyword.TheVariants as keyword
-use Rattle.netlist.specs.declared.command.Body.TheVariants.{Cover}
-use Rattle.netlist.specs.CoverValue.{CoverValue}
-use Rattle.netlist.specs.LibraryValue.{ModelValue, LibraryValue, Ports, input_ports, output_ports, clock_ports, ports_of}
 use Rattle.blif_read.specs.Statement.{StatementValue}
 use Rattle.tl_text.specs.Once.{AreOnce}
 use Rattle.blif_read.specs.Rows as rows

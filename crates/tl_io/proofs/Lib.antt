@@ -8,3 +8,4 @@ mod Reading
 mod StoreLemmas
 mod Takes
 pub mod WrittenLemmas
+mod Lemmas

@@ -1,11 +1,8 @@
 -- Texts that are added to a writer one after another, and the writer's end.
-use Rattle.std.proofs.Common.{◌≡◌, ◌⊎◌, inl, inr, ℕ, ◌≤◌, true, false, List, [], ◌++◌, Result, Ok, Err, is_err, refl, sym, ap, subst, ◌∙◌, arith, rules}
+use Rattle.tl_piece.proofs.Common.{◌≡◌, ◌⊎◌, inl, inr, ℕ, ◌≤◌, true, false, List, [], ◌++◌, Result, Ok, Err, is_err, refl, sym, ap, subst, ◌∙◌, arith, rules, SinkSeen, IsPut, IsNew, Grows, waits, cut, stays, IsAdded, IsFinished, Writer}
 use Rattle.std.specs.Borrow.{MutBor}
 use Rattle.std.proofs.lemmas.Bool.{cases_Bool}
-use Rattle.tl_io.specs.Sink.{SinkSeen, IsPut}
 use Rattle.tl_io.proofs.PutLemmas.{rose_late, rose_early, cause_late}
-use Rattle.tl_piece.specs.Added.{IsNew, Grows, waits, cut, stays, IsAdded, IsFinished}
-use Rattle.tl_piece.specs.declared.writer.Writer.{Writer}
 use Rattle.tl_piece.proofs.PieceLemmas.{adds_none, adds_waiting, adds_put_all, adds_twice, stops_put, stops_longer, stops_later, stops_still, adds_then_puts, stops_part}
 
 -- one text and then another

@@ -1,3 +1,4 @@
+mod Common
 mod PieceLemmas
 pub mod AddedLemmas
 pub mod PartLemmas

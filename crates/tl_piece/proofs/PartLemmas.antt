@@ -1,11 +1,7 @@
 -- Texts that loops add to a writer, part by part.
-use Rattle.std.proofs.Common.{◌≡◌, ℕ, zero, suc, ◌+◌, ◌<◌, List, [], ◌∷◌, ◌++◌, length, get_or, take, map, replicate, refl, sym, ap, ◌∙◌, arith, append-nil, add-one}
+use Rattle.tl_piece.proofs.Common.{◌≡◌, ℕ, zero, suc, ◌+◌, ◌<◌, List, [], ◌∷◌, ◌++◌, length, get_or, take, map, replicate, refl, sym, ap, ◌∙◌, arith, append-nil, add-one, take_more, map-append, SinkSeen, IsAdded, Writer}
 use Rattle.std.specs.List.{flat_map, range_with_len}
-use Rattle.std.proofs.lemmas.List.{take_more, map-append}
 use Rattle.std.proofs.lemmas.List.Concat.{flat_map-append}
-use Rattle.tl_io.specs.Sink.{SinkSeen}
-use Rattle.tl_piece.specs.Added.{IsAdded}
-use Rattle.tl_piece.specs.declared.writer.Writer.{Writer}
 use Rattle.tl_piece.proofs.AddedLemmas.{added_as, added_to}
 
 -- the parts before an index, and the one there

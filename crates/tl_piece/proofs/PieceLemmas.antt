@@ -1,7 +1,6 @@
 -- Bytes that wait, and texts that are added behind them.
-use Rattle.std.proofs.Common.{◌≡◌, ℕ, ◌+◌, ◌<◌, List, [], ◌++◌, length, take, Option, Result, Ok, Err, sym, ap, subst, ◌∙◌, arith, append_assoc, append-nil, length-append, rules}
+use Rattle.tl_piece.proofs.Common.{◌≡◌, ℕ, ◌+◌, ◌<◌, List, [], ◌++◌, length, take, Option, Result, Ok, Err, sym, ap, subst, ◌∙◌, arith, append_assoc, append-nil, length-append, rules, take-append-le}
 use Rattle.std.proofs.Math.Seq.{take-append-add}
-use Rattle.std.proofs.lemmas.List.{take-append-le}
 use Rattle.tl_io.specs.Content.{extended, Puts}
 use Rattle.tl_io.proofs.ContentLemmas.{extended_none, extended_twice}
 use Rattle.tl_piece.specs.Pieces.{Adds, Stops}

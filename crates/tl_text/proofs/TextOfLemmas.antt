@@ -1,7 +1,5 @@
 -- A text has one meaning at most, or one refusal at most, and never both, where lines have.
-use Rattle.tl_text.proofs.Common.{◌≡◌, ℕ, List, map, Option, None, Result, Ok, Err, IfOk, refl, sym, subst, Unless, OrMemory, LineValue, WordsLine, words_line, lines_of, refusal_of, TextErr, Memory, arith}
-use Rattle.std.specs.Prelude.{IfErr}
-use Rattle.std.proofs.lemmas.Result.{IfOk-weaker, IfErr-weaker}
+use Rattle.tl_text.proofs.Common.{◌≡◌, ℕ, List, map, Option, None, Result, Ok, Err, IfOk, refl, sym, subst, Unless, OrMemory, LineValue, WordsLine, words_line, lines_of, refusal_of, TextErr, Memory, arith, IfErr, IfOk-weaker, IfErr-weaker}
 use Rattle.tl_fault.specs.RefusalValue.{RefusalValue}
 use Rattle.tl_fault.specs.Settled.{IsSettled, IsAfter, IsFaultAfter, passed_on, here}
 use Rattle.tl_fault.proofs.OrMemoryLemmas.{Unless-of, OrMemory-map}

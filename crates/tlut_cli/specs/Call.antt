@@ -1,18 +1,11 @@
 -- What a call says of itself: its outcome with its cause, and what each status means.
 use Rattle.std.specs.Prelude.{◌≡◌, ℕ, ◌⊎◌, true, List, [], Option, Some, None, length}
 use Rattle.tl_fault.specs.RefusalValue.{RefusalValue}
-use Rattle.cover_pick.specs.declared.rule.Rule.{Rule}
+use Rattle.tlut_cli.specs.Words.{Rule, PortSeen, Files, ShelfSeen, SinkSeen, Outside, outside, CommandWalk, InFiles, Ends, IsReadFault, HasWriteFault, refusal_status, Outcome, Status}
 use Rattle.tl_io.specs.Causes.{Rose}
-use Rattle.tl_io.specs.Port.{PortSeen}
-use Rattle.tl_io.specs.Shelf.{Files, ShelfSeen}
-use Rattle.tl_io.specs.Sink.{SinkSeen}
-use Rattle.cmd_base.specs.Walk.{Outside, outside, CommandWalk, InFiles, Ends, IsReadFault, HasWriteFault}
 use Rattle.tlut_cli.specs.Commands.{Subcommand, command_of, walk_of}
-use Rattle.cmd_base.specs.Statuses.{refusal_status}
 use Rattle.cmd_base.specs.declared.outcome.File.{File}
-use Rattle.cmd_base.specs.declared.outcome.Outcome.{Outcome}
 use Rattle.cmd_base.specs.declared.outcome.Outcome.TheVariants as outcome
-use Rattle.cmd_base.specs.declared.status.Status.{Status}
 use Rattle.cmd_base.specs.declared.status.Status.TheVariants as status
 
 -- What a call has around it, before or after: the shelf, the output and the ports.

@@ -1,8 +1,6 @@
 -- How the command that was run ended.
 use Rattle.std.specs.Prelude.{◌≡◌, ◌⊎◌, ℕ, List, Some}
-use Rattle.cover_pick.specs.declared.rule.Rule.{Rule}
-use Rattle.cmd_base.specs.Walk.{HasLaws}
-use Rattle.cmd_base.specs.declared.outcome.Outcome.{Outcome}
+use Rattle.tlut_cli.specs.Words.{Rule, HasLaws, Outcome}
 use Rattle.tlut_cli.specs.Call.{World, WalkEnds}
 use Rattle.tlut_cli.specs.Commands.{Subcommand, command_of, walk_of}
 

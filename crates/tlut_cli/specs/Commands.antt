@@ -1,17 +1,13 @@
 -- The commands, by the command-line arguments, the walk of each, and the fault line of a call: for a usage error it lists the forms of all commands.
 use Rattle.std.specs.Prelude.{ℕ, List, [], ◌∷◌, codes, Option, Some, None}
 use Rattle.std.specs.Option.{option_map}
-use Rattle.cover_pick.specs.declared.rule.Rule.{Rule}
-use Rattle.cmd_base.specs.Walk.{CommandWalk}
+use Rattle.tlut_cli.specs.Words.{Rule, CommandWalk, RunWords, run_of, run_seen, IsInRange, MapWords, map_of, map_seen, map_walk, BitsWords, bits_of, bits_seen, bits_walk, Outcome}
 use Rattle.tlut_cli.specs.declared.command.Subcommand.{Subcommand as CommandRead}
 use Rattle.tlut_cli.specs.declared.command.Subcommand.TheVariants as read
 use Rattle.cmd_run.specs.declared.gen_command.words.GenWords.{GenWords}
 use Rattle.cmd_stations.specs.Source.{IsTableSize}
-use Rattle.cmd_run.specs.Run.Job.{RunWords, run_of, run_seen, IsInRange}
 use Rattle.cmd_run.specs.Run.Verdict.{run_walk}
 use Rattle.cmd_map.specs.Spec.{SpecWords, spec_of, spec_seen, spec_walk}
-use Rattle.cmd_map.specs.Map.{MapWords, map_of, map_seen, map_walk}
-use Rattle.cmd_pack.specs.Bits.{BitsWords, bits_of, bits_seen, bits_walk}
 use Rattle.cmd_cert.specs.Certs.{CertWords, cert_words_of, cert_seen}
 use Rattle.cmd_cert.specs.Prove.{prove_walk}
 use Rattle.cmd_cert.specs.Audit.{audit_walk}
@@ -22,7 +18,6 @@ use Rattle.cmd_run.specs.GenCommand.Case.{gen_of, HasDigits}
 use Rattle.cmd_run.specs.GenCommand.Verdict.{gen_walk}
 use Rattle.cmd_pack.specs.Repack.{RepackWords, repack_of, repack_seen, repack_walk}
 use Rattle.cmd_base.specs.FaultLine.{line_of as line_with}
-use Rattle.cmd_base.specs.declared.outcome.Outcome.{Outcome}
 
 -- a command with its words
 pub data Subcommand : Type 0 where

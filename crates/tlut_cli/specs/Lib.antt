@@ -1,4 +1,5 @@
 -- What public clauses say: the forms and the walk of each command,
+pub mod Words
 pub mod Commands
 -- what each one writes,
 pub mod Outputs

@@ -1,19 +1,10 @@
 -- What a call says of itself: what its status means, clause by clause, and the outcome that it reports.
 use Rattle.std.specs.Prelude.{◌≡◌, ◌⊎◌, ℕ, List, Some, String, length, map, string_bytes}
 use Rattle.std.specs.Global.{Vec, Global}
-use Rattle.cover_pick.specs.declared.rule.Rule.{Rule}
-use Rattle.tl_io.specs.Port.{PortSeen}
-use Rattle.tl_io.specs.Shelf.{ShelfSeen}
-use Rattle.tl_io.specs.Sink.{SinkSeen}
+use Rattle.tlut_cli.specs.Words.{Rule, PortSeen, ShelfSeen, SinkSeen, status_of, Told, Outcome, Status, RunWords, MapWords}
 use Rattle.cmd_base.specs.FaultLine.{Reports}
-use Rattle.cmd_base.specs.Statuses.{status_of}
-use Rattle.cmd_base.specs.Walk.{Told}
-use Rattle.cmd_base.specs.declared.outcome.Outcome.{Outcome}
-use Rattle.cmd_base.specs.declared.status.Status.{Status}
 use Rattle.cmd_base.specs.declared.status.Status.TheVariants as status
 use Rattle.cmd_run.specs.Run.Headline.{HasHeadline}
-use Rattle.cmd_run.specs.Run.Job.{RunWords}
-use Rattle.cmd_map.specs.Map.{MapWords}
 use Rattle.cmd_pace.specs.Headline.{HasPaceHeadline}
 use Rattle.cmd_pace.specs.Job.{PaceWords}
 use Rattle.tlut_cli.specs.Call.{World, world_of, outside_of, IsEnd, fault_word, HasRefusal, HasDone, HasCutOff, HasLost, HasKeptPorts, HasFault, HasPortCause, HasWriteCause, IsAnswered, IsComplete, IsFinished}

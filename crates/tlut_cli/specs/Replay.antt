@@ -3,16 +3,12 @@ use Rattle.std.specs.Prelude.{◌≡◌, ℕ, List, ◌∷◌, length, Ok, Some}
 use Rattle.std.specs.FinMap.{get}
 use Rattle.std.specs.List.{concat}
 use Rattle.tl_io.specs.Content.{extended}
-use Rattle.tl_io.specs.Shelf.{Files}
+use Rattle.tlut_cli.specs.Words.{Files, Outside, RunWords, MapWords, HasMap, BitsWords, IsPlayedOn, pack_header}
 use Rattle.run_text.specs.EventValue.{EventValue}
-use Rattle.cmd_base.specs.Walk.{Outside}
 use Rattle.cmd_base.specs.Writing.{AreWritten}
 use Rattle.cmd_stations.specs.Mapped.{template_header}
 use Rattle.cmd_stations.specs.Packs.{present_bytes}
-use Rattle.cmd_run.specs.Run.Job.{RunWords}
 use Rattle.cmd_run.specs.Run.Ends.{HasRun}
-use Rattle.cmd_map.specs.Map.{MapWords, HasMap}
-use Rattle.cmd_pack.specs.Bits.{BitsWords, IsPlayedOn, pack_header}
 
 -- Two outputs grew by these headers, and then by the same lines, one for each event: both played the same events.
 pub record PutTheSameLines (header other_header : List ℕ) (events others : List EventValue) (old new other later : Outside) : Type 0 where

@@ -4,3 +4,4 @@ mod HostExample
 pub mod PacedLemmas
 pub mod SettingLemmas
 pub mod Values
+mod Lemmas

@@ -1,8 +1,6 @@
 -- Calls of C at a handle: the host before and after.
 use Rattle.std.specs.Prelude.{◌≡◌, ◌≢◌, ℕ, ◌<◌, ◌≤◌, Bool, List, length, map, Option, Some, None, slice_get}
-use Rattle.ppc_pack.specs.Pack.{IsConf}
-use Rattle.spec_core.specs.Specialiser.{SpecialiserValue}
-use Rattle.spec_core.specs.Events.{IsUpset, IsScrub}
+use Rattle.tlut_host.specs.Words.{IsConf, SpecialiserValue, IsUpset, IsScrub}
 use Rattle.tl_text.specs.NameIndex.{place_of}
 use Rattle.tlut_host.specs.Kept.{param_names}
 use Rattle.tlut_host.specs.Copied.{copied_by, copied_plain}

@@ -1,11 +1,9 @@
 -- Opening a pack: the host that it makes, and what is told where it is refused.
 use Rattle.std.specs.Prelude.{◌≡◌, ℕ, ◌<◌, List, [], length, Option, Some, None}
 use Rattle.tl_text.specs.declared.limits.TheConstants.{MOST_PACK_BYTES}
-use Rattle.ppc_pack.specs.Pack.{IsConf, inits_of}
-use Rattle.ppc_file.specs.PackFile.{IsPackFile, IsPackFault}
+use Rattle.tlut_host.specs.Words.{IsConf, inits_of, IsPackFile, IsPackFault, SpecialiserValue}
 use Rattle.ppc_file.specs.declared.pack_err.PackErr.{PackErr}
 use Rattle.ppc_file.specs.declared.pack_err.PackErr.TheVariants.{Magic, Version, Truncated, BadName, BadNode, BadBit, Trailing, BadNumber, Memory as NoMemory}
-use Rattle.spec_core.specs.Specialiser.{SpecialiserValue}
 use Rattle.tlut_host.specs.declared.setting.PackRefusal.{PackRefusal}
 use Rattle.tlut_host.specs.declared.setting.TheConstants.{REFUSED, LIMIT, MEMORY}
 use Rattle.tlut_host.specs.declared.opened.OpenErr.{OpenErr}

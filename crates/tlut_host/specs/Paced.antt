@@ -1,14 +1,10 @@
 -- A host at a limited rate: what it is seen as, what it keeps, and its events. A configuration is computed from scratch here (`IsConf`).
 use Rattle.std.specs.Prelude.{◌≡◌, ℕ, ◌+◌, ◌<◌, ◌≤◌, Bool, true, false, List, [], length, take}
-use Rattle.tl_io.specs.declared.Assign.{Assign}
+use Rattle.tlut_host.specs.Words.{Assign, PackValue, IsConf, HasOneConf, inits_of, IsPackFile, SpecialiserValue, IsWithinTouched}
 use Rattle.tl_io.specs.declared.Write.{Write}
 use Rattle.tl_io.specs.Assigns.{assigned}
 use Rattle.tl_io.specs.Writes.{written}
-use Rattle.ppc_pack.specs.Pack.{PackValue, IsConf, HasOneConf, inits_of}
-use Rattle.ppc_file.specs.PackFile.{IsPackFile}
 use Rattle.spec_core.specs.Differences.{differences}
-use Rattle.spec_core.specs.Specialiser.{SpecialiserValue}
-use Rattle.spec_core.specs.Touched.{IsWithinTouched}
 use Rattle.pace_core.specs.Backlog.{BacklogValue, IsBehind}
 use Rattle.tlut_host.specs.Settings.{IsChange}
 

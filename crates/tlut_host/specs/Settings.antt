@@ -1,10 +1,6 @@
 -- New values of parameters as C gives them, and the change that they make.
 use Rattle.std.specs.Prelude.{◌≡◌, ℕ, ◌+◌, List, [], ◌∷◌, nat_le, nat_lt, if◌then◌else◌}
-use Rattle.tl_io.specs.declared.Assign.{Assign}
-use Rattle.ppc_pack.specs.Pack.{IsConf}
-use Rattle.spec_core.specs.Specialiser.{SpecialiserValue}
-use Rattle.spec_core.specs.Events.{IsSet}
-use Rattle.spec_core.specs.Touched.{IsWithinTouched}
+use Rattle.tlut_host.specs.Words.{Assign, IsConf, SpecialiserValue, IsSet, IsWithinTouched}
 use Rattle.tlut_host.specs.declared.setting.ParameterSetting.{ParameterSetting}
 use Rattle.tlut_host.specs.declared.setting.TheConstants.{DONE, RANGE, ORDER}
 

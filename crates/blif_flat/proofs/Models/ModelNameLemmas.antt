@@ -1,6 +1,6 @@
 -- The names of a model, each once: they are all there, and no more than the model holds.
 use Rattle.blif_flat.proofs.Common.{◌≡◌, ℕ, ◌+◌, ◌<◌, ◌≤◌, List, [], ◌∷◌, ◌++◌, length, get_or, drop, Option, Some, None, refl, sym, ap, ◌∙◌, arith, length-append, length-map, drop_at, Body, Cover, Latch, Subckt, Command, Connection, ModelValue, control_names, body_names, commands_names, all_names, with_names, distinct_names, control_weight, body_weight, commands_weight, own_weight, with_names-length}
-pub use Rattle.tl_text.proofs.NameSetLemmas.{with_names-append, place_is, name_place_within}
+pub use Rattle.tl_text.proofs.NameSetLemmas.{with_names-append}
 
 -- those of the commands from a place on, and those of a model's ports and commands
 pub commands_split : (names : List (List ℕ)) (cs : List Command) (i : ℕ) (c : Command) → i < length cs → c ≡ get_or cs i c

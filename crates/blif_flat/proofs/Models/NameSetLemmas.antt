@@ -1,6 +1,6 @@
 -- The inputs, the ports and the models of a library, found by names of which none stands twice.
 use Rattle.blif_flat.proofs.Common.{◌≡◌, ℕ, suc, ◌+◌, ◌<◌, ◌≤◌, Bool, true, false, not, ◌||◌, ltb, List, [], ◌∷◌, length, drop, filter, bytes_eq, Some, None, refl, sym, ap, ◌∙◌, subst, inl, inr, arith, slice_get, ltb-true, cases_Bool, cond-true, cond-false, both_ways, ltb-false, length-map, slice_get_past, drop_past, at_within, list_any-append, place_of, ModelValue, input_ports, output_ports, clock_ports, has_name, is_input, inputs_of, model_named, IsWellFormedModel, AreOnce, with_names, ports_value, model_names, Finds, position_or_len, rules}
-pub use Rattle.tl_text.proofs.NameSetLemmas.{place_some, place_none, no_match, has_with_names, new_names, more_names}
+pub use Rattle.tl_text.proofs.NameSetLemmas.{no_match, new_names, more_names}
 
 -- the inputs of a model
 filtered : (a cs : List (List ℕ)) (x : List ℕ) → has_name a x ≡ false → has_name (filter (λ y. not (has_name a y)) cs) x ≡ has_name cs x

@@ -1,14 +1,12 @@
 -- The arguments of `gen`, and the generated texts as the files of a job of `run`, with LUTs of at most 4 inputs whose cuts are chosen by a rule, and no ports.
 use Rattle.std.specs.Prelude.{codes, ℕ, ◌≤◌, ◌&&◌, nat_le, if◌then◌else◌, List, [], ◌∷◌, bytes_eq, Option, Some, None}
 use Rattle.std.specs.FinMap.{insert, empty}
-use Rattle.tl_io.specs.Shelf.{Files}
+use Rattle.cmd_run.specs.Words.{Files, Rule, decimal_of}
 use Rattle.gen_case.specs.Lines.{text_of}
 use Rattle.gen_case.specs.Netlist.{netlist_lines}
 use Rattle.gen_case.specs.Script.{all_params, script_lines}
-use Rattle.cover_pick.specs.declared.rule.Rule.{Rule}
 use Rattle.cmd_run.specs.declared.gen_command.words.GenWords.{GenWords}
 use Rattle.cmd_run.specs.Run.Job.{RunWords}
-use Rattle.tl_text.specs.Decimal.{decimal_of}
 
 abbrev pub case_words : Rule → RunWords
 case_words rule = record {

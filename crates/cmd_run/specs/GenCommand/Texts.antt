@@ -1,17 +1,10 @@
 -- The texts of a case, wherever they are the files of `case_words`.
 use Rattle.std.specs.Prelude.{ℕ, List, Some, codes}
-use Rattle.tl_io.specs.Shelf.{Files, ShelfSeen, no_shelf}
+use Rattle.cmd_run.specs.Words.{Files, ShelfSeen, no_shelf, Rule, FileReading, Explains, Outcome, ToTables, names_of, source_reading, Source}
 use Rattle.run_text.specs.NamesValue.{NamesValue}
-use Rattle.cover_pick.specs.declared.rule.Rule.{Rule}
-use Rattle.cmd_base.specs.Walk.{FileReading, Explains}
-use Rattle.cmd_base.specs.declared.outcome.Outcome.{Outcome}
-use Rattle.cmd_stations.specs.Mapped.{ToTables}
-use Rattle.cmd_stations.specs.Script.{names_of}
-use Rattle.cmd_stations.specs.Source.{source_reading}
 use Rattle.cmd_stations.specs.Tables.{ComesWith}
 use Rattle.cmd_stations.specs.Texts.{HasText}
 use Rattle.cmd_stations.specs.declared.mapped.MappedSource.{MappedSource}
-use Rattle.cmd_stations.specs.declared.source.Source.{Source}
 use Rattle.cmd_run.specs.GenCommand.Case.{case_words}
 
 -- a shelf with these files, of which no byte was given

@@ -1,9 +1,7 @@
 -- What the events of a script add up to: the writes of its changes, and the outputs of its cycles read as numbers.
 use Rattle.std.specs.Prelude.{◌≡◌, ℕ, ◌+◌, ◌^◌, ◌≤◌, List, length}
-use Rattle.machine.specs.Machine.{MealyMachine, Passes}
+use Rattle.cmd_run.specs.Words.{MealyMachine, Passes, EventValue, Set, Cycle, Upset, Scrub, Image, MachineValue, IsPlayed}
 use Rattle.list_laws.specs.Digits.{number}
-use Rattle.run_text.specs.EventValue.{EventValue, Set, Cycle, Upset, Scrub, Image}
-use Rattle.run_core.specs.Events.{MachineValue, IsPlayed}
 
 -- how many bits a change writes
 abbrev pub writes_of : EventValue → MachineValue → ℕ

@@ -1,22 +1,11 @@
 -- The walk of `gen`: that of `run` over the generated texts.
 use Rattle.std.specs.Prelude.{◌≡◌, ℕ, List, [], ◌∷◌, codes, decimal}
 use Rattle.std.specs.List.{concat}
-use Rattle.tl_io.specs.Port.{PortSeen}
-use Rattle.tl_io.specs.Shelf.{ShelfSeen}
-use Rattle.tl_io.specs.Sink.{SinkSeen}
-use Rattle.run_core.specs.Events.{MachineValue}
-use Rattle.cover_pick.specs.Template.{TemplateValue}
-use Rattle.cmd_base.specs.Walk.{FileReading, CommandWalk, portless_walk, Ends, outside}
+use Rattle.cmd_run.specs.Words.{PortSeen, ShelfSeen, SinkSeen, MachineValue, TemplateValue, FileReading, CommandWalk, portless_walk, Ends, outside, Outcome, template_header, Job, IsLeastMapped, IsOfScripted, IsStart}
 use Rattle.cmd_base.specs.Writing.{AreWritten, IsCutInLine}
-use Rattle.cmd_base.specs.declared.outcome.Outcome.{Outcome}
 use Rattle.cmd_base.specs.declared.outcome.File.TheVariants.{Netlist}
 use Rattle.cmd_run.specs.declared.gen_command.words.GenWords.{GenWords}
-use Rattle.cmd_stations.specs.Mapped.{template_header}
-use Rattle.cmd_stations.specs.Machine.{Job}
-use Rattle.cmd_stations.specs.Source.{IsLeastMapped}
-use Rattle.cmd_stations.specs.Script.{IsOfScripted}
 use Rattle.cmd_run.specs.Run.Job.{IsJob, IsRefused, IsSettled}
-use Rattle.cmd_stations.specs.Machine.{IsStart}
 use Rattle.cmd_run.specs.Run.Verdict.{HasJob}
 use Rattle.cmd_run.specs.GenCommand.Case.{case_words, case_files}
 use Rattle.cmd_run.specs.GenCommand.Totals.{Totals}

@@ -1,25 +1,12 @@
 -- How a job of `run` ends: what is in the output and in the ports.
 use Rattle.std.specs.Prelude.{◌≡◌, ◌⊎◌, ℕ, ◌+◌, List, length, Option, Result, Ok, Err}
 use Rattle.tl_io.specs.Causes.{Rose}
-use Rattle.tl_io.specs.Content.{extended}
-use Rattle.tl_io.specs.Port.{PortSeen}
-use Rattle.tl_io.specs.Shelf.{Files}
-use Rattle.tl_io.specs.Writes.{writes_from}
-use Rattle.run_text.specs.EventValue.{EventValue}
-use Rattle.port_bank.specs.Bank.{BankSeen, all_ports}
+use Rattle.cmd_run.specs.Words.{extended, PortSeen, Files, writes_from, EventValue, BankSeen, all_ports, StepErr, WriteFault, PortFault, MachineValue, IsPlayed, event_line, Outside, Job, IsLeastMapped, IsStart, machine_header, Stage, IsStep, HasCome, IsSplit}
 use Rattle.port_bank.specs.Moves.{Becomes, FallsShort, LosesPlace}
-use Rattle.run_core.specs.declared.step_err.StepErr.{StepErr}
-use Rattle.run_core.specs.declared.step_err.StepErr.TheVariants.{WriteFault, PortFault}
-use Rattle.run_core.specs.Events.{MachineValue, IsPlayed, event_line}
 use Rattle.run_core.specs.Ends.{LosesRegion, HasLost}
-use Rattle.cmd_base.specs.Walk.{Outside}
 use Rattle.cmd_run.specs.declared.run.words.PortCounts.{PortCounts}
 use Rattle.cmd_run.specs.Run.Job.{RunWords, IsJob, bank_of}
-use Rattle.cmd_stations.specs.Machine.{Job}
-use Rattle.cmd_stations.specs.Source.{IsLeastMapped}
-use Rattle.cmd_stations.specs.Machine.{IsStart, machine_header, Stage, IsStep, HasCome}
 use Rattle.cmd_stations.specs.Playing.{AreAllPut, IsCutInFront, IsCutInLine}
-use Rattle.cmd_stations.specs.Script.{IsSplit}
 
 -- an event was played and its writes were sent, and this is its line
 abbrev pub PutsStep : EventValue → Stage → List ℕ → Stage → Type 0

@@ -1,28 +1,17 @@
 -- The headline, in the field's words: a mapping of the source circuit's graph of the least depth, and, for scripts without upsets, its cycles, and at each change exactly the bits in which the configurations specialised from scratch before and after differ.
 use Rattle.std.specs.Prelude.{◌≡◌, ℕ, Bool, List, [], ◌∷◌, Ok}
 use Rattle.std.specs.List.{concat}
-use Rattle.list_laws.specs.Members.{In}
-use Rattle.machine.specs.Machine.{MealyMachine, Passes}
+use Rattle.cmd_run.specs.Words.{In, MealyMachine, Passes, extended, Files, writes_from, TemplateValue, BankSeen, all_ports, EventValue, Set, Cycle, Upset, Scrub, Image, Outside, Source, Job, IsLeastMapping, template_header}
 use Rattle.tl_io.specs.Assigns.{assigned}
-use Rattle.tl_io.specs.Content.{extended}
-use Rattle.tl_io.specs.Shelf.{Files}
-use Rattle.tl_io.specs.Writes.{writes_from}
 use Rattle.aig_core.specs.Aig.{Aig}
-use Rattle.cover_pick.specs.Template.{TemplateValue}
 use Rattle.netlist.specs.Runs.{AreInits}
 use Rattle.netlist.specs.Sound.{IsSound}
 use Rattle.lut_sim.specs.Cycle.{IsTableCycle, IsOnlyTableCycle}
 use Rattle.bit_fun.specs.Configuration.{IsConfiguration}
-use Rattle.port_bank.specs.Bank.{BankSeen, all_ports}
 use Rattle.port_bank.specs.Send.{Plays}
-use Rattle.run_text.specs.EventValue.{EventValue, Set, Cycle, Upset, Scrub, Image}
 use Rattle.run_text.specs.Lines.{set_line, scrub_line, cycle_line, image_line}
 use Rattle.param_list.specs.Parameters.{param_inits}
 use Rattle.spec_core.specs.Differences.{differences}
-use Rattle.cmd_base.specs.Walk.{Outside}
-use Rattle.cmd_stations.specs.declared.source.Source.{Source}
-use Rattle.cmd_stations.specs.Machine.{Job}
-use Rattle.cmd_stations.specs.Mapped.{IsLeastMapping, template_header}
 use Rattle.cmd_stations.specs.SourceCircuit.{shape_of, IsSourceCycle}
 use Rattle.cmd_run.specs.Run.Job.{IsJob, RunWords, bank_of}
 

@@ -1,20 +1,12 @@
 -- The job of `run`: its arguments, its ports, and what its files hold and are refused for: a mapped source circuit with a script that is run.
 use Rattle.std.specs.Prelude.{ℕ, ◌+◌, ◌≤◌, nat_le, if◌then◌else◌, List, [], ◌∷◌, codes, bytes_eq, Option, Some, None, take, drop}
-use Rattle.tl_text.specs.Decimal.{decimal_of}
+use Rattle.cmd_run.specs.Words.{decimal_of, Rule, SourceWords, k_of, source_seen, ScriptedWords, HasScripted, IsScriptedRefused, IsScriptedSettled, scripted_word, scripted_reading, Files, FileReading, Job, PortSeen, BankSeen}
 use Rattle.cut_sets.specs.declared.limits.TheConstants.{MOST_LEAVES}
 use Rattle.run_text.specs.declared.event.Forms.TheVariants.{Run}
-use Rattle.cover_pick.specs.declared.rule.Rule.{Rule}
 use Rattle.cmd_run.specs.declared.run.words.PortCounts.{PortCounts}
 use Rattle.cmd_run.specs.declared.run.words.RunWords.{RunWords as RunWordsRead}
-use Rattle.cmd_stations.specs.Source.{SourceWords, k_of, source_seen}
-use Rattle.cmd_stations.specs.Script.{ScriptedWords, HasScripted, IsScriptedRefused, IsScriptedSettled, scripted_word, scripted_reading}
 use Rattle.tl_fault.specs.RefusalValue.{RefusalValue}
-use Rattle.tl_io.specs.Shelf.{Files}
-use Rattle.cmd_base.specs.Walk.{FileReading}
 use Rattle.cmd_base.specs.declared.outcome.File.{File}
-use Rattle.cmd_stations.specs.Machine.{Job}
-use Rattle.tl_io.specs.Port.{PortSeen}
-use Rattle.port_bank.specs.Bank.{BankSeen}
 
 -- the source circuit, the word that names the script, and the ports
 pub record RunWords : Type 0 where

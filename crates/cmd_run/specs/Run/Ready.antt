@@ -1,25 +1,12 @@
 -- A job that is ready to be played, and the playing of its events.
 use Rattle.std.specs.Prelude.{◌≡◌, ℕ, List, [], Option, Result, Ok, Err}
-use Rattle.list_laws.specs.Members.{In}
-use Rattle.tl_io.specs.Port.{PortSeen}
-use Rattle.tl_io.specs.Shelf.{Files, ShelfSeen}
-use Rattle.tl_io.specs.Sink.{SinkSeen}
-use Rattle.port_bank.specs.Bank.{BankSeen}
-use Rattle.run_text.specs.EventValue.{EventValue, event_values}
-use Rattle.run_core.specs.declared.step_err.StepErr.{StepErr}
-use Rattle.run_core.specs.declared.step_err.StepErr.TheVariants.{WriteFault, PortFault}
-use Rattle.run_core.specs.Events.{MachineValue, FitsPack, FitsShape}
+use Rattle.cmd_run.specs.Words.{In, PortSeen, Files, ShelfSeen, SinkSeen, BankSeen, EventValue, event_values, StepErr, WriteFault, PortFault, MachineValue, FitsPack, FitsShape, outside, Outcome, TemplateValue, Source, Job, IsSourceStart, IsStart, Stage, AreSteps}
 use Rattle.run_text.specs.declared.event.Event.{Event}
-use Rattle.cmd_base.specs.Walk.{outside}
-use Rattle.cmd_base.specs.declared.outcome.Outcome.{Outcome}
 use Rattle.cmd_base.specs.declared.outcome.Outcome.TheVariants as outcome
-use Rattle.cover_pick.specs.Template.{TemplateValue}
-use Rattle.cmd_stations.specs.declared.source.Source.{Source}
 use Rattle.cmd_run.specs.declared.run.prepare.Ready.{Ready}
 use Rattle.cmd_run.specs.declared.run.words.PortCounts.{PortCounts}
 use Rattle.cmd_run.specs.Run.Ends.{HaveServed, IsAllPlayed, IsCutPlaying, IsLostInEvent, RunEnd, IsPlayEnd}
 use Rattle.cmd_run.specs.Run.Job.{RunWords, IsJob, IsSettled}
-use Rattle.cmd_stations.specs.Machine.{Job, IsSourceStart, IsStart, Stage, AreSteps}
 
 -- each event can be played
 pub record CanPlay (events : List EventValue) (m : MachineValue) : Type 0 where

@@ -1,14 +1,8 @@
 -- The walk of `run`.
 use Rattle.std.specs.Prelude.{List, map, Ok, Err}
-use Rattle.tl_io.specs.Port.{PortSeen}
-use Rattle.tl_io.specs.Shelf.{Files, ShelfSeen}
-use Rattle.tl_io.specs.Sink.{SinkSeen}
-use Rattle.run_core.specs.declared.step_err.StepErr.TheVariants.{WriteFault, PortFault}
-use Rattle.cmd_base.specs.Walk.{CommandWalk, Ends, outside}
-use Rattle.cmd_base.specs.declared.outcome.Outcome.{Outcome}
+use Rattle.cmd_run.specs.Words.{PortSeen, Files, ShelfSeen, SinkSeen, WriteFault, PortFault, CommandWalk, Ends, outside, Outcome, Job}
 use Rattle.cmd_run.specs.declared.run.words.RunWords.{RunWords as RunWordsRead}
 use Rattle.cmd_run.specs.Run.Job.{RunWords, IsJob, run_reading, run_seen}
-use Rattle.cmd_stations.specs.Machine.{Job}
 use Rattle.cmd_run.specs.Run.Ends.{HasRun, HaveServed, HaveFailed}
 use Rattle.cmd_run.specs.Run.Headline.{HasHeadline}
 

@@ -1,7 +1,6 @@
 -- A worked example of runs: a latch that toggles.
-use Rattle.netlist.proofs.Common.{◌≡◌, ℕ, zero, suc, Bool, true, false, not, List, [], ◌∷◌, codes, map, bytes_eq, Some, None, refl, sym, ap, ap₂, ◌∙◌, subst, if◌then◌else◌, slice_get, false≢true, none-some, same_Some, CoverValue, LibraryValue, none}
+use Rattle.netlist.proofs.Common.{◌≡◌, ℕ, zero, suc, Bool, true, false, not, List, [], ◌∷◌, codes, map, bytes_eq, Some, None, refl, sym, ap, ap₂, ◌∙◌, subst, if◌then◌else◌, slice_get, false≢true, none-some, same_Some, CoverValue, LibraryValue, none, stops, steps, IsRun}
 use Rattle.netlist.specs.{Zero, Cover, Latch, LatchValue, cover_value, ModelValue, Path, body_at, subckts_of, model_at, is_input, IsMainInput, Place, flat, Fits, AreLatches, inits_of, state_of, IsCycle, library_machine}
-use Rattle.machine.specs.Machine.{stops, steps, IsRun}
 use Rattle.netlist.proofs.PlaceLemmas.{inside}
 
 -- .model toggle / .outputs q / .names q d / 0 1 / .latch d q 1

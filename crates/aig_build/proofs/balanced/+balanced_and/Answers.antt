@@ -1,5 +1,4 @@
-use Rattle.aig_build.proofs.Common.{◌≡◌, ◌≤◌, ◌∙◌, ap, arith, drop, length, List, refl, rules, take, All-drop, Lit, Aig, first_and, and_of, Answer, with_pairs, back_half, front_half, balanced_and}
-use Rattle.aig_build.proofs.BalancedLemmas.{AreBelow, AreBelow-more, balanced-grows, balanced_and-back_length, balanced_and-front_length, full_weaker, halved, IsBelow, IsLit-more}
+use Rattle.aig_build.proofs.Lemmas.{◌≡◌, ◌≤◌, ◌∙◌, ap, arith, drop, length, List, refl, rules, take, All-drop, Lit, Aig, first_and, and_of, Answer, with_pairs, back_half, front_half, balanced_and, AreBelow, AreBelow-more, balanced-grows, balanced_and-back_length, balanced_and-front_length, full_weaker, halved, IsBelow, IsLit-more}
 use Rattle.aig_build.proofs.balanced.+balanced_and.Goals as goal
 
 pub returns-in_err-x-in_default-clause-full : goal.returns-in_err-x-in_default-clause-full

@@ -1,7 +1,4 @@
-use Rattle.aig_build.proofs.Common.{◌≡◌, ◌≤◌, List, Some, length, refl, rules, sym, ap, ◌∙◌, subst, arith, slice_get, length-map, In, FlatNet, FlatCoverValue, FlatValue, Lit, Aig, IsLit, first_and, Answer, with_pairs, cover_of, NetLitsValue, net_lit, net_lits, with_cover, gate_of, HoldsNets, All}
-use Rattle.aig_build.proofs.BalancedLemmas.{full_weaker}
-use Rattle.aig_build.proofs.CoverLemmas.{cover_made-grows}
-use Rattle.aig_build.proofs.NetValueLemmas.{behind_width, held, held_lits, holds_next, cover_read, gate_at}
+use Rattle.aig_build.proofs.Lemmas.{◌≡◌, ◌≤◌, List, Some, length, refl, rules, sym, ap, ◌∙◌, subst, arith, slice_get, length-map, In, FlatNet, FlatCoverValue, FlatValue, Lit, Aig, IsLit, first_and, Answer, with_pairs, cover_of, NetLitsValue, net_lit, net_lits, with_cover, gate_of, HoldsNets, All, full_weaker, cover_made-grows, behind_width, held, held_lits, holds_next, cover_read, gate_at}
 use Rattle.aig_build.proofs.building.make_at.Goals as goal
 
 pub fill-requires : goal.fill-requires

@@ -1,6 +1,4 @@
-use Rattle.aig_build.proofs.Common.{◌≡◌, ◌≤◌, ℕ, List, length, drop, get_or, ap, ◌∙◌, subst, rules, In, In-get_or, FlatValue, Aig, NetLitsValue, Built, gate_of, order_of}
-use Rattle.aig_build.proofs.BalancedLemmas.{full_weaker}
-use Rattle.aig_build.proofs.NetValueLemmas.{order_gate_length}
+use Rattle.aig_build.proofs.Lemmas.{◌≡◌, ◌≤◌, ℕ, List, length, drop, get_or, ap, ◌∙◌, subst, rules, In, In-get_or, FlatValue, Aig, NetLitsValue, Built, gate_of, order_of, full_weaker, order_gate_length}
 use Rattle.aig_build.proofs.building.make_covers.Goals as goal
 
 pub make_at-requires-clause-there : goal.make_at-requires-clause-there

@@ -1,6 +1,5 @@
-use Rattle.aig_build.proofs.Common.{◌≡◌, ◌<◌, List, Err, length, ap, ap₂, ◌∙◌, sym, subst, subst₂, rules, FlatValue, Param, Aig, with_pairs, RootsValue, roots_of, AreRoots, ℕ, NetLitsValue, Built, start_nets, source_aig, order_of, root_lits, HoldsNets}
+use Rattle.aig_build.proofs.Lemmas.{◌≡◌, ◌<◌, List, Err, length, ap, ap₂, ◌∙◌, sym, subst, subst₂, rules, FlatValue, Param, Aig, with_pairs, RootsValue, roots_of, AreRoots, ℕ, NetLitsValue, Built, start_nets, source_aig, order_of, root_lits, HoldsNets, held}
 use Rattle.aig_core.specs.declared.graph.AigErr.TheVariants.{Full}
-use Rattle.aig_build.proofs.NetValueLemmas.{held}
 use Rattle.aig_build.proofs.NetlistLemmas.{output_there, latch_there, are_roots, start_holds, too_many, is_graph, has_cycles}
 use Rattle.aig_build.proofs.building.make_netlist.Goals as goal
 

@@ -1,5 +1,4 @@
-use Rattle.aig_build.proofs.Common.{◌≡◌, ◌+◌, ◌-◌, ◌≤◌, ℕ, List, [], ◌++◌, IfOk, length, replicate, vec_len, ap, ◌∙◌, subst, arith, FlatValue, Param, ParamsValue, param_names, regular_names, Kind, Regular, Parameter, input_names, source_kinds, NetLitsValue, length-map, length-append, length-replicate}
-use Rattle.aig_build.proofs.SourceLemmas.{start_latches, few_regular}
+use Rattle.aig_build.proofs.Lemmas.{◌≡◌, ◌+◌, ◌-◌, ◌≤◌, ℕ, List, [], ◌++◌, IfOk, length, replicate, vec_len, ap, ◌∙◌, subst, arith, FlatValue, Param, ParamsValue, param_names, regular_names, Kind, Regular, Parameter, input_names, source_kinds, NetLitsValue, length-map, length-append, length-replicate, start_latches, few_regular}
 use Rattle.aig_build.proofs.building.source_graph.Goals as goal
 
 pub overflow_sub-regular : goal.overflow_sub-regular

@@ -1,5 +1,4 @@
-use Rattle.aig_build.proofs.Common.{◌≤◌, length, refl, rules, Aig, first_and, balanced_and, Literals, rows_made, length-Extends}
-use Rattle.aig_build.proofs.BalancedLemmas.{balanced-grows, full_weaker}
+use Rattle.aig_build.proofs.Lemmas.{◌≤◌, length, refl, rules, Aig, first_and, balanced_and, Literals, rows_made, length-Extends, balanced-grows, full_weaker}
 use Rattle.aig_build.proofs.cover.make_into.Goals as goal
 
 pub returns-in_err-make_rows-clause-full : goal.returns-in_err-make_rows-clause-full

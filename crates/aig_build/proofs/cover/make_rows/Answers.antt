@@ -1,6 +1,4 @@
-use Rattle.aig_build.proofs.Common.{◌≡◌, ◌≤◌, ◌∙◌, ap, drop, length, rules, subst, List, RowValue, Lit, Aig, first_and, Answer, with_pairs, Extends, Literals, row_made, rows_made, rows_onto}
-use Rattle.aig_build.proofs.BalancedLemmas.{full_weaker}
-use Rattle.aig_build.proofs.CoverLemmas.{rows_alone, rows_done, AreLits-more, AreLits-next, row_made-grows, rows_onto-next, rows_onto-row_length, with_pairs-again}
+use Rattle.aig_build.proofs.Lemmas.{◌≡◌, ◌≤◌, ◌∙◌, ap, drop, length, rules, subst, List, RowValue, Lit, Aig, first_and, Answer, with_pairs, Extends, Literals, row_made, rows_made, rows_onto, full_weaker, rows_alone, rows_done, AreLits-more, AreLits-next, row_made-grows, rows_onto-next, rows_onto-row_length, with_pairs-again}
 use Rattle.aig_build.proofs.cover.make_rows.Goals as goal
 
 pub returns-in_err-lit-clause-full : goal.returns-in_err-lit-clause-full

@@ -1,5 +1,4 @@
-use Rattle.aig_build.proofs.Common.{◌≡◌, ◌+◌, ◌<◌, ◌≤◌, List, length, replicate, false, ap, ◌∙◌, subst, arith, length-replicate, In, FlatValue, Param, ParamsValue, regular_next}
-use Rattle.aig_build.proofs.SourceLemmas.{length-marked, length-regular, regular_next-le}
+use Rattle.aig_build.proofs.Lemmas.{◌≡◌, ◌+◌, ◌<◌, ◌≤◌, List, length, replicate, false, ap, ◌∙◌, subst, arith, length-replicate, In, FlatValue, Param, ParamsValue, regular_next, length-marked, length-regular, regular_next-le}
 use Rattle.aig_build.proofs.net_lits.start.Goals as goal
 
 pub regular_lits-requires : goal.regular_lits-requires

@@ -1,6 +1,5 @@
-use Rattle.aiger_io.proofs.Common.{◌≡◌, ℕ, List, true, map, drop, codes, Bor, Some, sym, ◌∙◌, ap, subst, bytes_decides, bytes_eq, Vec, option_map, not-false, drop_get, capped_numbers, header_by}
+use Rattle.aiger_io.proofs.Lemmas.{◌≡◌, ℕ, List, true, map, drop, codes, Bor, Some, sym, ◌∙◌, ap, subst, bytes_decides, bytes_eq, Vec, option_map, not-false, drop_get, capped_numbers, header_by, words_capped, answer_is}
 use Rattle.std.specs.Global.{Global}
-use Rattle.aiger_io.proofs.LineLemmas.{words_capped, answer_is}
 use Rattle.aiger_io.proofs.header.header_of_words.Goals as goal
 
 pub returns-in-None : goal.returns-in-None

@@ -1,6 +1,4 @@
-use Rattle.aiger_io.proofs.Common.{ℕ, ◌+◌, List, map, drop, Bor, sym, ◌∙◌, ap, capped_numbers}
-use Rattle.aiger_io.proofs.LineLemmas.{behind, number_next, number_stop}
-use Rattle.aiger_io.proofs.RowLemmas.{row_at}
+use Rattle.aiger_io.proofs.Lemmas.{ℕ, ◌+◌, List, map, drop, Bor, sym, ◌∙◌, ap, capped_numbers, behind, number_next, number_stop, row_at}
 use Rattle.aiger_io.proofs.header.numbers.Goals as goal
 
 pub returns-in_default : goal.returns-in_default

@@ -1,5 +1,4 @@
-use Rattle.aiger_io.proofs.Common.{◌≡◌, ℕ, List, Err, map, drop, Bor, ◌∙◌, ap, OrMemory-map, passed_on, drop_get, capped_result, header_of, header_in, refusal_of}
-use Rattle.aiger_io.proofs.LineLemmas.{header_got, header_error}
+use Rattle.aiger_io.proofs.Lemmas.{◌≡◌, ℕ, List, Err, map, drop, Bor, ◌∙◌, ap, OrMemory-map, passed_on, drop_get, capped_result, header_of, header_in, refusal_of, header_got, header_error}
 use Rattle.aiger_io.proofs.header.read_header.Goals as goal
 
 pub returns-clause-read : goal.returns-clause-read

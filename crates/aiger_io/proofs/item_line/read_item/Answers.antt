@@ -1,5 +1,4 @@
-use Rattle.aiger_io.proofs.Common.{◌≡◌, ℕ, List, map, Bor, Some, sym, ◌∙◌, ap, option_map, capped_item, item_of, kind_at, words_of}
-use Rattle.aiger_io.proofs.LineLemmas.{item_good, item_out}
+use Rattle.aiger_io.proofs.Lemmas.{◌≡◌, ℕ, List, map, Bor, Some, sym, ◌∙◌, ap, option_map, capped_item, item_of, kind_at, words_of, item_good, item_out}
 use Rattle.aiger_io.proofs.item_line.read_item.Goals as goal
 
 pub returns : goal.returns

@@ -1,6 +1,4 @@
-use Rattle.aiger_io.proofs.Common.{◌≡◌, ◌<◌, ◌≤◌, ℕ, ◌+◌, List, [], ◌∷◌, ◌++◌, Err, length, map, drop, get_or, Bor, sym, ap, ◌∙◌, arith, length-append, OrMemory-map, passed_on, length-map, drop_past, item_at, items_from, refusal_of, Malformed, Item}
-use Rattle.aiger_io.proofs.LineLemmas.{items_full, items_end, items_next_at, items_stop_at}
-use Rattle.aiger_io.proofs.RowLemmas.{no_row, read_here}
+use Rattle.aiger_io.proofs.Lemmas.{◌≡◌, ◌<◌, ◌≤◌, ℕ, ◌+◌, List, [], ◌∷◌, ◌++◌, Err, length, map, drop, get_or, Bor, sym, ap, ◌∙◌, arith, length-append, OrMemory-map, passed_on, length-map, drop_past, item_at, items_from, refusal_of, Malformed, Item, items_full, items_end, items_next_at, items_stop_at, no_row, read_here}
 use Rattle.aiger_io.proofs.items.read_items.Goals as goal
 
 pub returns-then-count-len-clause-items : goal.returns-then-count-len-clause-items

@@ -1,6 +1,4 @@
-use Rattle.aiger_io.proofs.Common.{◌≡◌, ℕ, ◌≤◌, List, Err, length, map, drop, Bor, sym, ap, ◌∙◌, subst, arith, length-drop, lines, OrMemory, IsHeaderOf, circuit_under, circuit_of, IsLibraryIn, header_in, refusal_of, OrMemory-map, passed_err, Header, and_then}
-use Rattle.aiger_io.proofs.RowLemmas.{lines_few}
-use Rattle.aiger_io.proofs.LineLemmas.{text_is}
+use Rattle.aiger_io.proofs.Lemmas.{◌≡◌, ℕ, ◌≤◌, List, Err, length, map, drop, Bor, sym, ap, ◌∙◌, subst, arith, length-drop, lines, OrMemory, IsHeaderOf, circuit_under, circuit_of, IsLibraryIn, header_in, refusal_of, OrMemory-map, passed_err, Header, and_then, lines_few, text_is}
 use Rattle.aiger_io.proofs.read_text.library_of_text.Goals as goal
 
 -- the lines after the header give what the text gives

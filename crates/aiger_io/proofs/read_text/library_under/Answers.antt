@@ -1,5 +1,4 @@
-use Rattle.aiger_io.proofs.Common.{◌≡◌, [], ℕ, List, Err, length, map, drop, Bor, sym, ap, ◌∙◌, subst, arith, OrMemory-map, passed_on, named_behind, circuit_under, IsLibraryIn, refusal_of, Header, Item, Ok, item_count, items_from}
-use Rattle.aiger_io.proofs.LineLemmas.{under_is}
+use Rattle.aiger_io.proofs.Lemmas.{◌≡◌, [], ℕ, List, Err, length, map, drop, Bor, sym, ap, ◌∙◌, subst, arith, OrMemory-map, passed_on, named_behind, circuit_under, IsLibraryIn, refusal_of, Header, Item, Ok, item_count, items_from, under_is}
 use Rattle.aiger_io.proofs.read_text.library_under.Goals as goal
 
 -- the lines after the items give what all of them give

@@ -1,5 +1,4 @@
-use Rattle.aiger_io.proofs.Common.{◌≡◌, ap, ℕ, ◌+◌, List, Ok, Err, length, map, Bor, sym, ◌∙◌, subst, OrMemory-map, passed_on, named_circuit, named_behind, IsLibraryIn, item_count, refusal_of, no_symbols, symbols_from, and_then}
-use Rattle.aiger_io.proofs.LineLemmas.{behind_is}
+use Rattle.aiger_io.proofs.Lemmas.{◌≡◌, ap, ℕ, ◌+◌, List, Ok, Err, length, map, Bor, sym, ◌∙◌, subst, OrMemory-map, passed_on, named_circuit, named_behind, IsLibraryIn, item_count, refusal_of, no_symbols, symbols_from, and_then, behind_is}
 use Rattle.aiger_io.proofs.read_text.library_with_symbols.Goals as goal
 
 pub returns : goal.returns

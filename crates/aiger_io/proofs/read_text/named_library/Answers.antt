@@ -1,5 +1,4 @@
-use Rattle.aiger_io.proofs.Common.{◌≡◌, ℕ, List, None, Some, Err, ap, ◌∙◌, subst, OrMemory-map, passed_on, named_circuit, library_of, input_names, first_twice, refusal_of, circuit_with, unless}
-use Rattle.aiger_io.proofs.LineLemmas.{circuit_made}
+use Rattle.aiger_io.proofs.Lemmas.{◌≡◌, ℕ, List, None, Some, Err, ap, ◌∙◌, subst, OrMemory-map, passed_on, named_circuit, library_of, input_names, first_twice, refusal_of, circuit_with, unless, circuit_made}
 use Rattle.aiger_io.proofs.read_text.named_library.Goals as goal
 
 pub returns : goal.returns

@@ -1,5 +1,4 @@
-use Rattle.aiger_io.proofs.Common.{◌≡◌, ◌<◌, ◌≤◌, ℕ, ◌+◌, List, [], ◌∷◌, ◌++◌, length, map, drop, Bor, refl, sym, ap, ◌∙◌, arith, length-append, lines_of_parts, eqb-true, length-map}
-use Rattle.aiger_io.proofs.RowLemmas.{row_next, row_last, row_none, row_at, row_pushed, parts_few, not_empty}
+use Rattle.aiger_io.proofs.Lemmas.{◌≡◌, ◌<◌, ◌≤◌, ℕ, ◌+◌, List, [], ◌∷◌, ◌++◌, length, map, drop, Bor, refl, sym, ap, ◌∙◌, arith, length-append, lines_of_parts, eqb-true, length-map, row_next, row_last, row_none, row_at, row_pushed, parts_few, not_empty}
 use Rattle.aiger_io.proofs.rows.rows.Goals as goal
 use Rattle.aiger_io.proofs.rows.rows.Goals.{then-i-len+in_ok-push, else-i-len+then-not-is_empty+in_ok-push-2, else-i-len+else-not-is_empty}
 

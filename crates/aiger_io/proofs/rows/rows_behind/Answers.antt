@@ -1,5 +1,4 @@
-use Rattle.aiger_io.proofs.Common.{◌-◌, length, arith}
-use Rattle.aiger_io.proofs.RowLemmas.{rows_cut}
+use Rattle.aiger_io.proofs.Lemmas.{◌-◌, length, arith, rows_cut}
 use Rattle.aiger_io.proofs.rows.rows_behind.Goals as goal
 
 pub returns-clause-rows : goal.returns-clause-rows

@@ -1,6 +1,4 @@
-use Rattle.aiger_io.proofs.Common.{◌≡◌, ◌≤◌, ℕ, ◌+◌, List, true, false, Some, Ok, Err, length, map, drop, get_or, codes, Bor, sym, ◌∙◌, subst, arith, bytes_eq, OrMemory-map, passed_on, symbol_value, refusal_of, no_symbols, symbol_of, symbol_at, symbols_from}
-use Rattle.aiger_io.proofs.RowLemmas.{no_row, read_here}
-use Rattle.aiger_io.proofs.LineLemmas.{symbols_end, symbols_next, symbols_stop, symbol_read, symbol_bad, symbol_more}
+use Rattle.aiger_io.proofs.Lemmas.{◌≡◌, ◌≤◌, ℕ, ◌+◌, List, true, false, Some, Ok, Err, length, map, drop, get_or, codes, Bor, sym, ◌∙◌, subst, arith, bytes_eq, OrMemory-map, passed_on, symbol_value, refusal_of, no_symbols, symbol_of, symbol_at, symbols_from, no_row, read_here, symbols_end, symbols_next, symbols_stop, symbol_read, symbol_bad, symbol_more}
 use Rattle.aiger_io.proofs.symbols.read_symbols.Goals as goal
 
 pub returns-then-eq-clause-symbols : goal.returns-then-eq-clause-symbols

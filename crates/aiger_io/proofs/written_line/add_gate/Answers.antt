@@ -1,5 +1,4 @@
-use Rattle.aiger_io.proofs.Common.{decimal, added_as, added_twice}
-use Rattle.aiger_io.proofs.WrittenLemmas.{gate_line}
+use Rattle.aiger_io.proofs.Lemmas.{decimal, added_as, added_twice, gate_line}
 use Rattle.aiger_io.proofs.written_line.add_gate.Goals as goal
 
 pub returns : goal.returns

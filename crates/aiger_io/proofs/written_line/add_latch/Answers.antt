@@ -1,5 +1,4 @@
-use Rattle.aiger_io.proofs.Common.{decimal, added_as, added_twice}
-use Rattle.aiger_io.proofs.WrittenLemmas.{latch_line}
+use Rattle.aiger_io.proofs.Lemmas.{decimal, added_as, added_twice, latch_line}
 use Rattle.aiger_io.proofs.written_line.add_latch.Goals as goal
 
 pub returns : goal.returns

@@ -1,5 +1,4 @@
-use Rattle.aiger_io.proofs.Common.{◌≡◌, ◌+◌, ◌-◌, Some, subst, arith, slice_get, first_and, Pair, gate_item, item_text}
-use Rattle.aiger_io.proofs.WrittenLemmas.{added_numbered}
+use Rattle.aiger_io.proofs.Lemmas.{◌≡◌, ◌+◌, ◌-◌, Some, subst, arith, slice_get, first_and, Pair, gate_item, item_text, added_numbered}
 use Rattle.aiger_io.proofs.written_text.add_gates.Goals as goal
 
 pub loop-i-preserved : goal.loop-i-preserved

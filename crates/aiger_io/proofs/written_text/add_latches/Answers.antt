@@ -1,5 +1,4 @@
-use Rattle.aiger_io.proofs.Common.{arith, slice_get-get_or, FlatLatch, latch_item, item_text}
-use Rattle.aiger_io.proofs.WrittenLemmas.{added_numbered}
+use Rattle.aiger_io.proofs.Lemmas.{arith, slice_get-get_or, FlatLatch, latch_item, item_text, added_numbered}
 use Rattle.aiger_io.proofs.written_text.add_latches.Goals as goal
 
 pub loop-k-preserved : goal.loop-k-preserved

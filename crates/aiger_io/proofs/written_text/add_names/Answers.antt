@@ -1,5 +1,4 @@
-use Rattle.aiger_io.proofs.Common.{◌≡◌, Some, sym, ap, ◌∙◌, arith, slice_get, slice_get-get_or, added_as, symbol_text, OutPort}
-use Rattle.aiger_io.proofs.WrittenLemmas.{added_numbered}
+use Rattle.aiger_io.proofs.Lemmas.{◌≡◌, Some, sym, ap, ◌∙◌, arith, slice_get, slice_get-get_or, added_as, symbol_text, OutPort, added_numbered}
 use Rattle.aiger_io.proofs.written_text.add_names.Goals as goal
 
 pub loop-k-preserved : goal.loop-k-preserved

@@ -1,5 +1,4 @@
-use Rattle.aiger_io.proofs.Common.{◌≡◌, ◌+◌, Some, sym, ap, refl, ◌∙◌, slice_get, slice_get-get_or, added_as, symbol_text, Param}
-use Rattle.aiger_io.proofs.WrittenLemmas.{added_numbered}
+use Rattle.aiger_io.proofs.Lemmas.{◌≡◌, ◌+◌, Some, sym, ap, refl, ◌∙◌, slice_get, slice_get-get_or, added_as, symbol_text, Param, added_numbered}
 use Rattle.aiger_io.proofs.written_text.add_params.Goals as goal
 
 pub loop-k-preserved : goal.loop-k-preserved

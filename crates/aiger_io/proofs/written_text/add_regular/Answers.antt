@@ -1,5 +1,4 @@
-use Rattle.aiger_io.proofs.Common.{ℕ, [], arith, ap, slice_index_or, slice_get-get_or, added_as, symbol_text}
-use Rattle.aiger_io.proofs.WrittenLemmas.{added_numbered}
+use Rattle.aiger_io.proofs.Lemmas.{ℕ, [], arith, ap, slice_index_or, slice_get-get_or, added_as, symbol_text, added_numbered}
 use Rattle.aiger_io.proofs.written_text.add_regular.Goals as goal
 
 pub loop-k-preserved : goal.loop-k-preserved

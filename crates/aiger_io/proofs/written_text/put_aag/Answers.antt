@@ -1,5 +1,4 @@
-use Rattle.aiger_io.proofs.Common.{rules, added_as, added_twice, put_over}
-use Rattle.aiger_io.proofs.WrittenLemmas.{whole_text}
+use Rattle.aiger_io.proofs.Lemmas.{rules, added_as, added_twice, put_over, whole_text}
 use Rattle.aiger_io.proofs.written_text.put_aag.Goals as goal
 
 pub returns : goal.returns

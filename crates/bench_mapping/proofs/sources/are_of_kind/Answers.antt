@@ -1,6 +1,4 @@
-use Rattle.std.proofs.Common.{◌≡◌, Some, inl, inr, ap, ◌∙◌, subst, arith}
-use Rattle.std.proofs.lemmas.Bool.{cases_lt}
-use Rattle.aig_core.specs.Aig.{IsSource}
+use Rattle.bench_mapping.proofs.Common.{◌≡◌, Some, inl, inr, ap, ◌∙◌, subst, arith, cases_lt, IsSource}
 use Rattle.bench_mapping.proofs.sources.are_of_kind.Goals as goal
 
 pub loop-n-preserved : goal.loop-n-preserved

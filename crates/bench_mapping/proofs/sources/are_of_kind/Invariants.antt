@@ -1,5 +1,4 @@
-use Rattle.std.proofs.Common.{◌<◌, ◌≤◌, ℕ}
-use Rattle.aig_core.specs.Aig.{IsSource}
+use Rattle.bench_mapping.proofs.Common.{◌<◌, ◌≤◌, ℕ, IsSource}
 use Rattle.bench_mapping.proofs.sources.are_of_kind.Given as goal
 
 abbrev pub invariant-loop-n : goal.invariant-loop-n

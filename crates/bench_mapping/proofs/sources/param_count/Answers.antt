@@ -1,10 +1,7 @@
-use Rattle.std.proofs.Common.{◌≡◌, ℕ, ◌+◌, ◌-◌, List, [], ◌∷◌, Some, drop, ap, ◌∙◌, subst, arith}
+use Rattle.bench_mapping.proofs.Common.{◌≡◌, ℕ, ◌+◌, ◌-◌, List, [], ◌∷◌, Some, drop, ap, ◌∙◌, subst, arith, get_or_from_slice_get, slice_get_within, Regular, Parameter, param_count}
 use Rattle.std.specs.List.{slice_get}
 use Rattle.std.proofs.lemmas.List.{drop_more, drop_all}
-use Rattle.std.proofs.lemmas.Option.{get_or_from_slice_get, slice_get_within}
 use Rattle.aig_core.specs.declared.lit.Kind.{Kind}
-use Rattle.aig_core.specs.declared.lit.Kind.TheVariants.{Regular, Parameter}
-use Rattle.bit_fun.specs.Parameters.{param_count}
 use Rattle.bench_mapping.proofs.sources.param_count.Goals as goal
 
 count_first : (k : Kind) (ks : List Kind) → param_count (k ∷ ks) ≡ param_count (k ∷ []) + param_count ks

@@ -1,5 +1,4 @@
-use Rattle.std.proofs.Common.{◌≡◌, ◌+◌, ◌≤◌, drop}
-use Rattle.bit_fun.specs.Parameters.{param_count}
+use Rattle.bench_mapping.proofs.Common.{◌≡◌, ◌+◌, ◌≤◌, drop, param_count}
 use Rattle.bench_mapping.proofs.sources.param_count.Given as goal
 
 abbrev pub invariant-loop-i : goal.invariant-loop-i

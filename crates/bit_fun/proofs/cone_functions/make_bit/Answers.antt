@@ -1,6 +1,5 @@
-use Rattle.bit_fun.proofs.Common.{◌≡◌, ◌∙◌, ◌≤◌, ℕ, List, length, length-reverse, subst, sym, ap, In, with_leaves, AreLits, IsGrown}
+use Rattle.bit_fun.proofs.Lemmas.{◌≡◌, ◌∙◌, ◌≤◌, ℕ, List, length, length-reverse, subst, sym, ap, In, with_leaves, AreLits, IsGrown, lits_stay, leaf_inside, bit_made}
 use Rattle.cut_sets.specs.declared.limits.TheConstants.{MOST_LEAVES}
-use Rattle.bit_fun.proofs.ConeFunctionLemmas.{lits_stay, leaf_inside, bit_made}
 use Rattle.bit_fun.proofs.cone_functions.make_bit.Goals as goal
 
 pub set_leaves-requires-clause-few : goal.set_leaves-requires-clause-few

@@ -1,5 +1,4 @@
-use Rattle.bit_fun.proofs.Common.{◌≡◌, ◌∙◌, ap, subst, sym, node_count, IsInner, successors, AreNodes, WalkValue, cone_edges}
-use Rattle.bit_fun.proofs.ConeWalkLemmas.{cone_order, cone_nodes, ends_inner}
+use Rattle.bit_fun.proofs.Lemmas.{◌≡◌, ◌∙◌, ap, subst, sym, node_count, IsInner, successors, AreNodes, WalkValue, cone_edges, cone_order, cone_nodes, ends_inner}
 use Rattle.bit_fun.proofs.cone_graph.walk_cone.Goals as goal
 
 pub visit-requires-clause-nodes : goal.visit-requires-clause-nodes

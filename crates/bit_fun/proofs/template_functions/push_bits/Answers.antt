@@ -1,6 +1,4 @@
-use Rattle.bit_fun.proofs.Common.{◌^◌, length, refl, ap, arith}
-use Rattle.bit_fun.proofs.ConeFunctionLemmas.{no_bits, one_bit_more, bits_grown}
-use Rattle.bit_fun.proofs.RoomLemmas.{bit_room}
+use Rattle.bit_fun.proofs.Lemmas.{◌^◌, length, refl, ap, arith, no_bits, one_bit_more, bits_grown, bit_room}
 use Rattle.bit_fun.proofs.template_functions.push_bits.Goals as goal
 
 pub loop-v-init : goal.loop-v-init

@@ -1,9 +1,4 @@
-use Rattle.bit_fun.proofs.Common.{◌/◌, ◌^◌, length, reverse, refl, IsConeOrder, AreMarked, AreBitsMade, with_marks}
-use Rattle.list_laws.proofs.Reversed.{in_reversed}
-use Rattle.bit_fun.proofs.ConeFunctionLemmas.{first_made, bits_on}
-use Rattle.bit_fun.proofs.ConeWalkLemmas.{walked_order}
-use Rattle.bit_fun.proofs.MarkLemmas.{order_inside, order_marked}
-use Rattle.bit_fun.proofs.RoomLemmas.{first_room, rest_room, table_within}
+use Rattle.bit_fun.proofs.Lemmas.{◌/◌, ◌^◌, length, reverse, refl, IsConeOrder, AreMarked, AreBitsMade, with_marks, in_reversed, first_made, bits_on, walked_order, order_inside, order_marked, first_room, rest_room, table_within}
 use Rattle.bit_fun.proofs.template_functions.push_table.Goals as goal
 
 pub make_bit-requires-clause-nodes : goal.make_bit-requires-clause-nodes

@@ -1,8 +1,5 @@
-use Rattle.bit_fun.proofs.Common.{◌≡◌, ◌∙◌, ◌+◌, ◌++◌, List, Bool, false, length-replicate, ◌∷◌, drop, length, take, ap, subst, sym, arith, mark_of, ◌^◌, AreFree, Lit, Lut, HasRoom, IsTableWithin, IsBetween, AreBitsMade, AreTablesMadeTo}
+use Rattle.bit_fun.proofs.Lemmas.{◌≡◌, ◌∙◌, ◌+◌, ◌++◌, List, Bool, false, length-replicate, ◌∷◌, drop, length, take, ap, subst, sym, arith, mark_of, ◌^◌, AreFree, Lit, Lut, HasRoom, IsTableWithin, IsBetween, AreBitsMade, AreTablesMadeTo, no_tables, none_kept, one_table_more, table_room, written_back, clear_marks, count_work}
 use Rattle.list_laws.proofs.Items.{member_at, drop_at}
-use Rattle.bit_fun.proofs.ConeFunctionLemmas.{no_tables, none_kept, one_table_more, table_room, written_back}
-use Rattle.bit_fun.proofs.MarkLemmas.{clear_marks}
-use Rattle.bit_fun.proofs.RoomLemmas.{count_work}
 use Rattle.bit_fun.proofs.template_functions.push_tables.Goals as goal
 
 pub free_nodes-requires : goal.free_nodes-requires

@@ -1,5 +1,4 @@
-use Rattle.bit_fun.proofs.Common.{◌∙◌, ap, Some, arith}
-use Rattle.bit_fun.proofs.ConeFunctionLemmas.{count_few, regular_source, parameter_source}
+use Rattle.bit_fun.proofs.Lemmas.{◌∙◌, ap, Some, arith, count_few, regular_source, parameter_source}
 use Rattle.bit_fun.proofs.template_functions.set_source.Goals as goal
 
 pub overflow_add-lits : goal.overflow_add-lits

@@ -1,5 +1,4 @@
-use Rattle.blif_flat.proofs.Common.{List, sym, ap, ◌∙◌, slice_get, option_map, same_Some, slice_get-map, passed_on, ports_value, Ports}
-use Rattle.blif_flat.proofs.FaultOnceLemmas.{loop_refused, all_sound, none_stands}
+use Rattle.blif_flat.proofs.Lemmas.{List, sym, ap, ◌∙◌, slice_get, option_map, same_Some, slice_get-map, passed_on, ports_value, Ports, loop_refused, all_sound, none_stands}
 use Rattle.blif_flat.proofs.call.flat_circuit.Goals as goal
 
 pub all_inputs-requires : goal.all_inputs-requires

@@ -1,5 +1,4 @@
-use Rattle.blif_flat.proofs.Common.{flat_evaluates, flat_cycles}
-use Rattle.blif_flat.proofs.Fields.AssembleLemmas.{flat_bounds}
+use Rattle.blif_flat.proofs.Lemmas.{flat_evaluates, flat_cycles, flat_bounds}
 use Rattle.blif_flat.proofs.call.flatten.Goals as goal
 
 pub returns-clause-values : goal.returns-clause-values

@@ -1,5 +1,4 @@
-use Rattle.blif_write.proofs.NetlistLemmas.{clock_text}
-use Rattle.blif_write.proofs.Common.{added_as, added_twice}
+use Rattle.blif_write.proofs.Lemmas.{clock_text, added_as, added_twice}
 use Rattle.blif_write.proofs.latches.add_clock.Goals as goal
 
 pub returns : goal.returns

@@ -1,5 +1,4 @@
-use Rattle.blif_write.proofs.Common.{written_latch, added_as, added_twice}
-use Rattle.blif_write.proofs.NetlistLemmas.{latch_text}
+use Rattle.blif_write.proofs.Lemmas.{written_latch, added_as, added_twice, latch_text}
 use Rattle.blif_write.proofs.latches.add_latch.Goals as goal
 
 pub returns : goal.returns

@@ -1,5 +1,4 @@
-use Rattle.blif_write.proofs.Common.{arith, added_as, added_to, added_none}
-use Rattle.blif_write.proofs.NetlistLemmas.{latch_next, latches_whole}
+use Rattle.blif_write.proofs.Lemmas.{arith, added_as, added_to, added_none, latch_next, latches_whole}
 use Rattle.blif_write.proofs.latches.add_latches.Goals as goal
 
 pub loop-ordinal-init : goal.loop-ordinal-init

@@ -1,5 +1,4 @@
-use Rattle.blif_write.proofs.Common.{◌≡◌, ℕ, [], ◌∷◌, arith, ap, ◌∙◌, map, cell_character, added_as, added_none, added_next, digit_cells}
-use Rattle.blif_write.proofs.RowLemmas.{digit_text, digits_are}
+use Rattle.blif_write.proofs.Lemmas.{◌≡◌, ℕ, [], ◌∷◌, arith, ap, ◌∙◌, map, cell_character, added_as, added_none, added_next, digit_cells, digit_text, digits_are}
 use Rattle.blif_write.proofs.rows.add_digits.Goals as goal
 
 pub loop-place-init : goal.loop-place-init

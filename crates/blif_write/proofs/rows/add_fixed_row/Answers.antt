@@ -1,5 +1,4 @@
-use Rattle.blif_write.proofs.Common.{arith, added_as, added_twice}
-use Rattle.blif_write.proofs.RowLemmas.{with_digits}
+use Rattle.blif_write.proofs.Lemmas.{arith, added_as, added_twice, with_digits}
 use Rattle.blif_write.proofs.rows.add_fixed_row.Goals as goal
 
 pub returns : goal.returns

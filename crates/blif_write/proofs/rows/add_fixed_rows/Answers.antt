@@ -1,5 +1,4 @@
-use Rattle.blif_write.proofs.Common.{ℕ, ◌≡◌, ap, arith, ◌∙◌, ◌^◌, cond, [], Bool, flat_map, range_with_len, added_as, added_none, added_next, row_line, line_text, digit_cells}
-use Rattle.blif_write.proofs.RowLemmas.{fixed_row_text, fixed_rows_are}
+use Rattle.blif_write.proofs.Lemmas.{ℕ, ◌≡◌, ap, arith, ◌∙◌, ◌^◌, cond, [], Bool, flat_map, range_with_len, added_as, added_none, added_next, row_line, line_text, digit_cells, fixed_row_text, fixed_rows_are}
 use Rattle.blif_write.proofs.rows.add_fixed_rows.Goals as goal
 
 pub loop-v-init : goal.loop-v-init

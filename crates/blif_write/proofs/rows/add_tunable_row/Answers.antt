@@ -1,5 +1,4 @@
-use Rattle.blif_write.proofs.Common.{◌-◌, arith, added_as, added_twice}
-use Rattle.blif_write.proofs.RowLemmas.{chosen_row}
+use Rattle.blif_write.proofs.Lemmas.{◌-◌, arith, added_as, added_twice, chosen_row}
 use Rattle.blif_write.proofs.rows.add_tunable_row.Goals as goal
 
 pub returns : goal.returns

@@ -1,5 +1,4 @@
-use Rattle.blif_write.proofs.Common.{ℕ, ◌≡◌, ap, arith, ◌∙◌, ◌^◌, flat_map, range_with_len, added_as, added_none, added_next}
-use Rattle.blif_write.proofs.RowLemmas.{tunable_row_text, tunable_rows_are}
+use Rattle.blif_write.proofs.Lemmas.{ℕ, ◌≡◌, ap, arith, ◌∙◌, ◌^◌, flat_map, range_with_len, added_as, added_none, added_next, tunable_row_text, tunable_rows_are}
 use Rattle.blif_write.proofs.rows.add_tunable_rows.Goals as goal
 
 pub loop-v-init : goal.loop-v-init

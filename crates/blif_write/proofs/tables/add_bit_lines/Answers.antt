@@ -1,5 +1,4 @@
-use Rattle.blif_write.proofs.Common.{◌∷◌, ap, arith, ◌∙◌, flat_map, take_all, Lut, codes, added_as, added_none, added_part, line_text, bit_names}
-use Rattle.blif_write.proofs.NetlistLemmas.{input_lines}
+use Rattle.blif_write.proofs.Lemmas.{◌∷◌, ap, arith, ◌∙◌, flat_map, take_all, Lut, codes, added_as, added_none, added_part, line_text, bit_names, input_lines}
 use Rattle.blif_write.proofs.tables.add_bit_lines.Goals as goal
 
 pub loop-table-init : goal.loop-table-init

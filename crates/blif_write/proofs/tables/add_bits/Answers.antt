@@ -1,5 +1,4 @@
-use Rattle.blif_write.proofs.Common.{ℕ, ◌≡◌, ◌+◌, ◌-◌, ◌∷◌, ap, arith, ◌∙◌, flat_map, range_with_len, map, added_as, added_twice, added_none, added_next, bit_name, words_text}
-use Rattle.blif_write.proofs.OwnNameLemmas.{words_of}
+use Rattle.blif_write.proofs.Lemmas.{ℕ, ◌≡◌, ◌+◌, ◌-◌, ◌∷◌, ap, arith, ◌∙◌, flat_map, range_with_len, map, added_as, added_twice, added_none, added_next, bit_name, words_text, words_of}
 use Rattle.blif_write.proofs.tables.add_bits.Goals as goal
 
 pub loop-address-init : goal.loop-address-init

@@ -1,5 +1,4 @@
-use Rattle.blif_write.proofs.Common.{fixed_table, added_as, added_twice}
-use Rattle.blif_write.proofs.NetlistLemmas.{one_list}
+use Rattle.blif_write.proofs.Lemmas.{fixed_table, added_as, added_twice, one_list}
 use Rattle.blif_write.proofs.tables.add_fixed_table.Goals as goal
 
 pub returns : goal.returns

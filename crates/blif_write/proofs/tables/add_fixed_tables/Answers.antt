@@ -1,5 +1,4 @@
-use Rattle.blif_write.proofs.Common.{ap, arith, ◌∙◌, flat_map, take_all, Lut, added_as, added_none, added_part, line_text, cover_lines, fixed_table}
-use Rattle.blif_write.proofs.NetlistLemmas.{tables_text}
+use Rattle.blif_write.proofs.Lemmas.{ap, arith, ◌∙◌, flat_map, take_all, Lut, added_as, added_none, added_part, line_text, cover_lines, fixed_table, tables_text}
 use Rattle.blif_write.proofs.tables.add_fixed_tables.Goals as goal
 
 pub loop-table-init : goal.loop-table-init

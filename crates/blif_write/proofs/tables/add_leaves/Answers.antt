@@ -1,5 +1,4 @@
-use Rattle.blif_write.proofs.Common.{ℕ, ◌*◌, ◌∷◌, List, ap, arith, ◌∙◌, flat_map, take_all, added_as, added_twice, added_none, added_part, literal_name}
-use Rattle.blif_write.proofs.OwnNameLemmas.{words_of}
+use Rattle.blif_write.proofs.Lemmas.{ℕ, ◌*◌, ◌∷◌, List, ap, arith, ◌∙◌, flat_map, take_all, added_as, added_twice, added_none, added_part, literal_name, words_of}
 use Rattle.blif_write.proofs.tables.add_leaves.Goals as goal
 
 pub loop-leaf-init : goal.loop-leaf-init

@@ -1,5 +1,4 @@
-use Rattle.blif_write.proofs.Common.{refl, added_as, added_twice, leaf_names, bit_names, tunable_table}
-use Rattle.blif_write.proofs.NetlistLemmas.{two_lists}
+use Rattle.blif_write.proofs.Lemmas.{refl, added_as, added_twice, leaf_names, bit_names, tunable_table, two_lists}
 use Rattle.blif_write.proofs.tables.add_tunable_table.Goals as goal
 
 pub returns : goal.returns

@@ -1,5 +1,4 @@
-use Rattle.blif_write.proofs.Common.{literal_name, added_as, added_twice}
-use Rattle.blif_write.proofs.NetlistLemmas.{wire_text}
+use Rattle.blif_write.proofs.Lemmas.{literal_name, added_as, added_twice, wire_text}
 use Rattle.blif_write.proofs.wires.add_cover.Goals as goal
 
 pub returns : goal.returns

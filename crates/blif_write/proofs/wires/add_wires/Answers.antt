@@ -1,5 +1,4 @@
-use Rattle.blif_write.proofs.Common.{arith, In-get_or, added_as, added_to, added_none}
-use Rattle.blif_write.proofs.NetlistLemmas.{wire_next, wires_whole}
+use Rattle.blif_write.proofs.Lemmas.{arith, In-get_or, added_as, added_to, added_none, wire_next, wires_whole}
 use Rattle.blif_write.proofs.wires.add_wires.Goals as goal
 
 pub loop-place-init : goal.loop-place-init

@@ -1,5 +1,4 @@
-use Rattle.blif_write.proofs.Common.{added_as, added_twice, control_names}
-use Rattle.blif_write.proofs.NetlistLemmas.{head_text}
+use Rattle.blif_write.proofs.Lemmas.{added_as, added_twice, control_names, head_text}
 use Rattle.blif_write.proofs.writing.add_head.Goals as goal
 
 pub returns : goal.returns

@@ -1,5 +1,4 @@
-use Rattle.blif_write.proofs.Common.{◌∷◌, ap, arith, ◌∙◌, flat_map, take_all, added_as, added_none, added_part, OutPort}
-use Rattle.blif_write.proofs.OwnNameLemmas.{words_of}
+use Rattle.blif_write.proofs.Lemmas.{◌∷◌, ap, arith, ◌∙◌, flat_map, take_all, added_as, added_none, added_part, OutPort, words_of}
 use Rattle.blif_write.proofs.writing.add_output_names.Goals as goal
 
 pub loop-output-init : goal.loop-output-init

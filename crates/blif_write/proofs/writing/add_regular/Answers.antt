@@ -1,5 +1,4 @@
-use Rattle.blif_write.proofs.Common.{ℕ, ◌≡◌, ◌<◌, ◌∷◌, [], List, length, get_or, ap, sym, arith, ◌∙◌, length-map, In-get_or, added_as, added_none, added_part, Naming}
-use Rattle.blif_write.proofs.OwnNameLemmas.{name_at}
+use Rattle.blif_write.proofs.Lemmas.{ℕ, ◌≡◌, ◌<◌, ◌∷◌, [], List, length, get_or, ap, sym, arith, ◌∙◌, length-map, In-get_or, added_as, added_none, added_part, Naming, name_at}
 use Rattle.blif_write.proofs.writing.add_regular.Goals as goal
 
 pub bounds-names-inside-place : goal.bounds-names-inside-place

@@ -1,5 +1,4 @@
-use Rattle.blif_write.proofs.Common.{added_as, added_twice}
-use Rattle.blif_write.proofs.NetlistLemmas.{specialised_is}
+use Rattle.blif_write.proofs.Lemmas.{added_as, added_twice, specialised_is}
 use Rattle.blif_write.proofs.writing.add_specialised.Goals as goal
 
 pub returns : goal.returns

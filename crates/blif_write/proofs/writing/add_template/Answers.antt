@@ -1,5 +1,4 @@
-use Rattle.blif_write.proofs.Common.{added_as, added_twice}
-use Rattle.blif_write.proofs.NetlistLemmas.{template_is}
+use Rattle.blif_write.proofs.Lemmas.{added_as, added_twice, template_is}
 use Rattle.blif_write.proofs.writing.add_template.Goals as goal
 
 pub returns : goal.returns

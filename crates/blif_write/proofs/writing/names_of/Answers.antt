@@ -1,5 +1,4 @@
-use Rattle.blif_write.proofs.Common.{◌≡◌, ℕ, ◌≤◌, ◌<◌, List, [], not, length, map, get_or, ap, sym, subst, ◌∙◌, arith, length-filter_le, Shape, FlatValue, has_name, ParamsValue, param_names, regular_names, naming_of}
-use Rattle.blif_write.proofs.OwnNameLemmas.{placed_names, placed_within, placed_count, same_naming, same_shape}
+use Rattle.blif_write.proofs.Lemmas.{◌≡◌, ℕ, ◌≤◌, ◌<◌, List, [], not, length, map, get_or, ap, sym, subst, ◌∙◌, arith, length-filter_le, Shape, FlatValue, has_name, ParamsValue, param_names, regular_names, naming_of, placed_names, placed_within, placed_count, same_naming, same_shape}
 use Rattle.blif_write.proofs.writing.names_of.Goals as goal
 
 pub overflow_cast-regular : goal.overflow_cast-regular

@@ -1,6 +1,4 @@
-use Rattle.blif_write.proofs.Common.{rules, put_over}
-use Rattle.blif_write.proofs.PortLemmas.{ports_there}
-use Rattle.blif_write.proofs.MeaningLemmas.{template_means}
+use Rattle.blif_write.proofs.Lemmas.{rules, put_over, ports_there, template_means}
 use Rattle.blif_write.proofs.writing.template.Goals as goal
 
 pub returns-clause-put : goal.returns-clause-put

@@ -1,5 +1,4 @@
-use Rattle.bounded_cuts.proofs.Common.{◌<◌, sym, subst, inl, inr, In, In-get_or, Candidate}
-use Rattle.bounded_cuts.proofs.UnionLemmas.{next_taken}
+use Rattle.bounded_cuts.proofs.Lemmas.{◌<◌, sym, subst, inl, inr, In, In-get_or, Candidate, next_taken}
 use Rattle.bounded_cuts.proofs.candidates.has_low.Goals as goal
 
 pub returns-then-candidate-label-clause-yes : goal.returns-then-candidate-label-clause-yes

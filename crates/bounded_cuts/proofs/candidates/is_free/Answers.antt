@@ -1,9 +1,4 @@
-use Rattle.bounded_cuts.proofs.Common.{◌≡◌, ◌≤◌, ℕ, List, sym, ap, ◌∙◌, subst, arith, label_at, height}
-use Rattle.std.proofs.lemmas.Bool.{eqb-true}
-use Rattle.aig_core.specs.Aig.{first_and}
-use Rattle.cut_sets.specs.Cuts.{Blocks, constant, parameter}
-use Rattle.cut_sets.proofs.HeightLemmas.{height_none}
-use Rattle.std.proofs.Common.{Some}
+use Rattle.bounded_cuts.proofs.Common.{◌≡◌, ◌≤◌, ℕ, List, sym, ap, ◌∙◌, subst, arith, label_at, height, eqb-true, first_and, Blocks, constant, parameter, height_none, Some}
 use Rattle.bounded_cuts.proofs.candidates.is_free.Goals as goal
 
 pub returns-then-m-eq0-clause-free : goal.returns-then-m-eq0-clause-free

@@ -1,6 +1,4 @@
-use Rattle.bounded_cuts.proofs.Common.{rules, ◌<◌, ℕ, List, [], ◌∷◌, ◌++◌, length, refl, ap, ◌∙◌, subst, arith, length-append, In, Candidate, cuts_of, as_low, none_low}
-use Rattle.std.proofs.lemmas.List.{map-append}
-use Rattle.bounded_cuts.proofs.UnionLemmas.{priced_push}
+use Rattle.bounded_cuts.proofs.Lemmas.{rules, ◌<◌, ℕ, List, [], ◌∷◌, ◌++◌, length, refl, ap, ◌∙◌, subst, arith, length-append, In, Candidate, cuts_of, as_low, none_low, map-append, priced_push}
 use Rattle.bounded_cuts.proofs.candidates.push_low.Goals as goal
 
 pub returns-in_ok-push-clause-low : goal.returns-in_ok-push-clause-low

@@ -1,6 +1,4 @@
-use Rattle.bounded_cuts.proofs.Common.{◌++◌, ◌∷◌, List, ℕ, [], sym, ap, ◌∙◌, append_assoc, take}
-use Rattle.cut_sets.specs.Rows.{row_at}
-use Rattle.bounded_cuts.proofs.UnionLemmas.{take_next}
+use Rattle.bounded_cuts.proofs.Lemmas.{◌++◌, ◌∷◌, List, ℕ, [], sym, ap, ◌∙◌, append_assoc, take, row_at, take_next}
 use Rattle.bounded_cuts.proofs.candidates.push_set.Goals as goal
 
 pub loop-i-preserved : goal.loop-i-preserved

@@ -1,5 +1,4 @@
-use Rattle.std.proofs.Common.{◌≡◌, ◌++◌, take}
-use Rattle.cut_sets.specs.Rows.{row_at}
+use Rattle.bounded_cuts.proofs.Common.{◌≡◌, ◌++◌, take, row_at}
 use Rattle.bounded_cuts.proofs.candidates.push_set.Given as goal
 
 abbrev pub invariant-loop-i : goal.invariant-loop-i

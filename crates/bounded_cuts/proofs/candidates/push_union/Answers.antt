@@ -1,5 +1,4 @@
-use Rattle.bounded_cuts.proofs.Common.{List, subst, In, Candidate}
-use Rattle.bounded_cuts.proofs.UnionLemmas.{priced_push, union_counted}
+use Rattle.bounded_cuts.proofs.Lemmas.{List, subst, In, Candidate, priced_push, union_counted}
 use Rattle.bounded_cuts.proofs.candidates.push_union.Goals as goal
 
 pub price-requires-clause-counted : goal.price-requires-clause-counted

@@ -1,5 +1,4 @@
-use Rattle.bounded_cuts.proofs.Common.{sym, subst, In, In-get_or, cuts_of}
-use Rattle.bounded_cuts.proofs.UnionLemmas.{unions_next}
+use Rattle.bounded_cuts.proofs.Lemmas.{sym, subst, In, In-get_or, cuts_of, unions_next}
 use Rattle.bounded_cuts.proofs.candidates.push_unions.Goals as goal
 
 pub push_unions_with-requires-clause-c_counted : goal.push_unions_with-requires-clause-c_counted

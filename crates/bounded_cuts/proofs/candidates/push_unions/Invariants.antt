@@ -1,7 +1,4 @@
-use Rattle.std.proofs.Common.{◌≡◌, ◌++◌, take}
-use Rattle.bounded_cuts.specs.Candidates.{unions}
-use Rattle.bounded_cuts.specs.Taking.{cuts_of}
-use Rattle.bounded_cuts.specs.Worths.{ArePricedBy}
+use Rattle.bounded_cuts.proofs.Common.{◌≡◌, ◌++◌, take, unions, cuts_of, ArePricedBy}
 use Rattle.bounded_cuts.proofs.candidates.push_unions.Given as goal
 
 abbrev pub invariant-loop-c : goal.invariant-loop-c

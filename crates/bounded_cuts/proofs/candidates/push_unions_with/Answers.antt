@@ -1,5 +1,4 @@
-use Rattle.bounded_cuts.proofs.Common.{sym, subst, In, In-get_or, cuts_of}
-use Rattle.bounded_cuts.proofs.UnionLemmas.{with_next}
+use Rattle.bounded_cuts.proofs.Lemmas.{sym, subst, In, In-get_or, cuts_of, with_next}
 use Rattle.bounded_cuts.proofs.candidates.push_unions_with.Goals as goal
 
 pub push_union-requires-clause-d_counted : goal.push_union-requires-clause-d_counted

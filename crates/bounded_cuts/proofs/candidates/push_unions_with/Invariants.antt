@@ -1,7 +1,4 @@
-use Rattle.std.proofs.Common.{◌≡◌, ◌++◌, take}
-use Rattle.bounded_cuts.specs.Candidates.{unions_with}
-use Rattle.bounded_cuts.specs.Taking.{cuts_of}
-use Rattle.bounded_cuts.specs.Worths.{ArePricedBy}
+use Rattle.bounded_cuts.proofs.Common.{◌≡◌, ◌++◌, take, unions_with, cuts_of, ArePricedBy}
 use Rattle.bounded_cuts.proofs.candidates.push_unions_with.Given as goal
 
 abbrev pub invariant-loop-d : goal.invariant-loop-d

@@ -1,6 +1,4 @@
-use Rattle.bounded_cuts.proofs.Common.{◌≡◌, ℕ, subst, arith, node_count}
-use Rattle.bounded_cuts.specs.Making.{AreMade}
-use Rattle.bounded_cuts.proofs.MakingLemmas.{none_made}
+use Rattle.bounded_cuts.proofs.Lemmas.{◌≡◌, ℕ, subst, arith, node_count, AreMade, none_made}
 use Rattle.bounded_cuts.proofs.making.all_made.Goals as goal
 
 pub loop-n-init : goal.loop-n-init

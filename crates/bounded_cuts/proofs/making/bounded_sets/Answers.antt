@@ -1,5 +1,4 @@
-use Rattle.bounded_cuts.proofs.MakingLemmas.{all_sets}
-use Rattle.bounded_cuts.proofs.ServingLemmas.{sets_serve}
+use Rattle.bounded_cuts.proofs.Lemmas.{all_sets, sets_serve}
 use Rattle.bounded_cuts.proofs.making.bounded_sets.Goals as goal
 
 pub returns-clause-sets : goal.returns-clause-sets

@@ -1,11 +1,7 @@
-use Rattle.bounded_cuts.proofs.Common.{◌≡◌, ℕ, ◌<◌, List, length, In, Candidate, sym, subst, ap, ◌∙◌, arith, label_at, node_count, AreBounded, AreCapped, ArePricedBy, ArePlaced, HaveSmallCosts, Worth, cuts_at, cuts_of, label_in, pricing, CanTake, AreCandidates}
-use Rattle.std.proofs.lemmas.Result.{on_ok_weaker}
+use Rattle.bounded_cuts.proofs.Lemmas.{◌≡◌, ℕ, ◌<◌, List, length, In, Candidate, sym, subst, ap, ◌∙◌, arith, label_at, node_count, AreBounded, AreCapped, ArePricedBy, ArePlaced, HaveSmallCosts, Worth, cuts_at, cuts_of, label_in, pricing, CanTake, AreCandidates, on_ok_weaker, count_in, row_few, rows_cut, can_take, chosen_cut}
 use Rattle.bounded_cuts.specs.declared.scope.Scope.TheVariants.{AnyHeight, LeastHeight}
-use Rattle.bounded_cuts.specs.Making.{count_in}
 use Rattle.bounded_cuts.proofs.GrowthLemmas.{flows_capped}
-use Rattle.bounded_cuts.proofs.MakingLemmas.{row_few, rows_cut}
 use Rattle.bounded_cuts.proofs.WorthLemmas.{all_priced_as, bounded}
-use Rattle.bounded_cuts.proofs.ChosenLemmas.{can_take, chosen_cut}
 use Rattle.bounded_cuts.proofs.making.make_set.Goals as goal
 
 pub fill-requires-clause-bounded : goal.fill-requires-clause-bounded

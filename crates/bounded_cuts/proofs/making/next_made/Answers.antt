@@ -1,6 +1,4 @@
-use Rattle.bounded_cuts.proofs.Common.{◌≤◌, ◌<◌, [], refl, arith, first_and}
-use Rattle.std.proofs.lemmas.Result.{IfOk-weaker}
-use Rattle.bounded_cuts.proofs.MakingLemmas.{made_pushed, room_for, source_flow}
+use Rattle.bounded_cuts.proofs.Lemmas.{◌≤◌, ◌<◌, [], refl, arith, first_and, IfOk-weaker, made_pushed, room_for, source_flow}
 use Rattle.bounded_cuts.proofs.making.next_made.Goals as goal
 
 pub pushed-requires : goal.pushed-requires

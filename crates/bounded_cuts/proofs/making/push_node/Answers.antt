@@ -1,10 +1,4 @@
-use Rattle.bounded_cuts.proofs.Common.{◌≡◌, ℕ, ◌≤◌, List, first_and, sym, subst, ap, ◌∙◌, arith, label_at, cuts_of, pricing, ArePriced, flows_of, low_flows_of, max}
-use Rattle.std.proofs.lemmas.Result.{IfOk-weaker}
-use Rattle.bounded_cuts.specs.Flow.{cuts_within, least_flow}
-use Rattle.bounded_cuts.specs.Making.{IsChosen, count_in}
-use Rattle.bounded_cuts.proofs.ChosenLemmas.{cuts_seen}
-use Rattle.bounded_cuts.proofs.MakingLemmas.{and_flow, made_pushed, room_for}
-use Rattle.bounded_cuts.proofs.ServingLemmas.{set_few}
+use Rattle.bounded_cuts.proofs.Lemmas.{◌≡◌, ℕ, ◌≤◌, List, first_and, sym, subst, ap, ◌∙◌, arith, label_at, cuts_of, pricing, ArePriced, flows_of, low_flows_of, max, IfOk-weaker, cuts_within, least_flow, IsChosen, count_in, cuts_seen, and_flow, made_pushed, room_for, set_few}
 use Rattle.bounded_cuts.proofs.making.push_node.Goals as goal
 
 pub pushed-requires : goal.pushed-requires

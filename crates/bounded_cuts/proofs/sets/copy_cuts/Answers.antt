@@ -1,5 +1,4 @@
-use Rattle.bounded_cuts.proofs.Common.{ℕ, ◌++◌, ◌∷◌, [], List, get_or, take, cuts_at, sym, ap, ◌∙◌, In-get_or}
-use Rattle.bounded_cuts.proofs.SetLemmas.{map_next}
+use Rattle.bounded_cuts.proofs.Lemmas.{ℕ, ◌++◌, ◌∷◌, [], List, get_or, take, cuts_at, sym, ap, ◌∙◌, In-get_or, map_next}
 use Rattle.bounded_cuts.proofs.sets.copy_cuts.Goals as goal
 
 pub bounds-candidates-i : goal.bounds-candidates-i

@@ -1,5 +1,4 @@
-use Rattle.std.proofs.Common.{◌≡◌, take}
-use Rattle.bounded_cuts.specs.Taking.{cuts_at}
+use Rattle.bounded_cuts.proofs.Common.{◌≡◌, take, cuts_at}
 use Rattle.bounded_cuts.proofs.sets.copy_cuts.Given as goal
 
 abbrev pub invariant-loop-i : goal.invariant-loop-i

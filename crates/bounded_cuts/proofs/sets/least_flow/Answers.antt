@@ -1,6 +1,4 @@
-use Rattle.bounded_cuts.proofs.Common.{◌≡◌, ℕ, ◌≤◌, ◌<◌, length, min, take, get_or, sym, ap, ◌∙◌, arith, In-get_or, cuts_at, cut_flow, MOST_FLOW}
-use Rattle.bounded_cuts.specs.Flow.{least_flow}
-use Rattle.bounded_cuts.proofs.SetLemmas.{map_next, least_push}
+use Rattle.bounded_cuts.proofs.Lemmas.{◌≡◌, ℕ, ◌≤◌, ◌<◌, length, min, take, get_or, sym, ap, ◌∙◌, arith, In-get_or, cuts_at, cut_flow, MOST_FLOW, least_flow, map_next, least_push}
 use Rattle.bounded_cuts.proofs.sets.least_flow.Goals as goal
 
 pub bounds-candidates-i : goal.bounds-candidates-i

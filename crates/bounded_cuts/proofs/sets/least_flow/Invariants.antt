@@ -1,7 +1,4 @@
-use Rattle.std.proofs.Common.{◌≡◌, ◌≤◌, take}
-use Rattle.bounded_cuts.specs.declared.limits.TheConstants.{MOST_FLOW}
-use Rattle.bounded_cuts.specs.Flow.{least_flow}
-use Rattle.bounded_cuts.specs.Taking.{Pricing, ArePriced, cuts_at}
+use Rattle.bounded_cuts.proofs.Common.{◌≡◌, ◌≤◌, take, MOST_FLOW, least_flow, Pricing, ArePriced, cuts_at}
 use Rattle.bounded_cuts.proofs.sets.least_flow.Given as goal
 
 abbrev pub invariant-loop-i : goal.invariant-loop-i

@@ -1,7 +1,4 @@
-use Rattle.bounded_cuts.proofs.Common.{◌≡◌, ℕ, ◌≤◌, ◌<◌, List, length, min, take, get_or, sym, ap, subst, ◌∙◌, arith, In-get_or, Candidate, cuts_at, MOST_FLOW, label_at, height, if◌then◌else◌}
-use Rattle.std.proofs.Common.{nat_lt}
-use Rattle.bounded_cuts.specs.Flow.{least_flow, cuts_within}
-use Rattle.bounded_cuts.proofs.SetLemmas.{map_next, least_low_push, low_value}
+use Rattle.bounded_cuts.proofs.Lemmas.{◌≡◌, ℕ, ◌≤◌, ◌<◌, List, length, min, take, get_or, sym, ap, subst, ◌∙◌, arith, In-get_or, Candidate, cuts_at, MOST_FLOW, label_at, height, if◌then◌else◌, nat_lt, least_flow, cuts_within, map_next, least_low_push, low_value}
 use Rattle.bounded_cuts.proofs.sets.least_low_flow.Goals as goal
 
 pub bounds-candidates-i : goal.bounds-candidates-i

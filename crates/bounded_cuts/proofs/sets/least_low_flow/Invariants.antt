@@ -1,8 +1,4 @@
-use Rattle.std.proofs.Common.{◌≡◌, ◌≤◌, take}
-use Rattle.cut_sets.specs.Labels.{label_at}
-use Rattle.bounded_cuts.specs.declared.limits.TheConstants.{MOST_FLOW}
-use Rattle.bounded_cuts.specs.Flow.{cuts_within, least_flow}
-use Rattle.bounded_cuts.specs.Taking.{Pricing, ArePriced, cuts_at}
+use Rattle.bounded_cuts.proofs.Common.{◌≡◌, ◌≤◌, take, label_at, MOST_FLOW, cuts_within, least_flow, Pricing, ArePriced, cuts_at}
 use Rattle.bounded_cuts.proofs.sets.least_low_flow.Given as goal
 
 abbrev pub invariant-loop-i : goal.invariant-loop-i

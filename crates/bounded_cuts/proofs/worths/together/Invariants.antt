@@ -1,7 +1,4 @@
-use Rattle.std.proofs.Common.{◌≡◌, ◌+◌, ◌*◌, ◌<◌, ◌≤◌, ◌^◌, drop, max, take, sum_by}
-use Rattle.cut_sets.specs.Labels.{greatest}
-use Rattle.bounded_cuts.specs.declared.limits.TheConstants.{MOST_FLOW}
-use Rattle.bounded_cuts.specs.Worths.{flow_in, label_in, low_flow_in, paid_in}
+use Rattle.bounded_cuts.proofs.Common.{◌≡◌, ◌+◌, ◌*◌, ◌<◌, ◌≤◌, ◌^◌, drop, max, take, sum_by, greatest, MOST_FLOW, flow_in, label_in, low_flow_in, paid_in}
 use Rattle.bounded_cuts.proofs.worths.together.Given as goal
 
 abbrev pub invariant-loop-m : goal.invariant-loop-m

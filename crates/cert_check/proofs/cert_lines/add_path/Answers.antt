@@ -1,5 +1,4 @@
-use Rattle.cert_check.proofs.Common.{List, ◌∷◌, [], ◌++◌, length, length-append, ap, ◌∙◌, arith, StepValue}
-use Rattle.cert_check.proofs.LineLemmas.{path_pushed}
+use Rattle.cert_check.proofs.Lemmas.{List, ◌∷◌, [], ◌++◌, length, length-append, ap, ◌∙◌, arith, StepValue, path_pushed}
 use Rattle.cert_check.proofs.cert_lines.add_path.Goals as goal
 
 pub returns : goal.returns

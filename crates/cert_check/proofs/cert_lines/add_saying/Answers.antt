@@ -1,5 +1,4 @@
-use Rattle.cert_check.proofs.Common.{ap, saying_value}
-use Rattle.cert_check.proofs.LineLemmas.{path_added}
+use Rattle.cert_check.proofs.Lemmas.{ap, saying_value, path_added}
 use Rattle.cert_check.proofs.cert_lines.add_saying.Goals as goal
 
 pub returns-in-Path : goal.returns-in-Path

@@ -1,5 +1,4 @@
-use Rattle.cert_check.proofs.Common.{◌≡◌, ◌-◌, false, List, length, map, take, drop, ◌∙◌, subst, sym, take_rest, take-append-drop, In, member_at, In-right, OrMemory, OrMemory-map, LineValue, WordsLine, words_line, said_of, steps_said, fits_at, AreSaid, IsMalformed, IsMisfit, refusal_of, Malformed, passed_err}
-use Rattle.cert_check.proofs.LineLemmas.{all_lines, first_wrong, later_wrong, some_lines}
+use Rattle.cert_check.proofs.Lemmas.{◌≡◌, ◌-◌, false, List, length, map, take, drop, ◌∙◌, subst, sym, take_rest, take-append-drop, In, member_at, In-right, OrMemory, OrMemory-map, LineValue, WordsLine, words_line, said_of, steps_said, fits_at, AreSaid, IsMalformed, IsMisfit, refusal_of, Malformed, passed_err, all_lines, first_wrong, later_wrong, some_lines}
 use Rattle.cert_check.proofs.cert_lines.read_lines.Goals as goal
 
 pub read_depth-requires : goal.read_depth-requires

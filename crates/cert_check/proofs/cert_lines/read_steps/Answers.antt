@@ -1,5 +1,4 @@
-use Rattle.cert_check.proofs.Common.{◌≡◌, ℕ, ◌+◌, false, List, [], ◌∷◌, ◌++◌, length, map, ap, ◌∙◌, Some, None, arith, length-map, member_at, OrMemory, OrMemory-map, LineValue, WordsLine, words_line, said_of, steps_said, fits_at, saying_value, IsMisfit, refusal_of, Malformed, passed_err}
-use Rattle.cert_check.proofs.LineLemmas.{nothing_said, wrong_place, one_more, all_read, line_at}
+use Rattle.cert_check.proofs.Lemmas.{◌≡◌, ℕ, ◌+◌, false, List, [], ◌∷◌, ◌++◌, length, map, ap, ◌∙◌, Some, None, arith, length-map, member_at, OrMemory, OrMemory-map, LineValue, WordsLine, words_line, said_of, steps_said, fits_at, saying_value, IsMisfit, refusal_of, Malformed, passed_err, nothing_said, wrong_place, one_more, all_read, line_at}
 use Rattle.cert_check.proofs.cert_lines.read_steps.Goals as goal
 
 pub read_saying-requires : goal.read_saying-requires

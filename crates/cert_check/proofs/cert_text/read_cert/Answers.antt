@@ -1,8 +1,5 @@
-use Rattle.cert_check.proofs.Common.{Ok, refl, sym, ap, ◌∙◌, lines_fault, text_read, text_refused, cert_err, AreLinesOf, IsMalformed, refusal_of}
+use Rattle.cert_check.proofs.Lemmas.{Ok, refl, sym, ap, ◌∙◌, lines_fault, text_read, text_refused, cert_err, AreLinesOf, IsMalformed, refusal_of, IsCertText, IsWritable, text_writable}
 use Rattle.std.proofs.lemmas.Result.{IfOk-weaker}
-use Rattle.cert_check.specs.CertText.{IsCertText}
-use Rattle.cert_check.specs.WrittenText.{IsWritable}
-use Rattle.cert_check.proofs.RoundTrip.{text_writable}
 use Rattle.cert_check.proofs.OnceLemmas.{one_reading}
 use Rattle.cert_check.proofs.cert_text.read_cert.Goals as goal
 

@@ -1,7 +1,6 @@
-use Rattle.cert_check.proofs.Common.{◌≡◌, ℕ, [], List, get_or, ap, ◌∙◌, subst, roots_of, OrMemory, OrMemory-map, StepValue, CertificateValue, StepsFault, IsFault, AreInTurn, refusal_of, claim_of, IsReached, IsValid, passed_err}
+use Rattle.cert_check.proofs.Lemmas.{◌≡◌, ℕ, [], List, get_or, ap, ◌∙◌, subst, roots_of, OrMemory, OrMemory-map, StepValue, CertificateValue, StepsFault, IsFault, AreInTurn, refusal_of, claim_of, IsReached, IsValid, passed_err, one_verdict, fault_of_steps, fault_of_depth, reached_all, reached_back}
 use Rattle.cert_check.proofs.InTurnLemmas.{turn_valid}
 use Rattle.cert_check.proofs.LeastLemmas.{valid_bound, valid_claims}
-use Rattle.cert_check.proofs.CheckLemmas.{one_verdict, fault_of_steps, fault_of_depth, reached_all, reached_back}
 use Rattle.cert_check.proofs.checking.check.Goals as goal
 
 pub returns-in_err-claims-clause-fault : goal.returns-in_err-claims-clause-fault

@@ -1,5 +1,4 @@
-use Rattle.cert_check.proofs.Common.{◌≡◌, ℕ, List, get_or, sym, ap, ◌∙◌, subst, inl, inr, RootsValue, lits_of, Lit, SomeNeeds}
-use Rattle.cert_check.proofs.CheckLemmas.{some_left, some_right, neither}
+use Rattle.cert_check.proofs.Lemmas.{◌≡◌, ℕ, List, get_or, sym, ap, ◌∙◌, subst, inl, inr, RootsValue, lits_of, Lit, SomeNeeds, some_left, some_right, neither}
 use Rattle.cert_check.proofs.checking.is_reached.Goals as goal
 
 pub returns-then-depth-eq0 : goal.returns-then-depth-eq0

@@ -1,5 +1,4 @@
-use Rattle.cert_check.proofs.Common.{ℕ, List, get_or, sym, ap, subst, inl, inr, arith, lits_of, drop_past, SomeNeeds}
-use Rattle.cert_check.proofs.CheckLemmas.{lits_drop}
+use Rattle.cert_check.proofs.Lemmas.{ℕ, List, get_or, sym, ap, subst, inl, inr, arith, lits_of, drop_past, SomeNeeds, lits_drop}
 use Rattle.cert_check.proofs.checking.one_needs.Goals as goal
 
 pub loop-root-init : goal.loop-root-init

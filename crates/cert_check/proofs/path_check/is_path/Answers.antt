@@ -1,5 +1,4 @@
-use Rattle.cert_check.proofs.Common.{◌≡◌, ◌+◌, ◌-◌, subst, arith, get_or, inl, inr, eqb-true, eqb-false, cases_lt, IsFanIn}
-use Rattle.cut_sets.proofs.PathLemmas.{path_made, path_edge, path_end, path_below}
+use Rattle.cert_check.proofs.Common.{◌≡◌, ◌+◌, ◌-◌, subst, arith, get_or, inl, inr, eqb-true, eqb-false, cases_lt, IsFanIn, path_made, path_edge, path_end, path_below}
 use Rattle.cert_check.proofs.path_check.is_path.Goals as goal
 
 pub returns-then-not-is_fan_in-clause-no : goal.returns-then-not-is_fan_in-clause-no

@@ -1,5 +1,4 @@
-use Rattle.cert_check.proofs.Common.{sym, ◌∙◌, ap, refl, slice_get-get_or, In-get, number_of}
-use Rattle.cert_check.proofs.LineLemmas.{numbers_next, numbers_stop}
+use Rattle.cert_check.proofs.Lemmas.{sym, ◌∙◌, ap, refl, slice_get-get_or, In-get, number_of, numbers_next, numbers_stop}
 use Rattle.cert_check.proofs.saying.read_numbers.Goals as goal
 
 pub bytes-requires : goal.bytes-requires

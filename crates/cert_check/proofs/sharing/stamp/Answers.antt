@@ -1,5 +1,4 @@
-use Rattle.cert_check.proofs.Common.{◌≡◌, length, arith, In-get_or}
-use Rattle.cert_check.proofs.StampLemmas.{stamped_more}
+use Rattle.cert_check.proofs.Lemmas.{◌≡◌, length, arith, In-get_or, stamped_more}
 use Rattle.cert_check.proofs.sharing.stamp.Goals as goal
 
 pub index_mut-requires : goal.index_mut-requires

@@ -1,5 +1,4 @@
-use Rattle.cert_check.proofs.Common.{◌≡◌, ℕ, ◌≤◌, List, length, ap, ◌∙◌, sym, subst, arith, In, PathValue, StepValue, IsPath}
-use Rattle.cert_check.proofs.StampLemmas.{clash_as}
+use Rattle.cert_check.proofs.Lemmas.{◌≡◌, ℕ, ◌≤◌, List, length, ap, ◌∙◌, sym, subst, arith, In, PathValue, StepValue, IsPath, clash_as}
 use Rattle.cert_check.proofs.step_check.check_path.Goals as goal
 
 pub first_clash-requires-clause-stamps : goal.first_clash-requires-clause-stamps

@@ -1,5 +1,4 @@
-use Rattle.cert_check.proofs.Common.{ap, ◌∙◌, CertificateValue, added_as, added_twice}
-use Rattle.cert_check.proofs.WriteLemmas.{whole_text}
+use Rattle.cert_check.proofs.Lemmas.{ap, ◌∙◌, CertificateValue, added_as, added_twice, whole_text}
 use Rattle.cert_check.proofs.written.add_cert.Goals as goal
 
 pub returns : goal.returns

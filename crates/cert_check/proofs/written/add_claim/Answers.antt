@@ -1,5 +1,4 @@
-use Rattle.cert_check.proofs.Common.{ap, StepValue, added_as, added_twice}
-use Rattle.cert_check.proofs.WriteLemmas.{claim_line}
+use Rattle.cert_check.proofs.Lemmas.{ap, StepValue, added_as, added_twice, claim_line}
 use Rattle.cert_check.proofs.written.add_claim.Goals as goal
 
 pub returns : goal.returns

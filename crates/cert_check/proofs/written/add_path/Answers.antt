@@ -1,5 +1,4 @@
-use Rattle.cert_check.proofs.Common.{ap, ◌∙◌, PathValue, added_as, added_twice}
-use Rattle.cert_check.proofs.WriteLemmas.{path_line}
+use Rattle.cert_check.proofs.Lemmas.{ap, ◌∙◌, PathValue, added_as, added_twice, path_line}
 use Rattle.cert_check.proofs.written.add_path.Goals as goal
 
 pub returns : goal.returns

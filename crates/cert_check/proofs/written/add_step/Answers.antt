@@ -1,5 +1,4 @@
-use Rattle.cert_check.proofs.Common.{ap, ◌∙◌, StepValue, added_as, added_twice}
-use Rattle.cert_check.proofs.WriteLemmas.{step_line}
+use Rattle.cert_check.proofs.Lemmas.{ap, ◌∙◌, StepValue, added_as, added_twice, step_line}
 use Rattle.cert_check.proofs.written.add_step.Goals as goal
 
 pub returns : goal.returns

@@ -1,5 +1,4 @@
-use Rattle.cert_check.proofs.RoundTrip.{reads_back}
-use Rattle.cert_check.proofs.Common.{rules, put_over}
+use Rattle.cert_check.proofs.Lemmas.{reads_back, rules, put_over}
 use Rattle.cert_check.proofs.written.put_cert.Goals as goal
 
 pub returns-clause-put : goal.returns-clause-put

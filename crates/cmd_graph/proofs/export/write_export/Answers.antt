@@ -1,5 +1,4 @@
-use Rattle.cmd_graph.proofs.Common.{ap, rules, put_as, circuit_text, written_over}
-use Rattle.cmd_graph.specs.Exports.{circuit_of, export_text}
+use Rattle.cmd_graph.proofs.Common.{ap, rules, put_as, circuit_text, written_over, circuit_of, export_text}
 use Rattle.cmd_graph.proofs.GraphJobLemmas.{not_written}
 use Rattle.cmd_graph.proofs.export.write_export.Goals as goal
 

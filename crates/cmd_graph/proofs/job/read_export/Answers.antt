@@ -1,5 +1,4 @@
-use Rattle.cmd_graph.proofs.Common.{sym, subst, ComesToGraph}
-use Rattle.cmd_stations.specs.Source.{source_seen}
+use Rattle.cmd_graph.proofs.Common.{sym, subst, ComesToGraph, source_seen}
 use Rattle.cmd_graph.proofs.job.read_export.Goals as goal
 
 pub returns-in-Ok-make_export-clause-comes : goal.returns-in-Ok-make_export-clause-comes

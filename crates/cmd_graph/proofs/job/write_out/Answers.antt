@@ -1,5 +1,4 @@
-use Rattle.cmd_graph.proofs.Common.{[], ◌∷◌, refl, string_bytes, put_as, cut_in_file, line_ends}
-use Rattle.cmd_graph.specs.Exports.{export_text}
+use Rattle.cmd_graph.proofs.Common.{[], ◌∷◌, refl, string_bytes, put_as, cut_in_file, line_ends, export_text}
 use Rattle.cmd_graph.proofs.job.write_out.Goals as goal
 
 pub returns-in-Err-clause-ends : goal.returns-in-Err-clause-ends

@@ -1,7 +1,4 @@
-use Rattle.cmd_pace.proofs.Common.{subst, pace_values, PacerValue, pacer_header}
-use Rattle.cmd_stations.proofs.PlayingLemmas.{puts_behind}
-use Rattle.cmd_pace.specs.Verdict.{IsShown}
-use Rattle.cmd_pace.specs.Ready.{EventsEnd}
+use Rattle.cmd_pace.proofs.Common.{subst, pace_values, PacerValue, pacer_header, puts_behind, IsShown, EventsEnd}
 use Rattle.cmd_pace.proofs.play.play.Goals as goal
 
 pub returns-clause-ends : goal.returns-clause-ends

@@ -1,9 +1,7 @@
-use Rattle.cmd_pace.proofs.Common.{◌≤◌, List, [], take, refl, sym, ◌∙◌, subst, inr, arith, take_all, pace_value, pace_values, split_by, more_by, value_has, FitsPacer, HaveShown, shown_line}
+use Rattle.cmd_pace.proofs.Common.{◌≤◌, List, [], take, refl, sym, ◌∙◌, subst, inr, arith, take_all, pace_value, pace_values, split_by, more_by, value_has, FitsPacer, HaveShown, shown_line, AreAllPut, put_none, put_more}
 use Rattle.machine.specs.Machine.{none}
 use Rattle.std.proofs.lemmas.Result.{err_from_is_err_and}
 use Rattle.pace_core.specs.declared.event.PaceEvent.{PaceEvent}
-use Rattle.cmd_stations.specs.Playing.{AreAllPut}
-use Rattle.cmd_stations.proofs.PlayingLemmas.{put_none, put_more}
 use Rattle.cmd_pace.proofs.PlayLemmas.{paced_form, fits_form, then_shown}
 use Rattle.cmd_pace.proofs.play.play_with.Goals as goal
 

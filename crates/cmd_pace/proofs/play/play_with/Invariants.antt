@@ -1,5 +1,4 @@
-use Rattle.cmd_pace.proofs.Common.{◌≤◌, [], take, pace_values, HaveShown}
-use Rattle.cmd_stations.specs.Playing.{AreAllPut}
+use Rattle.cmd_pace.proofs.Common.{◌≤◌, [], take, pace_values, HaveShown, AreAllPut}
 use Rattle.cmd_pace.proofs.PlayLemmas.{HasSameForm}
 use Rattle.cmd_pace.proofs.play.play_with.Given as goal
 

@@ -1,6 +1,5 @@
-use Rattle.cmd_pace.proofs.Common.{ap, ◌∙◌}
+use Rattle.cmd_pace.proofs.Common.{ap, ◌∙◌, source_starts}
 use Rattle.lut_sim.specs.Sim.{SimValue}
-use Rattle.cmd_stations.proofs.InitLemmas.{source_starts}
 use Rattle.cmd_pace.proofs.prepare.start_pacer.Goals as goal
 
 pub returns : goal.returns

@@ -1,6 +1,4 @@
-use Rattle.cmd_stations.proofs.Common.{source_seen, ToGraph}
-use Rattle.cmd_stations.proofs.StationLemmas.{made_explains, making_settles}
-use Rattle.cmd_stations.proofs.StopLemmas.{stops_anyway}
+use Rattle.cmd_stations.proofs.Lemmas.{source_seen, ToGraph, made_explains, making_settles, stops_anyway}
 use Rattle.cmd_stations.proofs.graphs.read_graph.Goals as goal
 
 pub returns-in-Err-clause-err : goal.returns-in-Err-clause-err

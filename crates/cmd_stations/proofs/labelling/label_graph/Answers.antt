@@ -1,5 +1,4 @@
-use Rattle.cmd_stations.proofs.Common.{List, ℕ, sym, subst}
-use Rattle.cut_sets.specs.Labels.{label_at, AreLeastHeights}
+use Rattle.cmd_stations.proofs.Common.{List, ℕ, sym, subst, label_at, AreLeastHeights}
 use Rattle.cmd_stations.specs.Mapped as mapped
 use Rattle.cmd_stations.proofs.labelling.label_graph.Goals as goal
 

@@ -1,7 +1,5 @@
-use Rattle.cmd_stations.proofs.Common.{HasTooManyNodes, most_nodes, IsLabellingSettled, HasOneLimit}
+use Rattle.cmd_stations.proofs.Lemmas.{HasTooManyNodes, most_nodes, IsLabellingSettled, HasOneLimit, passed_settled, passed_anyway, full_labelling, labelling_settled}
 use Rattle.aig_build.specs.Refusals.{refusal_of as build_refusal}
-use Rattle.cmd_stations.proofs.StopLemmas.{passed_settled, passed_anyway}
-use Rattle.cmd_stations.proofs.GraphLemmas.{full_labelling, labelling_settled}
 use Rattle.cmd_stations.proofs.labelling.label_source.Goals as goal
 
 pub returns-in_err-graph-clause-settled : goal.returns-in_err-graph-clause-settled

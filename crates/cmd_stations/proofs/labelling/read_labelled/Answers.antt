@@ -1,5 +1,4 @@
-use Rattle.cmd_stations.proofs.Common.{source_seen, ToLabels}
-use Rattle.cmd_stations.proofs.StationLemmas.{made_explains, making_settles}
+use Rattle.cmd_stations.proofs.Lemmas.{source_seen, ToLabels, made_explains, making_settles}
 use Rattle.cmd_stations.proofs.labelling.read_labelled.Goals as goal
 
 pub returns-in-Err-clause-err : goal.returns-in-Err-clause-err

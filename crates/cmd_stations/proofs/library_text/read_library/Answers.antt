@@ -1,10 +1,9 @@
-use Rattle.cmd_stations.proofs.Common.{◌≡◌, Some, sym, ◌∙◌, LibraryRefusal}
+use Rattle.cmd_stations.proofs.Lemmas.{◌≡◌, Some, sym, ◌∙◌, LibraryRefusal, passed_stop}
 use Rattle.blif_read.specs.ReadFault.{read_fault}
 use Rattle.blif_read.specs.Refusals.{refusal_of as blif_refusal}
 use Rattle.aiger_io.specs.Refused.{IsRefused}
 use Rattle.aiger_io.specs.Refusals.{refusal_of as aag_refusal}
 use Rattle.cmd_stations.specs.Texts as form
-use Rattle.cmd_stations.proofs.StopLemmas.{passed_stop}
 use Rattle.cmd_stations.proofs.LibraryTextLemmas.{aiger_once, blif_once}
 use Rattle.cmd_stations.proofs.library_text.read_library.Goals as goal
 

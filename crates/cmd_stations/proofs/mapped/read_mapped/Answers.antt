@@ -1,5 +1,4 @@
-use Rattle.cmd_stations.proofs.Common.{source_seen, ToTables}
-use Rattle.cmd_stations.proofs.StationLemmas.{made_explains, making_settles}
+use Rattle.cmd_stations.proofs.Lemmas.{source_seen, ToTables, made_explains, making_settles}
 use Rattle.cmd_stations.proofs.mapped.read_mapped.Goals as goal
 
 pub returns-in-Err-clause-err : goal.returns-in-Err-clause-err

@@ -1,11 +1,7 @@
-use Rattle.cmd_stations.proofs.Common.{roots_of, IsTooMuch, IsUnchosen, work, LeastCost, Sets, refl, sym, subst, subst₂, ◌≡◌, ℕ, List, Aig}
-use Rattle.cut_sets.specs.Labels.{label_at, AreLeastHeights}
-use Rattle.flow_label.specs.Lows.{AreLowsOf}
+use Rattle.cmd_stations.proofs.Lemmas.{roots_of, IsTooMuch, IsUnchosen, work, LeastCost, Sets, refl, sym, subst, subst₂, ◌≡◌, ℕ, List, Aig, label_at, AreLeastHeights, AreLowsOf, passed_stop, settled_anyway, least_mapping, one_of_flow, supply_settled, work_is, differ}
 use Rattle.bounded_cuts.specs.Making.{AreLows, low_in}
 use Rattle.cover_pick.specs.Refusals.{refusal_of as pick_refusal}
 use Rattle.cmd_stations.specs.Mapped as mapped
-use Rattle.cmd_stations.proofs.StopLemmas.{passed_stop, settled_anyway}
-use Rattle.cmd_stations.proofs.GraphLemmas.{least_mapping, one_of_flow, supply_settled, work_is, differ}
 use Rattle.cmd_stations.proofs.mapping.choose_cheapest.Goals as goal
 
 -- the labels and the low cuts as they are read

@@ -1,9 +1,7 @@
-use Rattle.cmd_stations.proofs.Common.{roots_of, IsLimit, label_of, IsTooMuch, IsUnchosen, cuts, work, IsGraphSettled, FewestLeaves, Rows, refl}
+use Rattle.cmd_stations.proofs.Lemmas.{roots_of, IsLimit, label_of, IsTooMuch, IsUnchosen, cuts, work, IsGraphSettled, FewestLeaves, Rows, refl, passed_stop, passed_settled, settled_anyway, least_mapping, limit_settled, one_of_cuts, supply_settled, work_is}
 use Rattle.cut_enum.specs.Refusals.{refusal_of as cut_refusal}
 use Rattle.cover_pick.specs.Refusals.{refusal_of as pick_refusal}
 use Rattle.cmd_stations.specs.Mapped as mapped
-use Rattle.cmd_stations.proofs.StopLemmas.{passed_stop, passed_settled, settled_anyway}
-use Rattle.cmd_stations.proofs.GraphLemmas.{least_mapping, limit_settled, one_of_cuts, supply_settled, work_is}
 use Rattle.cmd_stations.proofs.mapping.choose_fewest.Goals as goal
 
 pub returns-in_err-table-clause-err : goal.returns-in_err-table-clause-err

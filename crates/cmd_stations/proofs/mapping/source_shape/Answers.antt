@@ -1,6 +1,4 @@
-use Rattle.cmd_stations.proofs.Common.{◌≡◌, ◌∙◌, ◌+◌, List, length, ap, sym, subst, arith, roots_of, Kind, Shape, HasShape, Source, width_of, shape_of}
-use Rattle.cmd_stations.proofs.SourceLemmas.{three_count, shape_is, source_shape}
-use Rattle.cmd_stations.proofs.ShowLemmas.{outputs_among, next_among, next_count}
+use Rattle.cmd_stations.proofs.Lemmas.{◌≡◌, ◌∙◌, ◌+◌, List, length, ap, sym, subst, arith, roots_of, Kind, Shape, HasShape, Source, width_of, shape_of, three_count, shape_is, source_shape, outputs_among, next_among, next_count}
 use Rattle.cmd_stations.proofs.mapping.source_shape.Goals as goal
 
 pub returns-clause-playable : goal.returns-clause-playable

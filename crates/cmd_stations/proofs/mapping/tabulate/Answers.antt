@@ -1,7 +1,5 @@
-use Rattle.cmd_stations.proofs.Common.{◌∙◌, refl, ap, sym, subst, inr, Shape, IsPlayable}
-use Rattle.cmd_stations.proofs.SourceLemmas.{source_params}
+use Rattle.cmd_stations.proofs.Lemmas.{◌∙◌, refl, ap, sym, subst, inr, Shape, IsPlayable, source_params, pack_param_names, pack_inits, pack_bits, tables_play}
 use Rattle.bit_fun.proofs.PackLemmas.{params_len as pack_params}
-use Rattle.cmd_stations.proofs.ShowLemmas.{pack_param_names, pack_inits, pack_bits, tables_play}
 use Rattle.cmd_stations.proofs.WrittenTableLemmas.{tables_written}
 use Rattle.cmd_stations.proofs.mapping.tabulate.Goals as goal
 

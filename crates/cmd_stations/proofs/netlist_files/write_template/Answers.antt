@@ -1,6 +1,4 @@
-use Rattle.cmd_stations.proofs.Common.{rules, netlist_text, template_of}
-use Rattle.cmd_stations.proofs.WriteLemmas.{written_over}
-use Rattle.cmd_stations.proofs.WrittenCycleLemmas.{template_tuned}
+use Rattle.cmd_stations.proofs.Lemmas.{rules, netlist_text, template_of, written_over, template_tuned}
 use Rattle.cmd_stations.proofs.netlist_files.write_template.Goals as goal
 
 pub returns-in_err-begin_write-clause-means : goal.returns-in_err-begin_write-clause-means

@@ -1,7 +1,6 @@
-use Rattle.cmd_stations.proofs.Common.{IsFault, LibraryRefusal, IsTextSettled, NetlistRefusal}
+use Rattle.cmd_stations.proofs.Lemmas.{IsFault, LibraryRefusal, IsTextSettled, NetlistRefusal, passed_stop, passed_stops, passed_settled, passed_settles}
 use Rattle.blif_flat.specs.Refusals.{refusal_of as flat_refusal}
 use Rattle.cmd_stations.specs.Texts as texts
-use Rattle.cmd_stations.proofs.StopLemmas.{passed_stop, passed_stops, passed_settled, passed_settles}
 use Rattle.cmd_stations.proofs.TextLemmas.{fault_settled, library_settled}
 use Rattle.cmd_stations.proofs.netlist_text.read_netlist.Goals as goal
 

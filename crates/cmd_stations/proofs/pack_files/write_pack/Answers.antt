@@ -1,5 +1,4 @@
-use Rattle.cmd_stations.proofs.Common.{rules, present_bytes}
-use Rattle.cmd_stations.proofs.WriteLemmas.{written_over}
+use Rattle.cmd_stations.proofs.Lemmas.{rules, present_bytes, written_over}
 use Rattle.cmd_stations.proofs.pack_files.write_pack.Goals as goal
 
 pub returns-clause-written : goal.returns-clause-written

@@ -1,6 +1,5 @@
-use Rattle.cmd_stations.proofs.Common.{sym, subst, most_bytes, HasBytes}
+use Rattle.cmd_stations.proofs.Lemmas.{sym, subst, most_bytes, HasBytes, pack_unread, pack_explains}
 use Rattle.cmd_base.specs.declared.outcome.File.TheVariants.{Pack}
-use Rattle.cmd_stations.proofs.PackLemmas.{pack_unread, pack_explains}
 use Rattle.cmd_stations.proofs.packs.read_pack.Goals as goal
 
 pub returns-in-Err-clause-err : goal.returns-in-Err-clause-err

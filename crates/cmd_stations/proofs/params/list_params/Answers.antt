@@ -1,6 +1,5 @@
-use Rattle.cmd_stations.proofs.Common.{IsParamsFault, IsParamsRefusal}
+use Rattle.cmd_stations.proofs.Lemmas.{IsParamsFault, IsParamsRefusal, passed_stop}
 use Rattle.param_list.specs.Refusals.{refusal_of as params_refusal}
-use Rattle.cmd_stations.proofs.StopLemmas.{passed_stop}
 use Rattle.cmd_stations.proofs.params.list_params.Goals as goal
 
 pub returns-in_err-params-clause-err : goal.returns-in_err-params-clause-err

@@ -1,5 +1,4 @@
-use Rattle.cmd_stations.proofs.Common.{source_seen}
-use Rattle.cmd_stations.proofs.StationLemmas.{netlist_unread, netlist_explains}
+use Rattle.cmd_stations.proofs.Lemmas.{source_seen, netlist_unread, netlist_explains}
 use Rattle.cmd_stations.proofs.params.read_netlist_file.Goals as goal
 
 pub returns-in-Err-clause-err : goal.returns-in-Err-clause-err

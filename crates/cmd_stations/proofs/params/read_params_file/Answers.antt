@@ -1,5 +1,4 @@
-use Rattle.cmd_stations.proofs.Common.{sym, subst, source_seen, HasText}
-use Rattle.cmd_stations.proofs.StationLemmas.{params_unread, params_explains}
+use Rattle.cmd_stations.proofs.Lemmas.{sym, subst, source_seen, HasText, params_unread, params_explains}
 use Rattle.cmd_stations.proofs.params.read_params_file.Goals as goal
 
 pub returns-in-Err-clause-err : goal.returns-in-Err-clause-err

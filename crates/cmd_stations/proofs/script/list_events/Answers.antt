@@ -1,6 +1,5 @@
-use Rattle.cmd_stations.proofs.Common.{IsScriptFault, IsScriptRefusal}
+use Rattle.cmd_stations.proofs.Lemmas.{IsScriptFault, IsScriptRefusal, passed_stop}
 use Rattle.run_text.specs.ScriptRefusals.{refusal_of as script_refusal}
-use Rattle.cmd_stations.proofs.StopLemmas.{passed_stop}
 use Rattle.cmd_stations.proofs.script.list_events.Goals as goal
 
 pub returns-in_err-events-clause-err : goal.returns-in_err-events-clause-err

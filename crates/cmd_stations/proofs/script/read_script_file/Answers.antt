@@ -1,5 +1,4 @@
-use Rattle.cmd_stations.proofs.Common.{sym, subst, HasText}
-use Rattle.cmd_stations.proofs.StationLemmas.{script_unread, script_explains}
+use Rattle.cmd_stations.proofs.Lemmas.{sym, subst, HasText, script_unread, script_explains}
 use Rattle.cmd_stations.proofs.script.read_script_file.Goals as goal
 
 pub returns-in-Err-clause-err : goal.returns-in-Err-clause-err

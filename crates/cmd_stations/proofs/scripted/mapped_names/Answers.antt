@@ -1,5 +1,4 @@
-use Rattle.cmd_stations.proofs.Common.{◌∙◌}
-use Rattle.cmd_stations.proofs.PackLemmas.{made_names}
+use Rattle.cmd_stations.proofs.Lemmas.{◌∙◌, made_names}
 use Rattle.cmd_stations.proofs.scripted.mapped_names.Goals as goal
 
 pub returns : goal.returns

@@ -1,5 +1,4 @@
-use Rattle.cover_pick.proofs.Common.{◌≡◌, ℕ, List, [], length, None, get_or, refl, sym, subst, arith, get_or_from_slice_get, row_at, label_at, IsAt, IsShorter, better, fewest, ◌∙◌, ap, drop_more, drop_all}
-use Rattle.cover_pick.proofs.ChoiceLemmas.{fewest_stops}
+use Rattle.cover_pick.proofs.Lemmas.{◌≡◌, ℕ, List, [], length, None, get_or, refl, sym, subst, arith, get_or_from_slice_get, row_at, label_at, IsAt, IsShorter, better, fewest, ◌∙◌, ap, drop_more, drop_all, fewest_stops}
 use Rattle.cover_pick.proofs.choice.fewest.Goals as goal
 
 pub loop-i-init : goal.loop-i-init

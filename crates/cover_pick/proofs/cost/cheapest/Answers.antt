@@ -1,5 +1,4 @@
-use Rattle.cover_pick.proofs.Common.{◌∙◌, ℕ, List, [], None, get_or, refl, sym, ap, subst, arith, drop_more, drop_all, row_at, label_at, IsOffer, cut_cost, cheaper_low, cheapest}
-use Rattle.cover_pick.proofs.ChoiceLemmas.{offer_inside}
+use Rattle.cover_pick.proofs.Lemmas.{◌∙◌, ℕ, List, [], None, get_or, refl, sym, ap, subst, arith, drop_more, drop_all, row_at, label_at, IsOffer, cut_cost, cheaper_low, cheapest, offer_inside}
 use Rattle.cover_pick.proofs.cost.cheapest.Goals as goal
 
 pub loop-i-init : goal.loop-i-init

@@ -1,5 +1,4 @@
-use Rattle.cover_pick.proofs.Common.{◌∙◌, lits_of, label_at, cuts_of, cut_at}
-use Rattle.cover_pick.proofs.RuleLemmas.{cuts_length, plan_all, cuts_all, places_plan, roots_inside}
+use Rattle.cover_pick.proofs.Lemmas.{◌∙◌, lits_of, label_at, cuts_of, cut_at, cuts_length, plan_all, cuts_all, places_plan, roots_inside}
 use Rattle.cover_pick.proofs.cuts.cuts_by.Goals as goal
 
 pub returns : goal.returns

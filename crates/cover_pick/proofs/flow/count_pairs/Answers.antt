@@ -1,5 +1,4 @@
-use Rattle.cover_pick.proofs.Common.{arith, ◌/◌, ◌<◌}
-use Rattle.cover_pick.proofs.UsesLemmas.{counts_small, counted_next}
+use Rattle.cover_pick.proofs.Lemmas.{arith, ◌/◌, ◌<◌, counts_small, counted_next}
 use Rattle.cover_pick.proofs.flow.count_pairs.Goals as goal
 
 pub count_pair-requires-clause-room : goal.count_pair-requires-clause-room

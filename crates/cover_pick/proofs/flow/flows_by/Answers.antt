@@ -1,5 +1,4 @@
-use Rattle.cover_pick.proofs.Common.{◌≡◌, ◌∙◌, ◌+◌, ◌++◌, ◌∷◌, ℕ, List, [], suc, sym, ap, subst, arith, node_count, label_at, node_flow, flows_below, AreCapped, count_at, AreFlows, Scope}
-use Rattle.cover_pick.proofs.UsesLemmas.{flows_capped, flows_fit, node_same}
+use Rattle.cover_pick.proofs.Lemmas.{◌≡◌, ◌∙◌, ◌+◌, ◌++◌, ◌∷◌, ℕ, List, [], suc, sym, ap, subst, arith, node_count, label_at, node_flow, flows_below, AreCapped, count_at, AreFlows, Scope, flows_capped, flows_fit, node_same}
 use Rattle.cover_pick.proofs.flow.flows_by.Goals as goal
 
 pub node_flow-flow-requires : goal.node_flow-flow-requires

@@ -1,5 +1,4 @@
-use Rattle.cover_pick.proofs.Common.{ℕ, List, ◌≤◌, arith, row_at, label_at, MOST_FLOW, least_flow, allowed_row}
-use Rattle.cover_pick.proofs.UsesLemmas.{least_capped, allowed_next, allowed_end}
+use Rattle.cover_pick.proofs.Lemmas.{ℕ, List, ◌≤◌, arith, row_at, label_at, MOST_FLOW, least_flow, allowed_row, least_capped, allowed_next, allowed_end}
 use Rattle.cover_pick.proofs.flow.least_flow.Goals as goal
 
 pub loop-i-init : goal.loop-i-init

@@ -1,5 +1,4 @@
-use Rattle.cover_pick.proofs.Common.{◌≡◌, ◌/◌, ◌∙◌, ℕ, List, max, ltb, ap, arith, div-le_self, ltb-true, first_and, choose, row_at, label_at, least_flow, allowed_row}
-use Rattle.cover_pick.proofs.UsesLemmas.{least_capped}
+use Rattle.cover_pick.proofs.Lemmas.{◌≡◌, ◌/◌, ◌∙◌, ℕ, List, max, ltb, ap, arith, div-le_self, ltb-true, first_and, choose, row_at, label_at, least_flow, allowed_row, least_capped}
 use Rattle.cover_pick.proofs.flow.node_flow.Goals as goal
 
 pub returns-clause-value : goal.returns-clause-value

@@ -1,5 +1,4 @@
-use Rattle.cover_pick.proofs.Common.{◌∙◌, Bool, List, ap, subst, sym, arith, mark_of, HasFreeParts}
-use Rattle.cover_pick.proofs.FreeLemmas.{free_start, free_step}
+use Rattle.cover_pick.proofs.Lemmas.{◌∙◌, Bool, List, ap, subst, sym, arith, mark_of, HasFreeParts, free_start, free_step}
 use Rattle.cover_pick.proofs.free.free_nodes.Goals as goal
 
 pub loop-n-init : goal.loop-n-init

@@ -1,5 +1,4 @@
-use Rattle.cover_pick.proofs.Common.{◌∙◌, sym, ap, arith, Some, has_fan_ins}
-use Rattle.cover_pick.proofs.FreeLemmas.{no_parts, parts_marked}
+use Rattle.cover_pick.proofs.Lemmas.{◌∙◌, sym, ap, arith, Some, has_fan_ins, no_parts, parts_marked}
 use Rattle.cover_pick.proofs.free.is_free.Goals as goal
 
 pub returns-then-is_marked-clause-parts : goal.returns-then-is_marked-clause-parts

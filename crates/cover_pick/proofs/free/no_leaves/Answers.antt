@@ -1,6 +1,4 @@
-use Rattle.cover_pick.proofs.Common.{ℕ, List, length, ap, subst, arith, In, Lut}
-use Rattle.list_laws.proofs.Items.{member_at}
-use Rattle.cover_pick.proofs.FreeLemmas.{leaf_inside}
+use Rattle.cover_pick.proofs.Lemmas.{ℕ, List, length, ap, subst, arith, In, Lut, member_at, leaf_inside}
 use Rattle.cover_pick.proofs.free.no_leaves.Goals as goal
 
 pub bar_leaves-requires : goal.bar_leaves-requires

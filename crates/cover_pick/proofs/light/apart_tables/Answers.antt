@@ -1,7 +1,4 @@
-use Rattle.cover_pick.proofs.Common.{◌∙◌, ap, inr, err_from_is_err_and, lits_of, Made, tables_of}
-use Rattle.cover_pick.proofs.FreeLemmas.{leaf_inside}
-use Rattle.cover_pick.proofs.CountedLemmas.{none_once}
-use Rattle.cover_pick.proofs.LightLemmas.{bits_past, countable, within_none, past_none}
+use Rattle.cover_pick.proofs.Lemmas.{◌∙◌, ap, inr, err_from_is_err_and, lits_of, Made, tables_of, leaf_inside, none_once, bits_past, countable, within_none, past_none}
 use Rattle.cover_pick.proofs.light.apart_tables.Goals as goal
 
 pub make_tables-requires-clause-leaves : goal.make_tables-requires-clause-leaves

@@ -1,6 +1,4 @@
-use Rattle.cover_pick.proofs.Common.{◌∙◌, ap, err_from_is_err_and, lits_of, Made, tables_of, IsFree}
-use Rattle.cover_pick.proofs.FreeLemmas.{leaf_inside, free_or_not}
-use Rattle.cover_pick.proofs.LightLemmas.{bits_past, countable, leaves_can, count_free, within_free, past_free}
+use Rattle.cover_pick.proofs.Lemmas.{◌∙◌, ap, err_from_is_err_and, lits_of, Made, tables_of, IsFree, leaf_inside, free_or_not, bits_past, countable, leaves_can, count_free, within_free, past_free}
 use Rattle.cover_pick.proofs.light.sharing_tables.Goals as goal
 
 pub make_tables-requires-clause-leaves : goal.make_tables-requires-clause-leaves

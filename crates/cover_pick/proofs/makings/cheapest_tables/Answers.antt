@@ -1,9 +1,4 @@
-use Rattle.cover_pick.proofs.Common.{ℕ, List, [], Bool, subst, subst₂, lits_of, label_at, low_in, count_at, favoured_in, LeastCost, AreSets, IsPlanned, six_rounds, cut_at, Sets, HasPlan}
-use Rattle.cover_pick.proofs.RuleLemmas.{roots_inside}
-use Rattle.cover_pick.proofs.RoundLemmas.{leaves_by}
-use Rattle.cover_pick.proofs.MakingLemmas.{makings_plan}
-use Rattle.cover_pick.proofs.ChosenLemmas.{are_picked}
-use Rattle.cover_pick.proofs.TemplateLemmas.{can_make, can_make_cheaper}
+use Rattle.cover_pick.proofs.Lemmas.{ℕ, List, [], Bool, subst, subst₂, lits_of, label_at, low_in, count_at, favoured_in, LeastCost, AreSets, IsPlanned, six_rounds, cut_at, Sets, HasPlan, roots_inside, leaves_by, makings_plan, are_picked, can_make, can_make_cheaper}
 use Rattle.cover_pick.proofs.makings.cheapest_tables.Goals as goal
 
 pub uses-requires : goal.uses-requires

@@ -1,5 +1,4 @@
-use Rattle.cover_pick.proofs.Common.{label_at}
-use Rattle.cover_pick.proofs.MakingLemmas.{ok_serving}
+use Rattle.cover_pick.proofs.Lemmas.{label_at, ok_serving}
 use Rattle.cover_pick.proofs.makings.sets_for.Goals as goal
 
 pub returns-clause-serving : goal.returns-clause-serving

@@ -1,5 +1,4 @@
-use Rattle.cover_pick.proofs.Common.{◌≡◌, ◌<◌, ◌+◌, ◌*◌, ◌∙◌, ℕ, List, Bool, length, Option, None, Some, drop, get_or, refl, sym, ap, subst, arith, drop_more, drop_all, In, In-get_or, or_empty, cut_at, mark_leaves, mark_cut, mark_cuts}
-use Rattle.cover_pick.proofs.TemplateLemmas.{cut_in}
+use Rattle.cover_pick.proofs.Lemmas.{◌≡◌, ◌<◌, ◌+◌, ◌*◌, ◌∙◌, ℕ, List, Bool, length, Option, None, Some, drop, get_or, refl, sym, ap, subst, arith, drop_more, drop_all, In, In-get_or, or_empty, cut_at, mark_leaves, mark_cut, mark_cuts, cut_in}
 use Rattle.cover_pick.proofs.needed.mark_cuts.Goals as goal
 
 -- a leaf is one of a cut that is there

@@ -1,5 +1,4 @@
-use Rattle.cover_pick.proofs.Common.{arith, length, ◌<◌, get_or}
-use Rattle.cover_pick.proofs.RuleLemmas.{root_there}
+use Rattle.cover_pick.proofs.Lemmas.{arith, length, ◌<◌, get_or, root_there}
 use Rattle.cover_pick.proofs.needed.mark_each.Goals as goal
 
 pub bounds-marks-lit : goal.bounds-marks-lit

@@ -1,5 +1,4 @@
-use Rattle.cover_pick.proofs.Common.{rules, ◌≡◌, ◌∙◌, ℕ, List, None, length, drop, replicate, sym, ap, subst, take_at, first_and, node_count, lits_of, label_at, target, require_roots, roots_required, ArePlacesBy}
-use Rattle.cover_pick.proofs.RuleLemmas.{places_chosen}
+use Rattle.cover_pick.proofs.Lemmas.{rules, ◌≡◌, ◌∙◌, ℕ, List, None, length, drop, replicate, sym, ap, subst, take_at, first_and, node_count, lits_of, label_at, target, require_roots, roots_required, ArePlacesBy, places_chosen}
 use Rattle.cover_pick.proofs.required.chosen_places.Goals as goal
 
 pub returns-clause-places : goal.returns-clause-places

@@ -1,5 +1,4 @@
-use Rattle.cover_pick.proofs.Common.{arith, ◌<◌, ◌/◌, get_or, node_count}
-use Rattle.cover_pick.proofs.RuleLemmas.{root_below}
+use Rattle.cover_pick.proofs.Lemmas.{arith, ◌<◌, ◌/◌, get_or, node_count, root_below}
 use Rattle.cover_pick.proofs.required.require_roots.Goals as goal
 
 pub require_root-requires : goal.require_root-requires

@@ -1,5 +1,4 @@
-use Rattle.cover_pick.proofs.Common.{arith, ◌<◌, ◌≡◌, ◌∙◌, [], Some, subst, ap, List, ℕ, get_or, length, slice_get, get_or_from_slice_get, Aig, IsAnd, In, In-get_or, row_at, label_at, Rule, IsServing, need}
-use Rattle.cover_pick.proofs.WalkLemmas.{each_other}
+use Rattle.cover_pick.proofs.Lemmas.{arith, ◌<◌, ◌≡◌, ◌∙◌, [], Some, subst, ap, List, ℕ, get_or, length, slice_get, get_or_from_slice_get, Aig, IsAnd, In, In-get_or, row_at, label_at, Rule, IsServing, need, each_other}
 use Rattle.cover_pick.proofs.required.visit.Goals as goal
 
 -- the leaves of a cut at a place are below the node

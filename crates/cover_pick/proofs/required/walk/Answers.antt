@@ -1,6 +1,4 @@
-use Rattle.cover_pick.proofs.Common.{arith, ◌∙◌, ◌+◌, ◌-◌, ◌≡◌, ℕ, suc, List, Option, length, ap, subst, sym, slice_set, first_and, node_count, row_at, label_at, choice_by, found_in, found_from, need, walk_by, met_at, found_for, AreBestPlaces, ArePlacedFrom}
-use Rattle.cover_pick.proofs.WalkLemmas.{walk_step, met_now, met_later}
-use Rattle.cover_pick.proofs.RuleLemmas.{places_next}
+use Rattle.cover_pick.proofs.Lemmas.{arith, ◌∙◌, ◌+◌, ◌-◌, ◌≡◌, ℕ, suc, List, Option, length, ap, subst, sym, slice_set, first_and, node_count, row_at, label_at, choice_by, found_in, found_from, need, walk_by, met_at, found_for, AreBestPlaces, ArePlacedFrom, walk_step, met_now, met_later, places_next}
 use Rattle.cover_pick.proofs.required.walk.Goals as goal
 
 pub loop-i-init : goal.loop-i-init

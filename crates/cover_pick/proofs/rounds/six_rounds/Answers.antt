@@ -1,5 +1,4 @@
-use Rattle.cover_pick.proofs.Common.{AnyHeight, LeastHeight, three_over}
-use Rattle.cover_pick.proofs.RoundLemmas.{cheaper_by}
+use Rattle.cover_pick.proofs.Lemmas.{AnyHeight, LeastHeight, three_over, cheaper_by}
 use Rattle.cover_pick.proofs.rounds.six_rounds.Goals as goal
 
 pub returns : goal.returns

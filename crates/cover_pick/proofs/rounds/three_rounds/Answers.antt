@@ -1,5 +1,4 @@
-use Rattle.cover_pick.proofs.Common.{◌∙◌, List, ℕ, sym, label_at, lits_of, next_flows, cheaper_flows, flows_over}
-use Rattle.cover_pick.proofs.RoundLemmas.{leaves_by, later_by, stop_first, stop_second, cheaper_by}
+use Rattle.cover_pick.proofs.Lemmas.{◌∙◌, List, ℕ, sym, label_at, lits_of, next_flows, cheaper_flows, flows_over, leaves_by, later_by, stop_first, stop_second, cheaper_by}
 use Rattle.cover_pick.proofs.rounds.three_rounds.Goals as goal
 
 pub uses-requires : goal.uses-requires

@@ -1,5 +1,4 @@
-use Rattle.cover_pick.proofs.Common.{◌∙◌, ap, length, List, Bool, [], lits_of, tables_from}
-use Rattle.cover_pick.proofs.TableLemmas.{marks_length}
+use Rattle.cover_pick.proofs.Lemmas.{◌∙◌, ap, length, List, Bool, [], lits_of, tables_from, marks_length}
 use Rattle.cover_pick.proofs.tables.make_tables.Goals as goal
 
 pub marked_tables-requires : goal.marked_tables-requires

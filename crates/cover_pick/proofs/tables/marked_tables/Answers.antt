@@ -1,5 +1,4 @@
-use Rattle.cover_pick.proofs.Common.{arith, [], err_from_is_err_and, tables_from}
-use Rattle.cover_pick.proofs.TableLemmas.{tables_past, bits_more}
+use Rattle.cover_pick.proofs.Lemmas.{arith, [], err_from_is_err_and, tables_from, tables_past, bits_more}
 use Rattle.cover_pick.proofs.tables.marked_tables.Goals as goal
 
 pub returns-in_err-add_marked-clause-err : goal.returns-in_err-add_marked-clause-err

@@ -1,7 +1,4 @@
-use Rattle.cover_pick.proofs.Common.{FewestLeaves, label_of, lits_of, Rows}
-use Rattle.cover_pick.proofs.ServedLemmas.{table_serving, fewest_plan, serving_seen}
-use Rattle.cover_pick.proofs.ChosenLemmas.{are_picked}
-use Rattle.cover_pick.proofs.TemplateLemmas.{can_make}
+use Rattle.cover_pick.proofs.Lemmas.{FewestLeaves, label_of, lits_of, Rows, table_serving, fewest_plan, serving_seen, are_picked, can_make}
 use Rattle.cover_pick.proofs.template.fewest_tables.Goals as goal
 
 pub cuts_by-requires-clause-can : goal.cuts_by-requires-clause-can

@@ -1,6 +1,4 @@
-use Rattle.cover_pick.proofs.Common.{label_of, FewestLeaves, IsServing, Rows, AreTimely, IsSupplied, roots_of, TemplateValue}
-use Rattle.cover_pick.proofs.ServedLemmas.{rows_served, table_serving}
-use Rattle.cover_pick.proofs.ThereLemmas.{template_once, light_or_too_much, too_much_answer, each_maps, each_least, ok_given}
+use Rattle.cover_pick.proofs.Lemmas.{label_of, FewestLeaves, IsServing, Rows, AreTimely, IsSupplied, roots_of, TemplateValue, rows_served, table_serving, template_once, light_or_too_much, too_much_answer, each_maps, each_least, ok_given}
 use Rattle.cover_pick.proofs.template.pick.Goals as goal
 
 serving : (c : goal.After-fewest_template) → IsServing FewestLeaves c.args.graph.now (label_of c.args.labels.now) c.args.table.now

@@ -1,5 +1,4 @@
-use Rattle.cover_pick.proofs.Common.{label_at, low_in, Sets, Supply, HaveOneMaking, AreTimely, IsSupplied, roots_of, TemplateValue}
-use Rattle.cover_pick.proofs.ThereLemmas.{template_once, light_or_too_much, too_much_answer, sets_good, ok_given}
+use Rattle.cover_pick.proofs.Lemmas.{label_at, low_in, Sets, Supply, HaveOneMaking, AreTimely, IsSupplied, roots_of, TemplateValue, template_once, light_or_too_much, too_much_answer, sets_good, ok_given}
 use Rattle.cover_pick.proofs.template.pick_compact.Goals as goal
 
 one : (c : goal.After-compact_template) → HaveOneMaking c.args.graph.now c.args.k (label_at c.args.labels.now) (low_in c.args.lows.now)

@@ -1,5 +1,4 @@
-use Rattle.cover_pick.proofs.Common.{◌∙◌, ap, subst, sym, RootsValue, roots_of, label_at, target, IsMade}
-use Rattle.cover_pick.proofs.ChosenLemmas.{template_is, timely_is}
+use Rattle.cover_pick.proofs.Lemmas.{◌∙◌, ap, subst, sym, RootsValue, roots_of, label_at, target, IsMade, template_is, timely_is}
 use Rattle.cover_pick.proofs.template.template_of.Goals as goal
 
 pub returns-clause-template : goal.returns-clause-template

@@ -1,5 +1,4 @@
-use Rattle.cover_pick.proofs.Common.{◌≡◌, ◌+◌, arith, cut_at, price, cost_below}
-use Rattle.cover_pick.proofs.UsesLemmas.{cost_next}
+use Rattle.cover_pick.proofs.Lemmas.{◌≡◌, ◌+◌, arith, cut_at, price, cost_below, cost_next}
 use Rattle.cover_pick.proofs.uses.cost_of.Goals as goal
 
 pub loop-n-preserved : goal.loop-n-preserved

@@ -1,5 +1,4 @@
-use Rattle.cover_pick.proofs.Common.{◌≡◌, ◌<◌, ◌≤◌, ◌+◌, ◌^◌, ◌∙◌, ◌∷◌, ℕ, List, drop, length, get_or, ap, sym, arith, drop_more, count_at, count_each, times_in}
-use Rattle.cover_pick.proofs.UsesLemmas.{one_if, one_more, one_size, times_cons, times_head}
+use Rattle.cover_pick.proofs.Lemmas.{◌≡◌, ◌<◌, ◌≤◌, ◌+◌, ◌^◌, ◌∙◌, ◌∷◌, ℕ, List, drop, length, get_or, ap, sym, arith, drop_more, count_at, count_each, times_in, one_if, one_more, one_size, times_cons, times_head}
 use Rattle.cover_pick.proofs.uses.count_leaves.Goals as goal
 
 pub count_one-requires-clause-room : goal.count_one-requires-clause-room

@@ -1,5 +1,4 @@
-use Rattle.cover_pick.proofs.Common.{arith, ◌∙◌, ◌+◌, subst, sym, List, Bool, [], AreMet}
-use Rattle.cover_pick.proofs.CountedLemmas.{work_met}
+use Rattle.cover_pick.proofs.Lemmas.{arith, ◌∙◌, ◌+◌, subst, sym, List, Bool, [], AreMet, work_met}
 use Rattle.cover_pick.proofs.work.limit_work.Goals as goal
 
 pub returns-then-own-shared-gt-MOST_WORK-clause-past : goal.returns-then-own-shared-gt-MOST_WORK-clause-past

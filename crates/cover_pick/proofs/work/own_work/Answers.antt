@@ -1,5 +1,4 @@
-use Rattle.cover_pick.proofs.Common.{arith, ◌≤◌, ◌*◌, ◌+◌, ◌^◌, node_count}
-use Rattle.cover_pick.proofs.CountedLemmas.{work_small}
+use Rattle.cover_pick.proofs.Lemmas.{arith, ◌≤◌, ◌*◌, ◌+◌, ◌^◌, node_count, work_small}
 use Rattle.cover_pick.proofs.work.own_work.Goals as goal
 
 pub overflow_add-lut : goal.overflow_add-lut

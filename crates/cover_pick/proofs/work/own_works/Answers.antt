@@ -1,6 +1,4 @@
-use Rattle.cover_pick.proofs.Common.{arith, ◌+◌, List, ◌∷◌, drop, drop_all, subst, inl, refl, Lut, IsOwnWorkTo, once_in, AreMet}
-use Rattle.list_laws.proofs.Items.{member_at, drop_at}
-use Rattle.cover_pick.proofs.CountedLemmas.{AreOwnCounted, counted_start, counted_step, counted_past, own_end}
+use Rattle.cover_pick.proofs.Lemmas.{arith, ◌+◌, List, ◌∷◌, drop, drop_all, subst, inl, refl, Lut, IsOwnWorkTo, once_in, AreMet, member_at, drop_at, AreOwnCounted, counted_start, counted_step, counted_past, own_end}
 use Rattle.cover_pick.proofs.work.own_works.Goals as goal
 
 pub loop-lut-init : goal.loop-lut-init

@@ -1,6 +1,4 @@
-use Rattle.cut_enum.proofs.Common.{◌≡◌, ◌∙◌, arith, ap, sym, subst, bit_or, IsAscending, union, signature_of}
-use Rattle.cut_sets.proofs.SetLemmas.{IsAscending-union}
-use Rattle.cut_sets.proofs.SignatureLemmas.{signature-union, union_over_bits}
+use Rattle.cut_enum.proofs.Common.{◌≡◌, ◌∙◌, arith, ap, sym, subst, bit_or, IsAscending, union, signature_of, IsAscending-union, signature-union, union_over_bits}
 use Rattle.cut_enum.proofs.PutLemmas.{union_over, union_end}
 use Rattle.cut_enum.proofs.cut.joined.Goals as goal
 

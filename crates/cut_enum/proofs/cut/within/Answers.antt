@@ -1,5 +1,4 @@
-use Rattle.std.proofs.Common.{sym, ◌∙◌}
-use Rattle.cut_sets.proofs.SetLemmas.{subset_true, subset_from}
+use Rattle.cut_enum.proofs.Common.{sym, ◌∙◌, subset_true, subset_from}
 use Rattle.cut_enum.proofs.cut.within.Goals as goal
 
 pub returns : goal.returns

@@ -1,6 +1,4 @@
-use Rattle.cut_enum.proofs.Common.{◌++◌, ℕ, List, sym, subst, err_from_is_err_and, In, In-get_or, add_holder, add_holders}
-use Rattle.cut_enum.proofs.RowLemmas.{too_many_more}
-use Rattle.cut_enum.proofs.StepLemmas.{holders_step}
+use Rattle.cut_enum.proofs.Lemmas.{◌++◌, ℕ, List, sym, subst, err_from_is_err_and, In, In-get_or, add_holder, add_holders, too_many_more, holders_step}
 use Rattle.cut_enum.proofs.least.add_holders.Goals as goal
 
 pub returns-in_err-add_holder-clause-too_many : goal.returns-in_err-add_holder-clause-too_many

@@ -1,6 +1,4 @@
-use Rattle.cut_enum.proofs.Common.{◌++◌, err_from_is_err_and, add_unions, add_pairs}
-use Rattle.cut_enum.proofs.RowLemmas.{too_many_more}
-use Rattle.cut_enum.proofs.StepLemmas.{pairs_step}
+use Rattle.cut_enum.proofs.Lemmas.{◌++◌, err_from_is_err_and, add_unions, add_pairs, too_many_more, pairs_step}
 use Rattle.cut_enum.proofs.least.add_pairs.Goals as goal
 
 pub returns-in_err-add_unions-clause-too_many : goal.returns-in_err-add_unions-clause-too_many

@@ -1,7 +1,4 @@
-use Rattle.cut_enum.proofs.Common.{◌≡◌, ◌<◌, ◌++◌, ◌∙◌, ℕ, List, length, map, get_or, ap, subst, arith, bit_or, count_ones, err_from_is_err_and, add_union, add_unions, signature_of}
-use Rattle.cut_enum.proofs.RowLemmas.{too_many_more}
-use Rattle.cut_enum.proofs.SignedLemmas.{signed_length}
-use Rattle.cut_enum.proofs.StepLemmas.{unions_pass, unions_step}
+use Rattle.cut_enum.proofs.Lemmas.{◌≡◌, ◌<◌, ◌++◌, ◌∙◌, ℕ, List, length, map, get_or, ap, subst, arith, bit_or, count_ones, err_from_is_err_and, add_union, add_unions, signature_of, too_many_more, signed_length, unions_pass, unions_step}
 use Rattle.cut_enum.proofs.least.add_unions.Goals as goal
 
 pub loop-i-preserved-then-both-size : goal.loop-i-preserved-then-both-size

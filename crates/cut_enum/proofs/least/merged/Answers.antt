@@ -1,6 +1,4 @@
-use Rattle.cut_enum.proofs.Common.{◌++◌, ◌∙◌, ◌≡◌, ◌≤◌, ℕ, suc, List, length, ap, arith, err_from_is_err_and, unions_at, unions_below, merged}
-use Rattle.cut_enum.proofs.LeastLemmas.{sizes_step}
-use Rattle.cut_enum.proofs.RowLemmas.{too_many_more}
+use Rattle.cut_enum.proofs.Lemmas.{◌++◌, ◌∙◌, ◌≡◌, ◌≤◌, ℕ, suc, List, length, ap, arith, err_from_is_err_and, unions_at, unions_below, merged, sizes_step, too_many_more}
 use Rattle.cut_enum.proofs.least.merged.Goals as goal
 
 pub returns-in_err-unions_of_size-clause-too_many : goal.returns-in_err-unions_of_size-clause-too_many

@@ -1,7 +1,4 @@
-use Rattle.cut_enum.proofs.Common.{◌++◌, ◌∙◌, ℕ, List, ap, ◌≡◌, ◌+◌, [], err_from_is_err_and, add_holders, leading, unions_at}
-use Rattle.cut_enum.proofs.LeastLemmas.{left_clear_at, right_clear_at}
-use Rattle.cut_enum.proofs.RowLemmas.{too_many_more}
-use Rattle.cut_enum.proofs.StepLemmas.{holders_at, left_holders_at}
+use Rattle.cut_enum.proofs.Lemmas.{◌++◌, ◌∙◌, ℕ, List, ap, ◌≡◌, ◌+◌, [], err_from_is_err_and, add_holders, leading, unions_at, left_clear_at, right_clear_at, too_many_more, holders_at, left_holders_at}
 use Rattle.cut_enum.proofs.least.unions_of_size.Goals as goal
 
 pub returns-in_err-add_holders-clause-too_many : goal.returns-in_err-add_holders-clause-too_many

@@ -1,5 +1,4 @@
-use Rattle.cut_enum.proofs.Common.{◌≡◌, ◌<◌, ◌≤◌, ℕ, List, length, sym, ap, ◌∙◌, arith, before}
-use Rattle.cut_enum.proofs.PlaceLemmas.{place-there, place-insert}
+use Rattle.cut_enum.proofs.Lemmas.{◌≡◌, ◌<◌, ◌≤◌, ℕ, List, length, sym, ap, ◌∙◌, arith, before, place-there, place-insert}
 use Rattle.cut_enum.proofs.level.free_place.Goals.{else-at-len-via-then-at-len+else-not-before, else-at-len-via-else-at-len}
 use Rattle.cut_enum.proofs.level.free_place.Goals as goal
 

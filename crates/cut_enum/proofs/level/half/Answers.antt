@@ -1,5 +1,4 @@
-use Rattle.cut_enum.proofs.Common.{◌+◌, ◌-◌, ◌/◌, ◌<◌, ◌≤◌, ℕ, List, length, sym, ap, ◌∙◌, arith, before}
-use Rattle.cut_enum.proofs.PlaceLemmas.{upper_half, lower_half}
+use Rattle.cut_enum.proofs.Lemmas.{◌+◌, ◌-◌, ◌/◌, ◌<◌, ◌≤◌, ℕ, List, length, sym, ap, ◌∙◌, arith, before, upper_half, lower_half}
 use Rattle.cut_enum.proofs.level.half.Goals as goal
 
 pub returns-then-before-clause-around : goal.returns-then-before-clause-around

@@ -1,5 +1,4 @@
-use Rattle.cut_enum.proofs.Common.{ℕ, List, ap, ◌/◌, ◌<◌, arith, row_at}
-use Rattle.cut_enum.proofs.RowLemmas.{front_apart_at}
+use Rattle.cut_enum.proofs.Lemmas.{ℕ, List, ap, ◌/◌, ◌<◌, arith, row_at, front_apart_at}
 use Rattle.cut_enum.proofs.row.node_row.Goals as goal
 
 pub merged-requires-clause-x_apart : goal.merged-requires-clause-x_apart

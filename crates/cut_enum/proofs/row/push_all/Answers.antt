@@ -1,5 +1,4 @@
-use Rattle.cut_enum.proofs.Common.{◌≡◌, ◌++◌, ◌∷◌, ◌<◌, ◌∙◌, List, ℕ, [], ap, sym, take, length, arith, append_assoc, get_or, row_at, get_or_read, slice_get-get_or, same_Some}
-use Rattle.std.proofs.lemmas.List.{take_more}
+use Rattle.cut_enum.proofs.Common.{◌≡◌, ◌++◌, ◌∷◌, ◌<◌, ◌∙◌, List, ℕ, [], ap, sym, take, length, arith, append_assoc, get_or, row_at, get_or_read, slice_get-get_or, same_Some, take_more}
 use Rattle.cut_enum.proofs.row.push_all.Goals as goal
 
 pub loop-i-preserved : goal.loop-i-preserved

@@ -1,5 +1,4 @@
-use Rattle.cut_enum.proofs.Common.{arith, err_from_is_err_and, unions_of}
-use Rattle.cut_enum.proofs.RowLemmas.{IsRow-node, limit_node, too_many_limit}
+use Rattle.cut_enum.proofs.Lemmas.{arith, err_from_is_err_and, unions_of, IsRow-node, limit_node, too_many_limit}
 use Rattle.cut_enum.proofs.row.row_of.Goals as goal
 
 pub returns-clause-ok : goal.returns-clause-ok

@@ -1,6 +1,4 @@
-use Rattle.cut_enum.proofs.Common.{◌<◌, ◌^◌, ℕ, List, length, get_or, arith, subst, AllHave, NoneClear}
-use Rattle.cut_enum.proofs.GroupLemmas.{none_clear}
-use Rattle.cut_enum.proofs.SharedLemmas.{none_have}
+use Rattle.cut_enum.proofs.Lemmas.{◌<◌, ◌^◌, ℕ, List, length, get_or, arith, subst, AllHave, NoneClear, none_clear, none_have}
 use Rattle.cut_enum.proofs.signed.has_grouped_part.Goals as goal
 
 pub returns-then-outside-shared-ne0 : goal.returns-then-outside-shared-ne0

@@ -1,6 +1,4 @@
-use Rattle.cut_enum.proofs.Common.{◌≡◌, ◌+◌, ◌*◌, ◌≤◌, ◌∙◌, ℕ, List, false, length, slice_range, ap, sym, arith, list_any, GROUP, subset}
-use Rattle.cut_enum.proofs.GroupLemmas.{group_passed, group_length}
-use Rattle.cut_enum.proofs.SignedLemmas.{signed_range, signed_rest}
+use Rattle.cut_enum.proofs.Lemmas.{◌≡◌, ◌+◌, ◌*◌, ◌≤◌, ◌∙◌, ℕ, List, false, length, slice_range, ap, sym, arith, list_any, GROUP, subset, group_passed, group_length, signed_range, signed_rest}
 use Rattle.cut_enum.proofs.signed.has_part_in_groups.Goals as goal
 
 pub has_grouped_part-requires-clause-signed : goal.has_grouped_part-requires-clause-signed

@@ -1,5 +1,4 @@
-use Rattle.std.proofs.Common.{◌<◌, ◌^◌, arith, subst}
-use Rattle.cut_sets.proofs.SignatureLemmas.{outside-subset}
+use Rattle.cut_enum.proofs.Common.{◌<◌, ◌^◌, arith, subst, outside-subset}
 use Rattle.cut_enum.proofs.signed.is_signed_part.Goals as goal
 
 pub returns-then-outside-signature-ne0 : goal.returns-then-outside-signature-ne0

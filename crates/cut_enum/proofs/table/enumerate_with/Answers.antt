@@ -1,5 +1,4 @@
-use Rattle.cut_enum.proofs.Common.{arith, row_at, contains_one}
-use Rattle.cut_enum.proofs.RowLemmas.{AreRows-push}
+use Rattle.cut_enum.proofs.Lemmas.{arith, row_at, contains_one, AreRows-push}
 use Rattle.cut_enum.proofs.table.enumerate_with.Goals as goal
 
 pub loop-n-preserved : goal.loop-n-preserved

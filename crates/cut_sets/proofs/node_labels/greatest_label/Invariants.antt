@@ -1,5 +1,4 @@
-use Rattle.std.proofs.Common.{◌≡◌, ◌+◌, ◌<◌, ◌^◌, max, drop}
-use Rattle.cut_sets.specs.Labels.{greatest, label_at}
+use Rattle.cut_sets.proofs.Common.{◌≡◌, ◌+◌, ◌<◌, ◌^◌, max, drop, greatest, label_at}
 use Rattle.cut_sets.proofs.node_labels.greatest_label.Given as goal
 
 abbrev pub invariant-loop-m : goal.invariant-loop-m

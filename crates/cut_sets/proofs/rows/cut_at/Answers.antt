@@ -1,5 +1,4 @@
-use Rattle.cut_sets.proofs.Common.{◌∙◌, ap, sym, subst, arith, IsAscending, signature_of}
-use Rattle.cut_sets.proofs.RowLemmas.{span_at}
+use Rattle.cut_sets.proofs.Lemmas.{◌∙◌, ap, sym, subst, arith, IsAscending, signature_of, span_at}
 use Rattle.cut_sets.proofs.rows.cut_at.Goals as goal
 
 pub slice_bounds-of_first-count : goal.slice_bounds-of_first-count

@@ -1,5 +1,4 @@
-use Rattle.cut_sets.proofs.Common.{◌∙◌, sym, length}
-use Rattle.cut_sets.proofs.SpanLemmas.{parts_of-at, starts-bounds}
+use Rattle.cut_sets.proofs.Lemmas.{◌∙◌, sym, length, parts_of-at, starts-bounds}
 use Rattle.cut_sets.proofs.rows.leaves_at.Goals as goal
 
 pub part-requires-clause-ordered : goal.part-requires-clause-ordered

@@ -1,5 +1,4 @@
-use Rattle.cut_sets.proofs.Common.{◌≡◌, ◌++◌, ◌*◌, ◌+◌, ◌<◌, ◌≤◌, ◌∙◌, ap, length, vec_len, arith, length-append, parts_of, IsShort, MOST_LEAVES, MOST_CUTS}
-use Rattle.cut_sets.proofs.RowLemmas.{few_leaves, flat_push, pushed_parts}
+use Rattle.cut_sets.proofs.Lemmas.{◌≡◌, ◌++◌, ◌*◌, ◌+◌, ◌<◌, ◌≤◌, ◌∙◌, ap, length, vec_len, arith, length-append, parts_of, IsShort, MOST_LEAVES, MOST_CUTS, few_leaves, flat_push, pushed_parts}
 use Rattle.cut_sets.proofs.rows.push_cut.Goals as goal
 
 pub overflow_cast-len : goal.overflow_cast-len

@@ -1,5 +1,4 @@
-use Rattle.depth_first.proofs.Common.{◌<◌, length, sym, ap, ◌∙◌, subst, FramesValue, renewed}
-use Rattle.depth_first.proofs.ClearLemmas.{first_within, forget_step}
+use Rattle.depth_first.proofs.Lemmas.{◌<◌, length, sym, ap, ◌∙◌, subst, FramesValue, renewed, first_within, forget_step}
 use Rattle.depth_first.proofs.frames.forget.Goals as goal
 
 pub renew-requires : goal.renew-requires

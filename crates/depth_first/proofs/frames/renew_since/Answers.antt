@@ -1,6 +1,4 @@
-use Rattle.depth_first.proofs.Common.{◌<◌, length, refl, sym, ap, ◌∙◌, subst, inl, In, FramesValue, renewed, renewed_since}
-use Rattle.depth_first.proofs.ClearLemmas.{first_others}
-use Rattle.depth_first.proofs.BackLemmas.{renew_within, renew_step}
+use Rattle.depth_first.proofs.Lemmas.{◌<◌, length, refl, sym, ap, ◌∙◌, subst, inl, In, FramesValue, renewed, renewed_since, first_others, renew_within, renew_step}
 use Rattle.depth_first.proofs.frames.renew_since.Goals as goal
 
 pub renew-requires : goal.renew-requires

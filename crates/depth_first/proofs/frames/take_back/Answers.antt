@@ -1,5 +1,4 @@
-use Rattle.depth_first.proofs.Common.{reverse, refl, ◌∙◌, FramesValue}
-use Rattle.depth_first.proofs.BackLemmas.{shorten, take_back_is}
+use Rattle.depth_first.proofs.Lemmas.{reverse, refl, ◌∙◌, FramesValue, shorten, take_back_is}
 use Rattle.depth_first.proofs.frames.take_back.Goals as goal
 
 pub returns : goal.returns

@@ -1,7 +1,5 @@
-use Rattle.depth_first.proofs.Common.{◌+◌, drop, get_or, sym, ap, ◌∙◌, drop_past, path_of, seen}
+use Rattle.depth_first.proofs.Lemmas.{◌+◌, drop, get_or, sym, ap, ◌∙◌, drop_past, path_of, seen, can_go_on, kept_same, kept_more, grown_none, grown_on}
 use Rattle.depth_first.proofs.AllLemmas.{drop_next, left_none, left_step, left_found, left_end}
-use Rattle.depth_first.proofs.VisitLemmas.{can_go_on, kept_same, kept_more}
-use Rattle.depth_first.proofs.BackLemmas.{grown_none, grown_on}
 use Rattle.depth_first.proofs.run.go_all.Goals as goal
 
 pub loop-start-init : goal.loop-start-init

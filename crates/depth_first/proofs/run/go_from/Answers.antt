@@ -1,6 +1,4 @@
-use Rattle.depth_first.proofs.Common.{Some, sym, ap, ◌∙◌, subst, HasGrown, path_of, IsGoing, Ran}
-use Rattle.depth_first.proofs.VisitLemmas.{start_going, visited_done, visited_ran}
-use Rattle.depth_first.proofs.BackLemmas.{grown_none, grown_entered, grown_on}
+use Rattle.depth_first.proofs.Lemmas.{Some, sym, ap, ◌∙◌, subst, HasGrown, path_of, IsGoing, Ran, start_going, visited_done, visited_ran, grown_none, grown_entered, grown_on}
 use Rattle.depth_first.proofs.run.go_from.Goals as goal
 
 pub returns-in_ok-found-in-New-clause-ok : goal.returns-in_ok-found-in-New-clause-ok

@@ -1,6 +1,5 @@
 use Rattle.std.proofs.Common.{sym, ◌∙◌}
-use Rattle.depth_first.proofs.VisitLemmas.{later_none, later_step}
-use Rattle.depth_first.proofs.BackLemmas.{grown_none, grown_on}
+use Rattle.depth_first.proofs.Lemmas.{later_none, later_step, grown_none, grown_on}
 use Rattle.depth_first.proofs.run.run.Goals as goal
 
 pub loop-frame-init : goal.loop-frame-init

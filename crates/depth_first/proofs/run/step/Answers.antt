@@ -1,6 +1,5 @@
-use Rattle.depth_first.proofs.Common.{None, length, sym, ◌∙◌, subst, FramesValue, AreKept, HasGrown, path_of, advanced, IsEdgeWithin, Followed, Stepped}
+use Rattle.depth_first.proofs.Lemmas.{None, length, sym, ◌∙◌, subst, FramesValue, AreKept, HasGrown, path_of, advanced, IsEdgeWithin, Followed, Stepped, grown_none, grown_on, grown_finished, grown_advanced, grown_followed}
 use Rattle.depth_first.proofs.FollowLemmas.{top_below, edge_within, left_step, left_kept, followed_step, followed_kept}
-use Rattle.depth_first.proofs.BackLemmas.{grown_none, grown_on, grown_finished, grown_advanced, grown_followed}
 use Rattle.depth_first.proofs.run.step.Goals as goal
 
 pub finish-requires : goal.finish-requires

@@ -1,5 +1,4 @@
-use Rattle.depth_first.proofs.Common.{VisitedAll, seen}
-use Rattle.depth_first.proofs.BackLemmas.{went_back}
+use Rattle.depth_first.proofs.Lemmas.{VisitedAll, seen, went_back}
 use Rattle.depth_first.proofs.run.visit_each.Goals as goal
 
 pub returns : goal.returns

@@ -1,5 +1,4 @@
-use Rattle.depth_first.proofs.Common.{Visited, seen}
-use Rattle.depth_first.proofs.BackLemmas.{went_back}
+use Rattle.depth_first.proofs.Lemmas.{Visited, seen, went_back}
 use Rattle.depth_first.proofs.run.visit_from.Goals as goal
 
 pub returns : goal.returns

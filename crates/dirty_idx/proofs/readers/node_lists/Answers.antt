@@ -1,5 +1,4 @@
-use Rattle.dirty_idx.proofs.Common.{length, sym, ap, ◌∙◌, subst, arith, first_and, node_count, AreOf}
-use Rattle.dirty_idx.proofs.ReadLemmas.{nodes_below, length-node_readings}
+use Rattle.dirty_idx.proofs.Lemmas.{length, sym, ap, ◌∙◌, subst, arith, first_and, node_count, AreOf, nodes_below, length-node_readings}
 use Rattle.dirty_idx.proofs.readers.node_lists.Goals as goal
 
 pub make-requires-clause-nodes : goal.make-requires-clause-nodes

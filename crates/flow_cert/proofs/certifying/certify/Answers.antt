@@ -1,5 +1,4 @@
-use Rattle.std.specs.Prelude.{IfOk}
-use Rattle.flow_cert.proofs.Common.{sym, subst, List, ℕ, roots_of, label_at, AreLeastHeights, AreLabelClaims, AreNeeded, HasOneClaiming}
+use Rattle.flow_cert.proofs.Common.{sym, subst, List, ℕ, roots_of, label_at, AreLeastHeights, AreLabelClaims, AreNeeded, HasOneClaiming, IfOk}
 use Rattle.depth_label.proofs.LabelLemmas.{labels_heights}
 use Rattle.flow_cert.proofs.certifying.certify.Goals as goal
 

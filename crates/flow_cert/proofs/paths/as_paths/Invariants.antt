@@ -1,5 +1,4 @@
-use Rattle.std.proofs.Common.{Vec, Global}
-use Rattle.flow_cert.proofs.Common.{◌≡◌, ℕ, map, PathValue}
+use Rattle.flow_cert.proofs.Common.{◌≡◌, ℕ, map, PathValue, Vec, Global}
 use Rattle.flow_cert.proofs.paths.as_paths.Given as goal
 
 abbrev pub invariant-loop-nodes : goal.invariant-loop-nodes

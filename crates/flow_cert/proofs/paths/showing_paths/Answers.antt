@@ -1,6 +1,4 @@
-use Rattle.std.proofs.Common.{Vec, Global}
-use Rattle.flow_cert.proofs.Common.{◌∙◌, ℕ, map, subst, arith, label_at, ArePathsTo}
-use Rattle.std.proofs.lemmas.List.{length-map}
+use Rattle.flow_cert.proofs.Common.{◌∙◌, ℕ, map, subst, arith, label_at, ArePathsTo, Vec, Global, length-map}
 use Rattle.flow_cert.proofs.LabelLemmas.{known_least, shown}
 use Rattle.flow_cert.proofs.paths.showing_paths.Goals as goal
 

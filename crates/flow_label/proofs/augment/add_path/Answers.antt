@@ -1,7 +1,4 @@
-use Rattle.flow_label.proofs.Common.{◌^◌, sym, subst, ◌≡◌, ◌<◌, ◌≤◌, ◌+◌, ◌∙◌, ◌++◌, ◌-◌, ◌∷◌, [], arith, ap, length, get_or, refl, length-set, node_count, In-get_or, net_of, owner_in, CanTurn, get_or_read}
-use Rattle.flow_label.proofs.GraphLemmas.{live_inside}
-use Rattle.flow_label.proofs.SearchLemmas.{met_short}
-use Rattle.flow_label.proofs.LinkLemmas.{IsTurning, owner_set, can_turn, turned, begin, finish}
+use Rattle.flow_label.proofs.Lemmas.{◌^◌, sym, subst, ◌≡◌, ◌<◌, ◌≤◌, ◌+◌, ◌∙◌, ◌++◌, ◌-◌, ◌∷◌, [], arith, ap, length, get_or, refl, length-set, node_count, In-get_or, net_of, owner_in, CanTurn, get_or_read, live_inside, met_short, IsTurning, owner_set, can_turn, turned, begin, finish}
 use Rattle.flow_label.proofs.augment.add_path.Goals as goal
 
 pub overflow_cast-place : goal.overflow_cast-place

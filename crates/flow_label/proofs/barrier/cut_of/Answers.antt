@@ -1,5 +1,4 @@
-use Rattle.flow_label.proofs.Common.{◌<◌, ◌≤◌, arith, length, refl, union}
-use Rattle.flow_label.proofs.BarrierLemmas.{cut_more, cut_over, cut_all}
+use Rattle.flow_label.proofs.Lemmas.{◌<◌, ◌≤◌, arith, length, refl, union, cut_more, cut_over, cut_all}
 use Rattle.flow_label.proofs.barrier.cut_of.Goals as goal
 
 pub loop-m-init : goal.loop-m-init

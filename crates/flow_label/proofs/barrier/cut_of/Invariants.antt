@@ -1,5 +1,4 @@
-use Rattle.std.proofs.Common.{drop}
-use Rattle.flow_label.proofs.Common.{◌≡◌, ◌≤◌, length, union, ascending_of}
+use Rattle.flow_label.proofs.Common.{◌≡◌, ◌≤◌, length, union, ascending_of, drop}
 use Rattle.flow_label.proofs.barrier.cut_of.Given as goal
 
 abbrev pub invariant-loop-m : goal.invariant-loop-m

@@ -1,5 +1,4 @@
-use Rattle.flow_label.proofs.Common.{◌∙◌, ap, sym, take_all, unmarked}
-use Rattle.flow_label.proofs.BarrierLemmas.{kept_more, passed_more}
+use Rattle.flow_label.proofs.Lemmas.{◌∙◌, ap, sym, take_all, unmarked, kept_more, passed_more}
 use Rattle.flow_label.proofs.barrier.keep_unmarked.Goals as goal
 use Rattle.flow_label.proofs.barrier.keep_unmarked.Goals.{then-get-eq0+in_ok-push, else-get-eq0}
 

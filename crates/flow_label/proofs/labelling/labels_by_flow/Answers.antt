@@ -1,12 +1,4 @@
-use Rattle.flow_label.proofs.Common.{◌≡◌, ◌+◌, ◌<◌, ◌≤◌, ◌++◌, ◌∷◌, ◌∙◌, ℕ, List, [], arith, node_count, subst, sym, ap, label_at}
-use Rattle.cut_sets.specs.Labels.{AreLeastHeights}
-use Rattle.cut_sets.proofs.LeastHeightLemmas.{least_depths}
-use Rattle.flow_label.specs.Labelled.{AreLabelledTo}
-use Rattle.flow_label.specs.LowCuts.{HasLowWith, AreLowsTo}
-use Rattle.flow_label.specs.Lows.{AreLowsOf}
-use Rattle.flow_label.specs.Parts.{low_at}
-use Rattle.flow_label.specs.Scratch.{HasRoom}
-use Rattle.flow_label.specs.Value.{FlowValue, label_of, low_cut_of}
+use Rattle.flow_label.proofs.Common.{◌≡◌, ◌+◌, ◌<◌, ◌≤◌, ◌++◌, ◌∷◌, ◌∙◌, ℕ, List, [], arith, node_count, subst, sym, ap, label_at, AreLeastHeights, least_depths, AreLabelledTo, HasLowWith, AreLowsTo, AreLowsOf, low_at, HasRoom, FlowValue, label_of, low_cut_of}
 use Rattle.flow_label.specs.declared.scratch.Scratch.{Scratch}
 use Rattle.flow_label.proofs.LabelledLemmas.{labelled_source, labelled_node, labelled_heights, label_low, one_labelling}
 use Rattle.flow_label.proofs.LowLemmas.{lows_source, lows_node, lows_are}

@@ -1,7 +1,4 @@
-use Rattle.flow_label.proofs.Common.{node_count}
-use Rattle.flow_label.specs.Labelled.{AreLabelledTo}
-use Rattle.flow_label.specs.LowCuts.{AreLowsTo}
-use Rattle.flow_label.specs.Scratch.{IsScratch}
+use Rattle.flow_label.proofs.Common.{node_count, AreLabelledTo, AreLowsTo, IsScratch}
 use Rattle.flow_label.proofs.labelling.labels_by_flow.Given as goal
 
 abbrev pub invariant-loop-n : goal.invariant-loop-n

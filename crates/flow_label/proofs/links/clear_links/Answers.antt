@@ -1,5 +1,4 @@
-use Rattle.flow_label.proofs.Common.{length}
-use Rattle.flow_label.proofs.LinkLemmas.{first_links}
+use Rattle.flow_label.proofs.Lemmas.{length, first_links}
 use Rattle.flow_label.proofs.links.clear_links.Goals as goal
 
 pub returns-clause-linked : goal.returns-clause-linked

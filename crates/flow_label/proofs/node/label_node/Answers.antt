@@ -1,7 +1,4 @@
-use Rattle.flow_label.proofs.Common.{◌≡◌, ℕ, ◌+◌, ◌∙◌, ◌≤◌, List, [], ◌∷◌, length, refl, sym, ap, arith, label_at, IsHigh}
-use Rattle.flow_label.specs.LowCuts.{by_fan_ins, by_lower}
-use Rattle.flow_label.specs.Value.{FlowValue}
-use Rattle.flow_label.proofs.PartLemmas.{low_labelled, free_labelled, high_labelled}
+use Rattle.flow_label.proofs.Lemmas.{◌≡◌, ℕ, ◌+◌, ◌∙◌, ◌≤◌, List, [], ◌∷◌, length, refl, sym, ap, arith, label_at, IsHigh, by_fan_ins, by_lower, FlowValue, low_labelled, free_labelled, high_labelled}
 use Rattle.flow_label.proofs.node.label_node.Goals as goal
 use Rattle.flow_label.proofs.node.label_node.Goals.{then-p-gt0+in_ok-cut+in_default, else-p-gt0, then-len-eq0, else-len-eq0}
 

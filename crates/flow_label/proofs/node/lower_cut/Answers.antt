@@ -1,12 +1,4 @@
-use Rattle.flow_label.proofs.Common.{◌≡◌, ℕ, ◌+◌, ◌-◌, ◌/◌, List, Option, Some, None, Aig, ◌<◌, ◌≤◌, refl, sym, subst, arith, length, union, node_count, IsNode, Pair, label_at, IsLowCut}
-use Rattle.std.specs.Prelude.{IfSome}
-use Rattle.std.proofs.lemmas.Result.{IfOk-weaker}
-use Rattle.aig_core.proofs.NodeLemmas.{same_pair}
-use Rattle.flow_label.specs.LowCuts.{IsFlowCut, IsLowerCut, by_join, by_flow}
-use Rattle.flow_label.specs.Lows.{IsWide}
-use Rattle.flow_label.specs.Parts.{IsLowPart, low_at}
-use Rattle.flow_label.specs.Value.{FlowValue}
-use Rattle.flow_label.proofs.PartLemmas.{known_to, joined_low}
+use Rattle.flow_label.proofs.Lemmas.{◌≡◌, ℕ, ◌+◌, ◌-◌, ◌/◌, List, Option, Some, None, Aig, ◌<◌, ◌≤◌, refl, sym, subst, arith, length, union, node_count, IsNode, Pair, label_at, IsLowCut, IfSome, IfOk-weaker, same_pair, IsFlowCut, IsLowerCut, by_join, by_flow, IsWide, IsLowPart, low_at, FlowValue, known_to, joined_low}
 use Rattle.flow_label.proofs.node.lower_cut.Goals as goal
 
 pub returns-in-Some-clause-answer : goal.returns-in-Some-clause-answer

@@ -1,11 +1,4 @@
-use Rattle.std.proofs.Common.{Vec, Global}
-use Rattle.flow_label.proofs.Common.{◌≡◌, ◌+◌, ◌∙◌, ℕ, map, sym, length, label_at, net_of, owner_in, unmarked, ascending_of, AreWays}
-use Rattle.std.proofs.lemmas.List.{length-map}
-use Rattle.std.proofs.lemmas.Result.{IfOk-weaker}
-use Rattle.cut_sets.specs.Paths.{ArePathsTo}
-use Rattle.flow_label.proofs.BarrierLemmas.{blocked_cut}
-use Rattle.flow_label.proofs.HighLemmas.{ways_show}
-use Rattle.flow_label.proofs.QuestionLemmas.{low_high}
+use Rattle.flow_label.proofs.Lemmas.{◌≡◌, ◌+◌, ◌∙◌, ℕ, map, sym, length, label_at, net_of, owner_in, unmarked, ascending_of, AreWays, Vec, Global, length-map, IfOk-weaker, ArePathsTo, blocked_cut, ways_show, low_high}
 use Rattle.flow_label.proofs.question.all_paths.Goals as goal
 
 pub unreachable-requires : goal.unreachable-requires

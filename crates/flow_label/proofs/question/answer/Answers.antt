@@ -1,8 +1,5 @@
-use Rattle.flow_label.proofs.Common.{◌≤◌, ◌-◌, sym, subst, length, label_at, net_of, IsLowCut}
-use Rattle.flow_label.proofs.BarrierLemmas.{ends_cut}
-use Rattle.flow_label.specs.LowCuts.{IsFlowCut}
+use Rattle.flow_label.proofs.Lemmas.{◌≤◌, ◌-◌, sym, subst, length, label_at, net_of, IsLowCut, IsFlowCut, ends_cut, links_high}
 use Rattle.flow_label.proofs.EndLemmas.{walk_found, search_found}
-use Rattle.flow_label.proofs.HighLemmas.{links_high}
 use Rattle.flow_label.proofs.question.answer.Goals as goal
 
 pub returns-in-Some-clause-answer : goal.returns-in-Some-clause-answer

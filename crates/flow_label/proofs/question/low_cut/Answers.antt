@@ -1,6 +1,4 @@
-use Rattle.flow_label.proofs.Common.{◌<◌, ◌≤◌, sym, subst, arith, length, label_at, ascending_of}
-use Rattle.flow_label.specs.Lows.{IsNearest}
-use Rattle.flow_label.proofs.QuestionLemmas.{barrier_nearest}
+use Rattle.flow_label.proofs.Lemmas.{◌<◌, ◌≤◌, sym, subst, arith, length, label_at, ascending_of, IsNearest, barrier_nearest}
 use Rattle.flow_label.proofs.question.low_cut.Goals as goal
 
 pub unreachable-requires : goal.unreachable-requires

@@ -1,6 +1,4 @@
-use Rattle.flow_label.proofs.Common.{◌-◌, SiteValue, subst, label_at, IsLowCut, IsHigh}
-use Rattle.std.specs.Prelude.{IfOk, IfSome, MatchOption}
-use Rattle.flow_label.specs.LowCuts.{IsFlowCut}
+use Rattle.flow_label.proofs.Common.{◌-◌, SiteValue, subst, label_at, IsLowCut, IsHigh, IfOk, IfSome, MatchOption, IsFlowCut}
 use Rattle.flow_label.proofs.question.low_cut_of.Goals as goal
 
 pub returns-clause-answer : goal.returns-clause-answer

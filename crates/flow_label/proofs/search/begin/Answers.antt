@@ -1,5 +1,4 @@
-use Rattle.flow_label.proofs.Common.{length, net_of, owner_in}
-use Rattle.flow_label.proofs.SearchLemmas.{search_begun}
+use Rattle.flow_label.proofs.Lemmas.{length, net_of, owner_in, search_begun}
 use Rattle.flow_label.proofs.search.begin.Goals as goal
 
 pub returns-clause-searching : goal.returns-clause-searching

@@ -1,5 +1,4 @@
-use Rattle.flow_label.proofs.Common.{◌≡◌, ◌∙◌, subst, inl, inr, arith, cases_lt, get_or, In, In-get_or}
-use Rattle.flow_label.proofs.FindLemmas.{blocked}
+use Rattle.flow_label.proofs.Lemmas.{◌≡◌, ◌∙◌, subst, inl, inr, arith, cases_lt, get_or, In, In-get_or, blocked}
 use Rattle.flow_label.proofs.search.find.Goals as goal
 
 pub loop-m-init : goal.loop-m-init

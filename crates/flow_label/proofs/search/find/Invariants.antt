@@ -1,5 +1,4 @@
-use Rattle.flow_label.proofs.Common.{◌≡◌, ℕ, ◌<◌, [], get_or, In, node_count}
-use Rattle.flow_label.specs.Memory.{HasMarks, Searches}
+use Rattle.flow_label.proofs.Common.{◌≡◌, ℕ, ◌<◌, [], get_or, In, node_count, HasMarks, Searches}
 use Rattle.flow_label.proofs.search.find.Given as goal
 
 abbrev pub invariant-loop-m : goal.invariant-loop-m

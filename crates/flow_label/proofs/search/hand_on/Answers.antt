@@ -1,5 +1,4 @@
-use Rattle.flow_label.proofs.Common.{◌≡◌, ◌<◌, ◌^◌, ◌∙◌, sym, ap, refl, inl, arith, length, length-set, node_count, net_of, IsInner}
-use Rattle.flow_label.proofs.HandLemmas.{inner_owner, queue_small, handed_by_node, found1, extends1, size1, small1, found2, extends2, size2, small2, found3, extends3, size3, searching3, lengths3}
+use Rattle.flow_label.proofs.Lemmas.{◌≡◌, ◌<◌, ◌^◌, ◌∙◌, sym, ap, refl, inl, arith, length, length-set, node_count, net_of, IsInner, inner_owner, queue_small, handed_by_node, found1, extends1, size1, small1, found2, extends2, size2, small2, found3, extends3, size3, searching3, lengths3}
 use Rattle.flow_label.proofs.search.hand_on.Goals as goal
 
 pub fan_ins-below-requires : goal.fan_ins-below-requires

@@ -1,7 +1,4 @@
-use Rattle.flow_label.proofs.Common.{◌≡◌, ◌<◌, ◌∙◌, ◌∷◌, [], ap, sym, subst, arith, length, length-append, node_count, net_of, owner_in, IsSearching}
-use Rattle.flow_label.proofs.SearchLemmas.{met_size, popped}
-use Rattle.flow_label.proofs.HandLemmas.{queue_small}
-use Rattle.flow_label.proofs.FindLemmas.{none_left, end_found, end_met, end_there, end_kept, search_smaller}
+use Rattle.flow_label.proofs.Lemmas.{◌≡◌, ◌<◌, ◌∙◌, ◌∷◌, [], ap, sym, subst, arith, length, length-append, node_count, net_of, owner_in, IsSearching, met_size, popped, queue_small, none_left, end_found, end_met, end_there, end_kept, search_smaller}
 use Rattle.flow_label.proofs.search.search_from.Goals as goal
 
 pub meet-requires-clause-node : goal.meet-requires-clause-node

@@ -1,5 +1,4 @@
-use Rattle.flow_label.proofs.Common.{◌≡◌, ℕ, ◌+◌, ◌-◌, ◌*◌, length, In}
-use Rattle.flow_label.specs.Memory.{KeepsMarks, Searches}
+use Rattle.flow_label.proofs.Common.{◌≡◌, ℕ, ◌+◌, ◌-◌, ◌*◌, length, In, KeepsMarks, Searches}
 use Rattle.flow_label.proofs.search.search_from.Given as goal
 
 abbrev pub invariant-loop-place : goal.invariant-loop-place

@@ -1,5 +1,4 @@
-use Rattle.flow_label.proofs.Common.{◌≡◌, ◌/◌, ◌∙◌, arith, sym, subst, get_or, IsAnd, IsNode, In-get_or, label_at, HasRead, get_or_read}
-use Rattle.flow_label.proofs.WalkLemmas.{read_both, read_size}
+use Rattle.flow_label.proofs.Lemmas.{◌≡◌, ◌/◌, ◌∙◌, arith, sym, subst, get_or, IsAnd, IsNode, In-get_or, label_at, HasRead, get_or_read, read_both, read_size}
 use Rattle.flow_label.proofs.walk.read_at.Goals as goal
 
 pub pair_at-pair-requires : goal.pair_at-pair-requires

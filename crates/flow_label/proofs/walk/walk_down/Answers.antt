@@ -1,5 +1,4 @@
-use Rattle.flow_label.proofs.Common.{◌≡◌, ◌+◌, arith, length, net_at}
-use Rattle.flow_label.proofs.WalkLemmas.{walk_all, uppers_short}
+use Rattle.flow_label.proofs.Lemmas.{◌≡◌, ◌+◌, arith, length, net_at, walk_all, uppers_short}
 use Rattle.flow_label.proofs.walk.walk_down.Goals as goal
 
 pub loop-place-preserved : goal.loop-place-preserved

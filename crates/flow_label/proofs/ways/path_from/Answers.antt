@@ -1,6 +1,4 @@
-use Rattle.flow_label.proofs.Common.{◌≡◌, ◌<◌, ◌≤◌, ◌∙◌, arith, sym, subst, length, net_of, owner_in, next_of}
-use Rattle.flow_label.proofs.GraphLemmas.{fan_in_below}
-use Rattle.flow_label.proofs.WayLemmas.{way_start, way_push, on_below, next_above}
+use Rattle.flow_label.proofs.Lemmas.{◌≡◌, ◌<◌, ◌≤◌, ◌∙◌, arith, sym, subst, length, net_of, owner_in, next_of, fan_in_below, way_start, way_push, on_below, next_above}
 use Rattle.flow_label.proofs.ways.path_from.Goals as goal
 
 pub loop-m-init : goal.loop-m-init

@@ -1,5 +1,4 @@
-use Rattle.flow_label.proofs.Common.{◌<◌, map-append, sym, subst, length, get_or, IsSource, Regular, In-get_or, net_of, owner_in, IsWayTo}
-use Rattle.flow_label.proofs.WayLemmas.{ways_push}
+use Rattle.flow_label.proofs.Lemmas.{◌<◌, map-append, sym, subst, length, get_or, IsSource, Regular, In-get_or, net_of, owner_in, IsWayTo, ways_push}
 use Rattle.flow_label.proofs.ways.paths_of.Goals as goal
 
 pub path_from-requires-clause-source : goal.path_from-requires-clause-source

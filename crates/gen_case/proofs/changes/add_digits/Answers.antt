@@ -1,5 +1,4 @@
-use Rattle.gen_case.proofs.Common.{ℕ, List, ◌++◌, string_bytes, arith, ap, ◌∙◌, digit, digit_text}
-use Rattle.gen_case.proofs.LineLemmas.{piece_added}
+use Rattle.gen_case.proofs.Lemmas.{ℕ, List, ◌++◌, string_bytes, arith, ap, ◌∙◌, digit, digit_text, piece_added}
 use Rattle.gen_case.proofs.changes.add_digits.Goals as goal
 
 pub loop-place-preserved : goal.loop-place-preserved

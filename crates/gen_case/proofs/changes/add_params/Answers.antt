@@ -1,5 +1,4 @@
-use Rattle.gen_case.proofs.Common.{arith, param_lines}
-use Rattle.gen_case.proofs.LineLemmas.{lines_added}
+use Rattle.gen_case.proofs.Lemmas.{arith, param_lines, lines_added}
 use Rattle.gen_case.proofs.changes.add_params.Goals as goal
 
 pub loop-place-preserved : goal.loop-place-preserved

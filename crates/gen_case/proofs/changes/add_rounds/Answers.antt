@@ -1,6 +1,5 @@
-use Rattle.gen_case.proofs.Common.{arith, ◌-◌, sym, string_bytes, append-nil}
+use Rattle.gen_case.proofs.Lemmas.{arith, ◌-◌, sym, string_bytes, append-nil, lines_added}
 use Rattle.gen_case.specs.Script.{round_lines, rounds}
-use Rattle.gen_case.proofs.LineLemmas.{lines_added}
 use Rattle.gen_case.proofs.changes.add_rounds.Goals as goal
 
 pub loop-round-init : goal.loop-round-init

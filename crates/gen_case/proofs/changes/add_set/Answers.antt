@@ -1,5 +1,4 @@
-use Rattle.gen_case.proofs.Common.{map, codes, below, setting}
-use Rattle.gen_case.proofs.LineLemmas.{line_added}
+use Rattle.gen_case.proofs.Lemmas.{map, codes, below, setting, line_added}
 use Rattle.gen_case.proofs.changes.add_set.Goals as goal
 
 pub returns : goal.returns

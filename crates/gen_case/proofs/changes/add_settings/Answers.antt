@@ -1,5 +1,4 @@
-use Rattle.gen_case.proofs.Common.{arith, setting}
-use Rattle.gen_case.proofs.LineLemmas.{word_added}
+use Rattle.gen_case.proofs.Lemmas.{arith, setting, word_added}
 use Rattle.gen_case.proofs.changes.add_settings.Goals as goal
 
 pub loop-place-preserved : goal.loop-place-preserved

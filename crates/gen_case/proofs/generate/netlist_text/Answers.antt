@@ -1,6 +1,5 @@
-use Rattle.gen_case.proofs.Common.{List, ℕ, ◌++◌, ap, ◌∙◌, text_of}
+use Rattle.gen_case.proofs.Lemmas.{List, ℕ, ◌++◌, ap, ◌∙◌, text_of, lines_behind}
 use Rattle.gen_case.specs.Netlist.{head_lines, all_partials, all_adders, all_outputs, end_lines, netlist_lines}
-use Rattle.gen_case.proofs.LineLemmas.{lines_behind}
 use Rattle.gen_case.proofs.generate.netlist_text.Goals as goal
 
 pub returns : goal.returns

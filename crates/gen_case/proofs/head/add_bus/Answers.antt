@@ -1,5 +1,4 @@
-use Rattle.gen_case.proofs.Common.{arith, Digit, net_name}
-use Rattle.gen_case.proofs.LineLemmas.{word_added}
+use Rattle.gen_case.proofs.Lemmas.{arith, Digit, net_name, word_added}
 use Rattle.gen_case.proofs.head.add_bus.Goals as goal
 
 pub loop-place-preserved : goal.loop-place-preserved

@@ -1,5 +1,4 @@
-use Rattle.gen_case.proofs.Common.{List, ℕ, ◌++◌, codes, line_text, inputs_line, outputs_line}
-use Rattle.gen_case.proofs.LineLemmas.{behind}
+use Rattle.gen_case.proofs.Lemmas.{List, ℕ, ◌++◌, codes, line_text, inputs_line, outputs_line, behind}
 use Rattle.gen_case.proofs.head.add_head.Goals as goal
 
 pub returns : goal.returns

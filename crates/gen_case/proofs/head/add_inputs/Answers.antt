@@ -1,5 +1,4 @@
-use Rattle.gen_case.proofs.Common.{◌++◌, codes, Data, Coefficient, bus_names}
-use Rattle.gen_case.proofs.LineLemmas.{line_added, words_joined}
+use Rattle.gen_case.proofs.Lemmas.{◌++◌, codes, Data, Coefficient, bus_names, line_added, words_joined}
 use Rattle.gen_case.proofs.head.add_inputs.Goals as goal
 
 pub returns : goal.returns

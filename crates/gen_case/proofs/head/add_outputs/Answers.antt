@@ -1,5 +1,4 @@
-use Rattle.gen_case.proofs.Common.{◌*◌, codes, Product, bus_names}
-use Rattle.gen_case.proofs.LineLemmas.{line_added}
+use Rattle.gen_case.proofs.Lemmas.{◌*◌, codes, Product, bus_names, line_added}
 use Rattle.gen_case.proofs.head.add_outputs.Goals as goal
 
 pub returns : goal.returns

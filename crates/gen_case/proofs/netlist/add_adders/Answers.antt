@@ -1,5 +1,4 @@
-use Rattle.gen_case.proofs.Common.{arith, ◌-◌, flat_map, below, adder_lines}
-use Rattle.gen_case.proofs.LineLemmas.{lines_added}
+use Rattle.gen_case.proofs.Lemmas.{arith, ◌-◌, flat_map, below, adder_lines, lines_added}
 use Rattle.gen_case.proofs.netlist.add_adders.Goals as goal
 
 pub loop-j-preserved : goal.loop-j-preserved

@@ -1,5 +1,4 @@
-use Rattle.gen_case.proofs.Common.{arith, output_lines}
-use Rattle.gen_case.proofs.LineLemmas.{lines_added}
+use Rattle.gen_case.proofs.Lemmas.{arith, output_lines, lines_added}
 use Rattle.gen_case.proofs.netlist.add_outputs.Goals as goal
 
 pub loop-t-preserved : goal.loop-t-preserved

@@ -1,5 +1,4 @@
-use Rattle.gen_case.proofs.Common.{arith, partial_lines}
-use Rattle.gen_case.proofs.LineLemmas.{lines_added}
+use Rattle.gen_case.proofs.Lemmas.{arith, partial_lines, lines_added}
 use Rattle.gen_case.proofs.netlist.add_partial_row.Goals as goal
 
 pub loop-i-preserved : goal.loop-i-preserved

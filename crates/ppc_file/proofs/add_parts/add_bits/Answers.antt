@@ -1,5 +1,4 @@
-use Rattle.ppc_file.proofs.Common.{arith, at_drop_more, flat_map, bit_bytes}
-use Rattle.ppc_file.proofs.NumberLemmas.{added_more}
+use Rattle.ppc_file.proofs.Lemmas.{arith, at_drop_more, flat_map, bit_bytes, added_more}
 use Rattle.ppc_file.proofs.add_parts.add_bits.Goals as goal
 
 pub loop-lit-preserved : goal.loop-lit-preserved

@@ -1,5 +1,4 @@
-use Rattle.ppc_file.proofs.Common.{◌≡◌, ℕ, ◌+◌, ◌-◌, Some, sym, ap, ◌∙◌, arith, slice_get, first_and, node_bytes, added_as}
-use Rattle.ppc_file.proofs.NumberLemmas.{added_more, next_node}
+use Rattle.ppc_file.proofs.Lemmas.{◌≡◌, ℕ, ◌+◌, ◌-◌, Some, sym, ap, ◌∙◌, arith, slice_get, first_and, node_bytes, added_as, added_more, next_node}
 use Rattle.ppc_file.proofs.add_parts.add_nodes.Goals as goal
 
 pub loop-number-preserved : goal.loop-number-preserved

@@ -1,6 +1,5 @@
-use Rattle.ppc_file.proofs.Common.{◌≤◌, length, sym, ap, subst, arith, flat_map, In-get_or, PackParam, MOST_NAME_BYTES, param_bytes}
+use Rattle.ppc_file.proofs.Lemmas.{◌≤◌, length, sym, ap, subst, arith, flat_map, In-get_or, PackParam, MOST_NAME_BYTES, param_bytes, added_more}
 use Rattle.list_laws.proofs.Items.{drop_at}
-use Rattle.ppc_file.proofs.NumberLemmas.{added_more}
 use Rattle.ppc_file.proofs.add_parts.add_params.Goals as goal
 
 pub add_param-requires : goal.add_param-requires

@@ -1,6 +1,4 @@
-use Rattle.ppc_file.proofs.Common.{◌≡◌, ℕ, List, length, replicate, ap, ◌∙◌, sym, subst, eqb-true, Aig, Parameter, PackParam, Trailing, in_bits, IsPackFile, IsPackFault, StandsAt, nil_from_length}
-use Rattle.ppc_file.proofs.ReadLemmas.{is_pack, is_file, trailing}
-use Rattle.ppc_file.proofs.NumberLemmas.{not_zero}
+use Rattle.ppc_file.proofs.Lemmas.{◌≡◌, ℕ, List, length, replicate, ap, ◌∙◌, sym, subst, eqb-true, Aig, Parameter, PackParam, Trailing, in_bits, IsPackFile, IsPackFault, StandsAt, nil_from_length, is_pack, is_file, trailing, not_zero}
 use Rattle.ppc_file.proofs.decoder.decode.Goals as goal
 
 pub make-requires : goal.make-requires

@@ -1,6 +1,4 @@
-use Rattle.ppc_file.proofs.Common.{nothing, lettered, refl}
-use Rattle.ppc_file.proofs.ReadLemmas.{refused_on}
-use Rattle.ppc_file.proofs.StandLemmas.{field_refused}
+use Rattle.ppc_file.proofs.Lemmas.{nothing, lettered, refl, refused_on, field_refused}
 use Rattle.ppc_file.proofs.decoder.read_head.Goals as goal
 
 pub returns-in_err-_letters-clause-fault : goal.returns-in_err-_letters-clause-fault

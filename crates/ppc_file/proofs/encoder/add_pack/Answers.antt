@@ -1,6 +1,4 @@
-use Rattle.ppc_file.proofs.Common.{refl, sym, added_as, added_twice}
-use Rattle.ppc_file.proofs.NumberLemmas.{pack_parts}
-use Rattle.ppc_file.proofs.ReadLemmas.{by_version}
+use Rattle.ppc_file.proofs.Lemmas.{refl, sym, added_as, added_twice, pack_parts, by_version}
 use Rattle.ppc_file.proofs.encoder.add_pack.Goals as goal
 
 pub returns-clause-added : goal.returns-clause-added

@@ -1,5 +1,4 @@
-use Rattle.ppc_file.proofs.Common.{◌<◌, ◌≤◌, ◌-◌, arith, slice_index_or}
-use Rattle.ppc_file.proofs.NumberLemmas.{one_at_least, below_power, fits_word}
+use Rattle.ppc_file.proofs.Lemmas.{◌<◌, ◌≤◌, ◌-◌, arith, slice_index_or, one_at_least, below_power, fits_word}
 use Rattle.ppc_file.proofs.number.+sevens_at.Goals as goal
 
 pub returns-then-byte-lt128-clause-small : goal.returns-then-byte-lt128-clause-small

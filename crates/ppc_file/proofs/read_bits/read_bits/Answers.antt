@@ -1,6 +1,4 @@
-use Rattle.ppc_file.proofs.Common.{arith, in_bits, in_nodes, refl, [], le-ltb, length}
-use Rattle.ppc_file.proofs.ReadLemmas.{refused_on}
-use Rattle.ppc_file.proofs.StandLemmas.{stands_bit_count, field_refused}
+use Rattle.ppc_file.proofs.Lemmas.{arith, in_bits, in_nodes, refl, [], le-ltb, length, refused_on, stands_bit_count, field_refused}
 use Rattle.ppc_file.proofs.read_bits.read_bits.Goals as goal
 
 pub read_each-requires-clause-stands : goal.read_each-requires-clause-stands

@@ -1,5 +1,4 @@
-use Rattle.ppc_file.proofs.Common.{◌≡◌, ◌<◌, ◌+◌, ℕ, length, ap, ◌∙◌, arith, length-append, [], ◌∷◌, in_bits}
-use Rattle.ppc_file.proofs.ReadLemmas.{refused_on, bit_read, bit_refused, all_read}
+use Rattle.ppc_file.proofs.Lemmas.{◌≡◌, ◌<◌, ◌+◌, ℕ, length, ap, ◌∙◌, arith, length-append, [], ◌∷◌, in_bits, refused_on, bit_read, bit_refused, all_read}
 use Rattle.ppc_file.proofs.read_bits.read_each.Goals as goal
 
 pub returns-in_err-literal-clause-fault : goal.returns-in_err-literal-clause-fault

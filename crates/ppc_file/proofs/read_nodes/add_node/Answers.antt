@@ -1,6 +1,5 @@
-use Rattle.ppc_file.proofs.Common.{◌≡◌, ℕ, ◌*◌, ◌||◌, Bool, false, refl, sym, ap, ◌∙◌, list_any, node_count, is_pair, Pair, is_bad_pair}
+use Rattle.ppc_file.proofs.Lemmas.{◌≡◌, ℕ, ◌*◌, ◌||◌, Bool, false, refl, sym, ap, ◌∙◌, list_any, node_count, is_pair, Pair, is_bad_pair, is_made, is_found}
 use Rattle.ppc_file.proofs.FieldLemmas.{good_pair}
-use Rattle.ppc_file.proofs.ReadLemmas.{is_made, is_found}
 use Rattle.ppc_file.proofs.read_nodes.add_node.Goals as goal
 
 -- the test of fan-ins, at the number of nodes that the graph tells

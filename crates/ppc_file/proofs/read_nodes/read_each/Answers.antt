@@ -1,6 +1,4 @@
-use Rattle.ppc_file.proofs.Common.{◌≡◌, ◌<◌, ◌≤◌, List, [], ◌∷◌, ◌++◌, Err, length, replicate, ap, ◌∙◌, sym, arith, length-append, length-replicate, passed_on, OrMemory, Aig, node_count, with_pairs, Parameter, Pair, PackParam, MOST_PACK_NODES, node_at, IsPackFault, refusal_of, in_nodes}
-use Rattle.tl_fault.proofs.OrMemoryLemmas.{OrMemory-map}
-use Rattle.ppc_file.proofs.ReadLemmas.{node_read, no_next_node, all_read}
+use Rattle.ppc_file.proofs.Lemmas.{◌≡◌, ◌<◌, ◌≤◌, List, [], ◌∷◌, ◌++◌, Err, length, replicate, ap, ◌∙◌, sym, arith, length-append, length-replicate, passed_on, OrMemory, Aig, node_count, with_pairs, Parameter, Pair, PackParam, MOST_PACK_NODES, node_at, IsPackFault, refusal_of, in_nodes, OrMemory-map, node_read, no_next_node, all_read}
 use Rattle.ppc_file.proofs.read_nodes.read_each.Goals as goal
 
 -- the graph over some parameters with these nodes

@@ -1,6 +1,4 @@
-use Rattle.ppc_file.proofs.Common.{arith, in_params, in_nodes, refl, [], le-ltb, length}
-use Rattle.ppc_file.proofs.ReadLemmas.{refused_on}
-use Rattle.ppc_file.proofs.StandLemmas.{stands_node_count, field_refused}
+use Rattle.ppc_file.proofs.Lemmas.{arith, in_params, in_nodes, refl, [], le-ltb, length, refused_on, stands_node_count, field_refused}
 use Rattle.ppc_file.proofs.read_nodes.read_nodes.Goals as goal
 
 pub graph_over-requires : goal.graph_over-requires

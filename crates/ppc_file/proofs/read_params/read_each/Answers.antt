@@ -1,5 +1,4 @@
-use Rattle.ppc_file.proofs.Common.{◌<◌, length, ap, ◌∙◌, arith, length-append, [], ◌∷◌, ◌++◌, List, ℕ, sym, map-append, PackParam, names_of_params, in_params}
-use Rattle.ppc_file.proofs.ReadLemmas.{refused_on, param_new, param_read, param_refused, all_read}
+use Rattle.ppc_file.proofs.Lemmas.{◌<◌, length, ap, ◌∙◌, arith, length-append, [], ◌∷◌, ◌++◌, List, ℕ, sym, map-append, PackParam, names_of_params, in_params, refused_on, param_new, param_read, param_refused, all_read}
 use Rattle.ppc_file.proofs.read_params.read_each.Goals as goal
 
 pub push_param-requires : goal.push_param-requires

@@ -1,6 +1,4 @@
-use Rattle.ppc_file.proofs.Common.{arith, versioned, in_params, refl, []}
-use Rattle.ppc_file.proofs.ReadLemmas.{refused_on}
-use Rattle.ppc_file.proofs.StandLemmas.{stands_param_count, field_refused}
+use Rattle.ppc_file.proofs.Lemmas.{arith, versioned, in_params, refl, [], refused_on, stands_param_count, field_refused}
 use Rattle.ppc_file.proofs.read_params.read_params.Goals as goal
 
 pub read_each-requires-clause-stands : goal.read_each-requires-clause-stands

@@ -1,7 +1,5 @@
-use Rattle.run_text.proofs.Common.{map, Ok, refl, sym, ap, ◌∙◌, In, words_line, lines_fault, text_read, text_refused, EventValue, event_values, refusal_of, script_err, IsFirstRefusal}
+use Rattle.run_text.proofs.Common.{map, Ok, refl, sym, ap, ◌∙◌, In, words_line, lines_fault, text_read, text_refused, EventValue, event_values, refusal_of, script_err, IsFirstRefusal, Fits, AreEventsOf}
 use Rattle.std.proofs.lemmas.Result.{IfOk-weaker}
-use Rattle.run_text.specs.Fits.{Fits}
-use Rattle.run_text.specs.ScriptText.{AreEventsOf}
 use Rattle.run_text.proofs.FitLemmas.{events_fit}
 use Rattle.run_text.proofs.ScriptOnceLemmas.{one_reading}
 use Rattle.run_text.proofs.scripts.read_script.Goals as goal

@@ -1,5 +1,4 @@
-use Rattle.tl_text.proofs.Common.{◌+◌, ◌≡◌, Ok, [], length, drop, arith, sym, ap, ◌∙◌, slice_range, physical_lines}
-use Rattle.std.proofs.lemmas.Result.{err_from_is_err_and}
+use Rattle.tl_text.proofs.Common.{◌+◌, ◌≡◌, Ok, [], length, drop, arith, sym, ap, ◌∙◌, slice_range, physical_lines, err_from_is_err_and}
 use Rattle.tl_text.proofs.LineLemmas.{reads_feed, reads_next, reads_other, reads_end, read_on, read_refused, all_lines-closed}
 use Rattle.tl_text.proofs.PlaceLemmas.{lines_inside, lines_clean}
 use Rattle.tl_text.proofs.TokenLemmas.{tokens_are}

@@ -1,5 +1,4 @@
-use Rattle.tlut_host.proofs.Common.{◌≡◌, ℕ, ◌+◌, suc, List, take, ap, ◌∙◌, arith, slice_index_or, slice_set, set_length, copied_plain}
-use Rattle.tlut_host.proofs.SettingLemmas.{copied_next, copied_whole}
+use Rattle.tlut_host.proofs.Lemmas.{◌≡◌, ℕ, ◌+◌, suc, List, take, ap, ◌∙◌, arith, slice_index_or, slice_set, set_length, copied_plain, copied_next, copied_whole}
 use Rattle.tlut_host.proofs.copy.copy_bytes.Goals as goal
 
 pub loop-place-preserved : goal.loop-place-preserved

@@ -1,5 +1,4 @@
-use Rattle.tlut_host.proofs.Common.{◌≡◌, ℕ, ◌+◌, suc, false, List, take, ap, ◌∙◌, arith, slice_index_or, slice_set, set_length, Write, bit_write, copied, BitWrite}
-use Rattle.tlut_host.proofs.SettingLemmas.{copied_next, copied_whole}
+use Rattle.tlut_host.proofs.Lemmas.{◌≡◌, ℕ, ◌+◌, suc, false, List, take, ap, ◌∙◌, arith, slice_index_or, slice_set, set_length, Write, bit_write, copied, BitWrite, copied_next, copied_whole}
 use Rattle.tlut_host.proofs.copy.copy_writes.Goals as goal
 
 pub loop-place-preserved : goal.loop-place-preserved

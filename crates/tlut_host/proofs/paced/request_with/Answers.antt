@@ -1,5 +1,4 @@
-use Rattle.tlut_host.proofs.Common.{ℕ, ◌+◌, List, length, sym, ap, ◌∙◌, subst, arith, Write, IsWithinTouched, AreTurns, writes_turn, asked_behind, asked_keeps}
-use Rattle.tlut_host.proofs.PacedLemmas.{no_circuit, keeps_of, pacing_of}
+use Rattle.tlut_host.proofs.Lemmas.{ℕ, ◌+◌, List, length, sym, ap, ◌∙◌, subst, arith, Write, IsWithinTouched, AreTurns, writes_turn, asked_behind, asked_keeps, no_circuit, keeps_of, pacing_of}
 use Rattle.tlut_host.proofs.paced.request_with.Goals as goal
 
 pub ask-requires : goal.ask-requires

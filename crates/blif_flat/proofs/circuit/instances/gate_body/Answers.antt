@@ -1,5 +1,4 @@
-use Rattle.blif_flat.proofs.Common.{◌∙◌, length, refl, arith, slice_get_read, place_body}
-use Rattle.blif_flat.proofs.Hierarchy.GateLemmas.{row_within, row_body, found_by}
+use Rattle.blif_flat.proofs.Lemmas.{◌∙◌, length, refl, arith, slice_get_read, place_body, row_within, row_body, found_by}
 use Rattle.blif_flat.proofs.circuit.instances.gate_body.Goals as goal
 
 pub returns-in-None-clause-place : goal.returns-in-None-clause-place

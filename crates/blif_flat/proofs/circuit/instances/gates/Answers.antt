@@ -1,5 +1,4 @@
-use Rattle.blif_flat.proofs.Common.{◌≡◌, [], List, subst, sym, arith, slice_get-get_or, Gate, paths_of, places_at, kind_test, AreGatesAt, with_rows}
-use Rattle.blif_flat.proofs.Hierarchy.GateLemmas.{all_listed, all_gates, few_gates, row_commands}
+use Rattle.blif_flat.proofs.Lemmas.{◌≡◌, [], List, subst, sym, arith, slice_get-get_or, Gate, paths_of, places_at, kind_test, AreGatesAt, with_rows, all_listed, all_gates, few_gates, row_commands}
 use Rattle.blif_flat.proofs.circuit.instances.gates.Goals as goal
 
 pub add_model-requires : goal.add_model-requires

@@ -1,5 +1,4 @@
-use Rattle.blif_flat.proofs.Common.{◌≡◌, [], IfOk, subst, ap, ◌∙◌, ModelValue, commands_names, with_names, distinct_names}
-use Rattle.blif_flat.proofs.Models.ModelNameLemmas.{model_split}
+use Rattle.blif_flat.proofs.Lemmas.{◌≡◌, [], IfOk, subst, ap, ◌∙◌, ModelValue, commands_names, with_names, distinct_names, model_split}
 use Rattle.blif_flat.proofs.circuit.nets.distinct_names.Goals as goal
 
 pub returns : goal.returns

@@ -1,5 +1,4 @@
-use Rattle.blif_flat.proofs.Common.{◌≡◌, ◌+◌, ◌∙◌, Some, None, sym, ap, subst, arith, slice_get, option_and_then, slice_get_past, name_place, Start, NetsValue}
-use Rattle.blif_flat.proofs.Connections.NetCopyLemmas.{slot_found, slot_fits}
+use Rattle.blif_flat.proofs.Lemmas.{◌≡◌, ◌+◌, ◌∙◌, Some, None, sym, ap, subst, arith, slice_get, option_and_then, slice_get_past, name_place, Start, NetsValue, slot_found, slot_fits}
 use Rattle.blif_flat.proofs.circuit.nets.slot_of.Goals as goal
 
 pub returns-in-None : goal.returns-in-None

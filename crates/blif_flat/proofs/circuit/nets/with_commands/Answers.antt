@@ -1,5 +1,4 @@
-use Rattle.blif_flat.proofs.Common.{◌+◌, drop, ap, sym, ◌∙◌, commands_names, with_names}
-use Rattle.blif_flat.proofs.Models.ModelNameLemmas.{commands_split}
+use Rattle.blif_flat.proofs.Lemmas.{◌+◌, drop, ap, sym, ◌∙◌, commands_names, with_names, commands_split}
 use Rattle.blif_flat.proofs.circuit.nets.with_commands.Goals as goal
 
 pub loop-command-preserved : goal.loop-command-preserved

@@ -1,6 +1,4 @@
-use Rattle.blif_flat.proofs.Common.{◌≡◌, [], map, None, Some, ap, sym, ◌∙◌, subst, same_Some, OrMemory, ModelValue, model_at, inputs_of, is_latch, refusal_of, places_at, paths_of, Clocks, is_gate, ClockData, clock_test, input_name, IsControlled, passed_on}
-use Rattle.blif_flat.proofs.Clocking.ClockStepLemmas.{clocks_told}
-use Rattle.blif_flat.proofs.FaultOnceLemmas.{controls_refused, data_refused}
+use Rattle.blif_flat.proofs.Lemmas.{◌≡◌, [], map, None, Some, ap, sym, ◌∙◌, subst, same_Some, OrMemory, ModelValue, model_at, inputs_of, is_latch, refusal_of, places_at, paths_of, Clocks, is_gate, ClockData, clock_test, input_name, IsControlled, passed_on, clocks_told, controls_refused, data_refused}
 use Rattle.blif_flat.proofs.clock.clock_check.check_clocks.Goals as goal
 
 pub returns-in_err-control-clause-err : goal.returns-in_err-control-clause-err

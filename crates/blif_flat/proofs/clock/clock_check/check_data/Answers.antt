@@ -1,5 +1,4 @@
-use Rattle.blif_flat.proofs.Common.{◌≡◌, ◌∙◌, List, get_or, Option, Some, None, sym, ap, slice_get, slice_get-get_or, get_or_from_slice_get, ModelValue, Gate, FlatErr, refusal_of, names_fault, LibraryValue, Unless-map, passed_on}
-use Rattle.blif_flat.proofs.Clocking.ClockStepLemmas.{tells_ok, tells_err, data_place, data_passed, gate_data_refused, outputs_said}
+use Rattle.blif_flat.proofs.Lemmas.{◌≡◌, ◌∙◌, List, get_or, Option, Some, None, sym, ap, slice_get, slice_get-get_or, get_or_from_slice_get, ModelValue, Gate, FlatErr, refusal_of, names_fault, LibraryValue, Unless-map, passed_on, tells_ok, tells_err, data_place, data_passed, gate_data_refused, outputs_said}
 use Rattle.blif_flat.proofs.clock.clock_check.check_data.Goals.{After-check_names}
 use Rattle.blif_flat.proofs.clock.clock_check.check_data.Goals as goal
 

@@ -1,5 +1,4 @@
-use Rattle.blif_flat.proofs.Common.{◌≡◌, ◌∙◌, Bool, List, ap, subst, IfOk, ModelValue}
-use Rattle.blif_flat.proofs.Clocking.ClockStepLemmas.{marked_inputs}
+use Rattle.blif_flat.proofs.Lemmas.{◌≡◌, ◌∙◌, Bool, List, ap, subst, IfOk, ModelValue, marked_inputs}
 use Rattle.blif_flat.proofs.clock.clocks.clock_marks.Goals as goal
 
 pub returns : goal.returns

@@ -1,5 +1,4 @@
-use Rattle.blif_flat.proofs.Common.{◌≡◌, ◌∙◌, length, ltb, sym, ap, place_of, ModelValue, Ports}
-use Rattle.blif_flat.proofs.Clocking.ClockStepLemmas.{unlisted, listed_at}
+use Rattle.blif_flat.proofs.Lemmas.{◌≡◌, ◌∙◌, length, ltb, sym, ap, place_of, ModelValue, Ports, unlisted, listed_at}
 use Rattle.blif_flat.proofs.clock.clocks.is_listed.Goals as goal
 
 pub returns-in-None : goal.returns-in-None

@@ -1,5 +1,4 @@
-use Rattle.blif_flat.proofs.Common.{IfOk-weaker, IfErr-weaker, input_at, refusal_of, Unless-map}
-use Rattle.blif_flat.proofs.Clocking.ClockStepLemmas.{control_read, control_met, control_refused}
+use Rattle.blif_flat.proofs.Lemmas.{IfOk-weaker, IfErr-weaker, input_at, refusal_of, Unless-map, control_read, control_met, control_refused}
 use Rattle.blif_flat.proofs.clock.controls.check_control.Goals as goal
 
 pub returns-in-Some-control-clause-ok : goal.returns-in-Some-control-clause-ok

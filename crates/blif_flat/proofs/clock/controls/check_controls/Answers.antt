@@ -1,6 +1,4 @@
-use Rattle.blif_flat.proofs.Common.{get_or, slice_get-get_or, Gate, refusal_of, is_latch, paths_of, places_at, input_at, Unless-map, passed_on}
-use Rattle.blif_flat.proofs.Clocking.ClockStepLemmas.{gate_passed, gate_refused, all_passed, came_end}
-use Rattle.blif_flat.proofs.Hierarchy.GateLemmas.{gate_within}
+use Rattle.blif_flat.proofs.Lemmas.{get_or, slice_get-get_or, Gate, refusal_of, is_latch, paths_of, places_at, input_at, Unless-map, passed_on, gate_passed, gate_refused, all_passed, came_end, gate_within}
 use Rattle.blif_flat.proofs.clock.controls.check_controls.Goals as goal
 
 abbrev no_gate : Gate

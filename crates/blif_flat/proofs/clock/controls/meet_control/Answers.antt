@@ -1,6 +1,5 @@
-use Rattle.blif_flat.proofs.Common.{◌≡◌, ◌<◌, ◌∙◌, length, Some, sym, ap, subst, same_Some, refusal_of, table_of, Unless-map, passed_on}
+use Rattle.blif_flat.proofs.Lemmas.{◌≡◌, ◌<◌, ◌∙◌, length, Some, sym, ap, subst, same_Some, refusal_of, table_of, Unless-map, passed_on, none_read, met_input, met_another, met_latch, met_cover, input_within, latch_within, cover_within, kept_within}
 use Rattle.netlist.specs.declared.flat.FlatNet.TheVariants.{Input, Latch, Cover}
-use Rattle.blif_flat.proofs.Clocking.ClockStepLemmas.{none_read, met_input, met_another, met_latch, met_cover, input_within, latch_within, cover_within, kept_within}
 use Rattle.blif_flat.proofs.clock.controls.meet_control.Goals.{In-Some-Input, In-Some-Latch, In-Some-Cover}
 use Rattle.blif_flat.proofs.clock.controls.meet_control.Goals as goal
 

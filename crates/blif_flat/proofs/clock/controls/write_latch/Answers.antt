@@ -1,6 +1,4 @@
-use Rattle.blif_flat.proofs.Common.{IfOk-weaker, is_latch, places_at, paths_of}
-use Rattle.blif_flat.proofs.Hierarchy.GateLemmas.{gate_within, latch_stands, latch_written}
-use Rattle.blif_flat.proofs.Hierarchy.PlaceLemmas.{rows_under}
+use Rattle.blif_flat.proofs.Lemmas.{IfOk-weaker, is_latch, places_at, paths_of, gate_within, latch_stands, latch_written, rows_under}
 use Rattle.blif_flat.proofs.clock.controls.write_latch.Goals as goal
 
 pub write_net-requires-clause-instances : goal.write_net-requires-clause-instances

@@ -1,5 +1,4 @@
-use Rattle.blif_flat.proofs.Common.{◌≤◌, ap, arith, length, clock_test, input_name, most_weight}
-use Rattle.blif_flat.proofs.Fields.AssembleLemmas.{few_covers, counted_as, fields}
+use Rattle.blif_flat.proofs.Lemmas.{◌≤◌, ap, arith, length, clock_test, input_name, most_weight, few_covers, counted_as, fields}
 use Rattle.blif_flat.proofs.field.assemble.assemble.Goals as goal
 
 pub cover_order-requires-clause-walked : goal.cover_order-requires-clause-walked

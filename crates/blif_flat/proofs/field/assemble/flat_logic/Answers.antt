@@ -1,5 +1,4 @@
-use Rattle.blif_flat.proofs.Common.{◌≤◌, ap, ◌∙◌, arith, length, most_weight, regular_numbers}
-use Rattle.blif_flat.proofs.Fields.AssembleLemmas.{few_marks, logic_known}
+use Rattle.blif_flat.proofs.Lemmas.{◌≤◌, ap, ◌∙◌, arith, length, most_weight, regular_numbers, few_marks, logic_known}
 use Rattle.blif_flat.proofs.field.assemble.flat_logic.Goals as goal
 
 pub regular_numbers-requires : goal.regular_numbers-requires

@@ -1,5 +1,4 @@
-use Rattle.blif_flat.proofs.Common.{sym, subst, regular_places, AreFlatCovers, paths_of, flat_cover}
-use Rattle.blif_flat.proofs.Fields.RegularNetLemmas.{all_mapped, covers_are}
+use Rattle.blif_flat.proofs.Lemmas.{sym, subst, regular_places, AreFlatCovers, paths_of, flat_cover, all_mapped, covers_are}
 use Rattle.blif_flat.proofs.field.flat_gates.flat_covers.Goals as goal
 
 pub returns : goal.returns

@@ -1,5 +1,4 @@
-use Rattle.blif_flat.proofs.Common.{sym, subst, regular_places, AreFlatLatches, paths_of, flat_latch}
-use Rattle.blif_flat.proofs.Fields.RegularNetLemmas.{all_mapped, latches_are}
+use Rattle.blif_flat.proofs.Lemmas.{sym, subst, regular_places, AreFlatLatches, paths_of, flat_latch, all_mapped, latches_are}
 use Rattle.blif_flat.proofs.field.flat_gates.flat_latches.Goals as goal
 
 pub returns : goal.returns

@@ -1,5 +1,4 @@
-use Rattle.blif_flat.proofs.Common.{◌≡◌, ◌++◌, List, ℕ, ap, ◌∙◌, subst, In, In-left, In-right, ModelValue, most_underscores}
-use Rattle.blif_flat.proofs.Fields.RegularNetLemmas.{most_of_three}
+use Rattle.blif_flat.proofs.Lemmas.{◌≡◌, ◌++◌, List, ℕ, ap, ◌∙◌, subst, In, In-left, In-right, ModelValue, most_underscores, most_of_three}
 use Rattle.blif_flat.proofs.field.flat_ports.most_underscores.Goals as goal
 
 pub most_of-requires : goal.most_of-requires

@@ -1,5 +1,4 @@
-use Rattle.blif_flat.proofs.Common.{ap, ◌∙◌, ModelValue}
-use Rattle.blif_flat.proofs.Fields.RegularNetLemmas.{regular_names}
+use Rattle.blif_flat.proofs.Lemmas.{ap, ◌∙◌, ModelValue, regular_names}
 use Rattle.blif_flat.proofs.field.flat_ports.regular_inputs.Goals as goal
 
 pub returns : goal.returns

@@ -1,5 +1,4 @@
-use Rattle.blif_flat.proofs.Common.{[], unmarked_after}
-use Rattle.blif_flat.proofs.Fields.RegularNetLemmas.{unmarked_step}
+use Rattle.blif_flat.proofs.Lemmas.{[], unmarked_after, unmarked_step}
 use Rattle.blif_flat.proofs.field.flat_ports.unmarked.Goals as goal
 
 pub loop-i-preserved : goal.loop-i-preserved

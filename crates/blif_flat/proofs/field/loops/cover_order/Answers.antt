@@ -1,5 +1,4 @@
-use Rattle.blif_flat.proofs.Common.{map, sym, subst, ◌∙◌, OutPort, paths_of, is_cover, places_at, IsFound, IsNumberLoop, all_starts, AreWrittenAt}
-use Rattle.blif_flat.proofs.Fields.LoopOrderLemmas.{walked_range, walked_roots, walked_clean, loop_inside, loop_told}
+use Rattle.blif_flat.proofs.Lemmas.{map, sym, subst, ◌∙◌, OutPort, paths_of, is_cover, places_at, IsFound, IsNumberLoop, all_starts, AreWrittenAt, walked_range, walked_roots, walked_clean, loop_inside, loop_told}
 use Rattle.blif_flat.proofs.field.loops.cover_order.Goals as goal
 
 pub walk_covers-requires-clause-range : goal.walk_covers-requires-clause-range

@@ -1,5 +1,4 @@
-use Rattle.blif_flat.proofs.Common.{Some, ◌∙◌, ap, subst, cover_edges, VisitedAll}
-use Rattle.blif_flat.proofs.Fields.NumberWalkLemmas.{cover_nodes, clear, not_stopped, closed}
+use Rattle.blif_flat.proofs.Lemmas.{Some, ◌∙◌, ap, subst, cover_edges, VisitedAll, cover_nodes, clear, not_stopped, closed}
 use Rattle.blif_flat.proofs.field.loops.find_loop.Goals as goal
 
 pub visit_all-requires-clause-nodes : goal.visit_all-requires-clause-nodes

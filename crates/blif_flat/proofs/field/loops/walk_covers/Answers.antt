@@ -1,5 +1,4 @@
-use Rattle.blif_flat.proofs.Common.{◌∙◌, ap, length, reverse, subst, WalkValue, Searched, sym, IsReady, refl}
-use Rattle.blif_flat.proofs.Fields.NumberWalkLemmas.{range_below, loop_of_roots, loop_of_others, order_of_roots}
+use Rattle.blif_flat.proofs.Lemmas.{◌∙◌, ap, length, reverse, subst, WalkValue, Searched, sym, IsReady, refl, range_below, loop_of_roots, loop_of_others, order_of_roots}
 use Rattle.blif_flat.proofs.field.loops.walk_covers.Goals as goal
 
 pub find_loop-requires-clause-ready : goal.find_loop-requires-clause-ready

@@ -1,5 +1,4 @@
-use Rattle.blif_flat.proofs.Common.{get_or, slice_get-get_or, In-get, is_cover, places_at, paths_of, sym, subst, AreWritten, refl, []}
-use Rattle.blif_flat.proofs.Fields.LoopOrderLemmas.{written_next}
+use Rattle.blif_flat.proofs.Lemmas.{get_or, slice_get-get_or, In-get, is_cover, places_at, paths_of, sym, subst, AreWritten, refl, [], written_next}
 use Rattle.blif_flat.proofs.field.loops.written_covers.Goals as goal
 use Rattle.blif_flat.specs.LoopFault.{none}
 

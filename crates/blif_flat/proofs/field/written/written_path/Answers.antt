@@ -1,5 +1,4 @@
-use Rattle.blif_flat.proofs.Common.{◌++◌, List, ℕ, ap, ◌∙◌, path_text}
-use Rattle.blif_flat.proofs.Hierarchy.PlaceLemmas.{path_text-last}
+use Rattle.blif_flat.proofs.Lemmas.{◌++◌, List, ℕ, ap, ◌∙◌, path_text, path_text-last}
 use Rattle.blif_flat.proofs.field.written.written_path.Goals as goal
 
 pub loop-ordinal-preserved : goal.loop-ordinal-preserved

@@ -1,5 +1,4 @@
-use Rattle.blif_flat.proofs.Common.{◌∙◌, ap, reverse, subst, sym, reverse-reverse, In, at_within, reversed_in, models_fault, Tells, models_at, passed_on}
-use Rattle.blif_flat.proofs.FaultOnceLemmas.{walk_fault, heavy_fault, driver_fault, comes_past}
+use Rattle.blif_flat.proofs.Lemmas.{◌∙◌, ap, reverse, subst, sym, reverse-reverse, In, at_within, reversed_in, models_fault, Tells, models_at, passed_on, walk_fault, heavy_fault, driver_fault, comes_past}
 use Rattle.blif_flat.proofs.model.checks.check_models.Goals as goal
 
 pub check_weight-requires-clause-main : goal.check_weight-requires-clause-main

@@ -1,5 +1,4 @@
-use Rattle.blif_flat.proofs.Common.{passed_on}
-use Rattle.blif_flat.proofs.Models.DrivenLemmas.{read_split, told, gone_on}
+use Rattle.blif_flat.proofs.Lemmas.{passed_on, read_split, told, gone_on}
 use Rattle.blif_flat.proofs.model.drivers.check_actuals.Goals as goal
 
 pub returns-in_err-check_actual : goal.returns-in_err-check_actual

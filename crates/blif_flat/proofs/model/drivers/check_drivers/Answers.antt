@@ -1,5 +1,4 @@
-use Rattle.blif_flat.proofs.Common.{passed_on}
-use Rattle.blif_flat.proofs.Models.DrivenLemmas.{models_split, told, gone_on}
+use Rattle.blif_flat.proofs.Lemmas.{passed_on, models_split, told, gone_on}
 use Rattle.blif_flat.proofs.model.drivers.check_drivers.Goals as goal
 
 pub returns-in_err-check_number : goal.returns-in_err-check_number

@@ -1,5 +1,4 @@
-use Rattle.blif_flat.proofs.Common.{◌≡◌, ◌+◌, List, [], ◌∷◌, ◌++◌, drop, ap, sym, ◌∙◌, Connection, twice_in, output_actuals, passed_on}
-use Rattle.blif_flat.proofs.Models.DrivenLemmas.{drive_split, names_split, told, gone_on}
+use Rattle.blif_flat.proofs.Lemmas.{◌≡◌, ◌+◌, List, [], ◌∷◌, ◌++◌, drop, ap, sym, ◌∙◌, Connection, twice_in, output_actuals, passed_on, drive_split, names_split, told, gone_on}
 use Rattle.blif_flat.proofs.model.drivers.drive_actuals.Goals as goal
 
 pub returns-in_err-drive_actual : goal.returns-in_err-drive_actual

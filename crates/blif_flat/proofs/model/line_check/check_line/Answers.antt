@@ -1,5 +1,4 @@
-use Rattle.blif_flat.proofs.Common.{◌≡◌, ◌∙◌, subst, ap, both_ways, SubcktValue, IsModelOf, passed_on}
-use Rattle.blif_flat.proofs.Models.ModelPathLemmas.{recursive_err, child_err, child_ok}
+use Rattle.blif_flat.proofs.Lemmas.{◌≡◌, ◌∙◌, subst, ap, both_ways, SubcktValue, IsModelOf, passed_on, recursive_err, child_err, child_ok}
 use Rattle.blif_flat.proofs.model.line_check.check_line.Goals as goal
 
 pub returns-then-is_on_path-clause-err : goal.returns-then-is_on_path-clause-err

@@ -1,5 +1,4 @@
-use Rattle.blif_flat.proofs.Common.{names_at}
-use Rattle.blif_flat.proofs.Models.ModelPathLemmas.{names_next}
+use Rattle.blif_flat.proofs.Lemmas.{names_at, names_next}
 use Rattle.blif_flat.proofs.model.line_check.names_of.Goals as goal
 
 pub loop-number-preserved : goal.loop-number-preserved

@@ -1,5 +1,4 @@
-use Rattle.blif_flat.proofs.Common.{ap, sym, ◌∙◌, slice_get}
-use Rattle.blif_flat.proofs.Models.WeightLemmas.{weight_told}
+use Rattle.blif_flat.proofs.Lemmas.{ap, sym, ◌∙◌, slice_get, weight_told}
 use Rattle.blif_flat.proofs.model.weight.check_weight.Goals as goal
 
 pub returns : goal.returns

@@ -1,5 +1,4 @@
-use Rattle.blif_flat.proofs.Common.{arith}
-use Rattle.blif_flat.proofs.Models.WeightLemmas.{order_inside, kept_next}
+use Rattle.blif_flat.proofs.Lemmas.{arith, order_inside, kept_next}
 use Rattle.blif_flat.proofs.model.weight.weigh.Goals as goal
 
 pub keep_weight-requires-clause-model : goal.keep_weight-requires-clause-model

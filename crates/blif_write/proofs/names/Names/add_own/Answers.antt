@@ -1,5 +1,4 @@
-use Rattle.blif_write.proofs.Common.{ap, added_as, added_twice, Naming}
-use Rattle.blif_write.proofs.OwnNameLemmas.{own_is}
+use Rattle.blif_write.proofs.Lemmas.{ap, added_as, added_twice, Naming, own_is}
 use Rattle.blif_write.proofs.names.Names.add_own.Goals as goal
 
 pub returns : goal.returns

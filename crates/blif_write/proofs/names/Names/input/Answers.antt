@@ -1,5 +1,4 @@
-use Rattle.blif_write.proofs.Common.{◌≡◌, ◌-◌, ◌<◌, [], length, get_or, ap, sym, ◌∙◌, arith, In-get_or, Naming}
-use Rattle.blif_write.proofs.OwnNameLemmas.{name_at}
+use Rattle.blif_write.proofs.Lemmas.{◌≡◌, ◌-◌, ◌<◌, [], length, get_or, ap, sym, ◌∙◌, arith, In-get_or, Naming, name_at}
 use Rattle.blif_write.proofs.names.Names.input.Goals as goal
 
 pub bounds-self-inside-place : goal.bounds-self-inside-place

@@ -1,5 +1,4 @@
-use Rattle.blif_write.proofs.Common.{sym, ◌∙◌}
-use Rattle.blif_write.proofs.OwnNameLemmas.{other_literal}
+use Rattle.blif_write.proofs.Lemmas.{sym, ◌∙◌, other_literal}
 use Rattle.blif_write.proofs.names.Names.is_own.Goals as goal
 
 pub returns-else-is_input : goal.returns-else-is_input

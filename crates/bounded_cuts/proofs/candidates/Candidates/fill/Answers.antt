@@ -1,7 +1,4 @@
-use Rattle.bounded_cuts.proofs.Common.{◌≡◌, ◌≤◌, ◌*◌, ℕ, List, length, ap, subst, arith, IsNode, length-map, Candidate, cuts_of, label_at}
-use Rattle.std.proofs.lemmas.Result.{on_ok_weaker}
-use Rattle.bounded_cuts.specs.Candidates.{WithLow, unions}
-use Rattle.bounded_cuts.proofs.UnionLemmas.{unions_length}
+use Rattle.bounded_cuts.proofs.Lemmas.{◌≡◌, ◌≤◌, ◌*◌, ℕ, List, length, ap, subst, arith, IsNode, length-map, Candidate, cuts_of, label_at, on_ok_weaker, WithLow, unions, unions_length}
 use Rattle.bounded_cuts.proofs.CandidateLemmas.{none_priced, are_unions, heights_are, with_low}
 use Rattle.bounded_cuts.proofs.CutLemmas.{unions_cut}
 use Rattle.bounded_cuts.proofs.candidates.Candidates.fill.Goals as goal

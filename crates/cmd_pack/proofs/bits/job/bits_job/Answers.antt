@@ -1,6 +1,4 @@
-use Rattle.cmd_pack.proofs.Common.{unbegun_ends, bits_seen, bits_walk}
-use Rattle.cmd_pack.proofs.BitsPlayLemmas.{bits_ends}
-use Rattle.cmd_pack.proofs.RepackLemmas.{bits_laws}
+use Rattle.cmd_pack.proofs.Lemmas.{unbegun_ends, bits_seen, bits_walk, bits_ends, bits_laws}
 use Rattle.cmd_pack.proofs.bits.job.bits_job.Goals as goal
 
 pub returns-in-Err-clause-ends : goal.returns-in-Err-clause-ends

@@ -1,6 +1,5 @@
-use Rattle.cmd_pack.proofs.Common.{ap, ◌∙◌, event_values, extended}
+use Rattle.cmd_pack.proofs.Lemmas.{ap, ◌∙◌, event_values, extended, rose_later, play_end}
 use Rattle.run_text.specs.Lines.{bits_header_line}
-use Rattle.cmd_pack.proofs.BitsPlayLemmas.{rose_later, play_end}
 use Rattle.cmd_pack.proofs.bits.play.play.Goals as goal
 
 pub returns-clause-ends : goal.returns-clause-ends

@@ -1,8 +1,5 @@
-use Rattle.cmd_pack.proofs.Common.{◌≤◌, List, [], take, refl, sym, ◌∙◌, subst, inr, arith, take_all, event_value, event_values, PackValue, bank_seen, FitsPack, IsHostStep, Rose_from, split_by, more_by, value_has, IsOfHost, host_line, AreHostSteps, none, then_host_step}
+use Rattle.cmd_pack.proofs.Lemmas.{◌≤◌, List, [], take, refl, sym, ◌∙◌, subst, inr, arith, take_all, event_value, event_values, PackValue, bank_seen, FitsPack, IsHostStep, Rose_from, split_by, more_by, value_has, IsOfHost, host_line, AreHostSteps, none, then_host_step, AreAllPut, put_none, put_more, events_cut, fault_rose}
 use Rattle.run_text.specs.declared.event.Event.{Event}
-use Rattle.cmd_stations.specs.Playing.{AreAllPut}
-use Rattle.cmd_stations.proofs.PlayingLemmas.{put_none, put_more}
-use Rattle.cmd_pack.proofs.BitsPlayLemmas.{events_cut, fault_rose}
 use Rattle.cmd_pack.proofs.bits.play.play_with.Goals as goal
 
 pub loop-event-init : goal.loop-event-init

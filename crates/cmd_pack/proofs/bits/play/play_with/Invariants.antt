@@ -1,5 +1,4 @@
-use Rattle.cmd_pack.proofs.Common.{◌≡◌, ◌≤◌, [], length, take, event_values, bank_seen, AreHostSteps}
-use Rattle.cmd_stations.specs.Playing.{AreAllPut}
+use Rattle.cmd_pack.proofs.Common.{◌≡◌, ◌≤◌, [], length, take, event_values, bank_seen, AreHostSteps, AreAllPut}
 use Rattle.cmd_pack.proofs.bits.play.play_with.Given as goal
 
 abbrev pub invariant-loop-event : goal.invariant-loop-event

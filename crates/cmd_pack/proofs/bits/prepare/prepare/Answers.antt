@@ -1,6 +1,5 @@
-use Rattle.cmd_pack.proofs.Common.{◌∙◌, sym, event_values, bits_reading, bits_seen, Explains_from}
+use Rattle.cmd_pack.proofs.Lemmas.{◌∙◌, sym, event_values, bits_reading, bits_seen, Explains_from, can_play, ready_for}
 use Rattle.cmd_pack.proofs.BitsWalkLemmas.{pack_to_bits, script_to_bits}
-use Rattle.cmd_pack.proofs.BitsPlayLemmas.{can_play, ready_for}
 use Rattle.cmd_pack.proofs.bits.prepare.prepare.Goals as goal
 
 pub returns-in-Err-clause-err : goal.returns-in-Err-clause-err

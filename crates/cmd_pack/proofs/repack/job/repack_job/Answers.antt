@@ -1,5 +1,4 @@
-use Rattle.cmd_pack.proofs.Common.{memory_ends, only_read, unbegun_ends, repack_seen, repack_walk}
-use Rattle.cmd_pack.proofs.RepackLemmas.{repack_laws, repack_ends}
+use Rattle.cmd_pack.proofs.Lemmas.{memory_ends, only_read, unbegun_ends, repack_seen, repack_walk, repack_laws, repack_ends}
 use Rattle.cmd_pack.proofs.repack.job.repack_job.Goals as goal
 
 pub returns-in-Err-clause-ends : goal.returns-in-Err-clause-ends

@@ -1,5 +1,4 @@
-use Rattle.cmd_pack.proofs.Common.{[], ◌∷◌, present_text, line_ends, pack_header}
-use Rattle.cmd_pack.proofs.RepackLemmas.{passed_cut}
+use Rattle.cmd_pack.proofs.Lemmas.{[], ◌∷◌, present_text, line_ends, pack_header, passed_cut}
 use Rattle.cmd_pack.proofs.repack.job.write_all.Goals as goal
 
 pub returns-in_err-write_pack-clause-ends : goal.returns-in_err-write_pack-clause-ends

@@ -1,5 +1,4 @@
-use Rattle.cmd_run.proofs.Common.{refl, outside, gen_walk, explained_ends}
-use Rattle.cmd_run.proofs.GenLemmas.{gen_laws}
+use Rattle.cmd_run.proofs.Lemmas.{refl, outside, gen_walk, explained_ends, gen_laws}
 use Rattle.cmd_run.proofs.gen_command.job.gen_job.Goals as goal
 
 pub returns-in-Ok-clause-ends : goal.returns-in-Ok-clause-ends

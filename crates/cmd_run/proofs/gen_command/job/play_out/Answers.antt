@@ -1,6 +1,5 @@
-use Rattle.cmd_run.proofs.Common.{refl, ◌∙◌, inl, outside, AreWritten, IsCutInLine, []}
+use Rattle.cmd_run.proofs.Lemmas.{refl, ◌∙◌, inl, outside, AreWritten, IsCutInLine, [], case_begun, case_told}
 use Rattle.cmd_run.proofs.CaseSizeLemmas.{case_small}
-use Rattle.cmd_run.proofs.GenLemmas.{case_begun, case_told}
 use Rattle.cmd_run.proofs.gen_command.job.play_out.Goals as goal
 
 pub play_case-totals-requires-clause-small : goal.play_case-totals-requires-clause-small

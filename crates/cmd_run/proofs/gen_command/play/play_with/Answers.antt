@@ -1,7 +1,4 @@
-use Rattle.cmd_run.proofs.Common.{◌≡◌, List, [], take, refl, sym, ◌∙◌, subst, take_all, Event, event_value, event_values, FitsPack, FitsShape, Totals, none, more_by}
-use Rattle.cmd_run.proofs.GenLemmas.{total_more}
-use Rattle.cmd_run.proofs.PlayLemmas.{still_fits}
-use Rattle.cmd_run.proofs.TotalLemmas.{next_fits}
+use Rattle.cmd_run.proofs.Lemmas.{◌≡◌, List, [], take, refl, sym, ◌∙◌, subst, take_all, Event, event_value, event_values, FitsPack, FitsShape, Totals, none, more_by, total_more, still_fits, next_fits}
 use Rattle.cmd_run.proofs.gen_command.play.play_with.Goals as goal
 
 pub loop-event-init : goal.loop-event-init

@@ -1,5 +1,4 @@
-use Rattle.cmd_run.proofs.Common.{codes, subst, Explains, script_reading, shelf_of}
-use Rattle.cmd_run.proofs.CaseLemmas.{script_stops}
+use Rattle.cmd_run.proofs.Lemmas.{codes, subst, Explains, script_reading, shelf_of, script_stops}
 use Rattle.cmd_run.proofs.gen_command.prepare.case_events.Goals as goal
 
 pub returns-clause-err : goal.returns-clause-err

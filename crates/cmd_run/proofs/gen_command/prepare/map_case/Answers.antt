@@ -1,5 +1,4 @@
-use Rattle.cmd_run.proofs.Common.{ToTables, case_words, making_settles}
-use Rattle.cmd_run.proofs.CaseLemmas.{mapping_stops}
+use Rattle.cmd_run.proofs.Lemmas.{ToTables, case_words, making_settles, mapping_stops}
 use Rattle.cmd_run.proofs.gen_command.prepare.map_case.Goals as goal
 
 pub returns-in-Err-clause-err : goal.returns-in-Err-clause-err

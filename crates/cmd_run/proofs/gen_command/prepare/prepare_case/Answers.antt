@@ -1,5 +1,4 @@
-use Rattle.cmd_run.proofs.Common.{ap, ◌∙◌, CaseValue}
-use Rattle.cmd_run.proofs.CaseLemmas.{have_case, case_ready, case_stopped}
+use Rattle.cmd_run.proofs.Lemmas.{ap, ◌∙◌, CaseValue, have_case, case_ready, case_stopped}
 use Rattle.cmd_run.proofs.gen_command.prepare.prepare_case.Goals as goal
 
 pub returns-in-Ok-clause-prepared : goal.returns-in-Ok-clause-prepared

@@ -1,6 +1,4 @@
-use Rattle.cmd_run.proofs.Common.{Scripted, HasMapped, ToTables, IsSourceSettled, scripted_of, case_words, shelf_of, source_to_scripted, script_to_scripted, comes_scripted}
-use Rattle.cmd_run.proofs.CaseLemmas.{told_of}
-use Rattle.cmd_run.proofs.StartLemmas.{ready_for, can_play_ready}
+use Rattle.cmd_run.proofs.Lemmas.{Scripted, HasMapped, ToTables, IsSourceSettled, scripted_of, case_words, shelf_of, source_to_scripted, script_to_scripted, comes_scripted, told_of, ready_for, can_play_ready}
 use Rattle.cmd_run.proofs.gen_command.prepare.ready_case.Goals as goal
 
 pub returns-in-Err-clause-err : goal.returns-in-Err-clause-err

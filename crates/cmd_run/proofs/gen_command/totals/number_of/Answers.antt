@@ -1,5 +1,4 @@
-use Rattle.cmd_run.proofs.Common.{◌≡◌, ℕ, ◌+◌, ◌*◌, ◌^◌, ◌<◌, ◌≤◌, sym, ap, ◌∙◌, subst, arith, bit_value, number}
-use Rattle.cmd_run.proofs.TotalLemmas.{number_below, below_zero, below_none, below_last, below_more}
+use Rattle.cmd_run.proofs.Lemmas.{◌≡◌, ℕ, ◌+◌, ◌*◌, ◌^◌, ◌<◌, ◌≤◌, sym, ap, ◌∙◌, subst, arith, bit_value, number, number_below, below_zero, below_none, below_last, below_more}
 use Rattle.cmd_run.proofs.gen_command.totals.number_of.Goals as goal
 
 pub loop-digit-init : goal.loop-digit-init

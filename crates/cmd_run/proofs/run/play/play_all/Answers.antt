@@ -1,6 +1,4 @@
-use Rattle.cmd_run.proofs.Common.{◌∙◌, subst, event_values, bank_seen, MachineValue, EventsEnd}
-use Rattle.cmd_stations.specs.Machine.{IsLoaded}
-use Rattle.cmd_run.proofs.PlayLemmas.{headed_end}
+use Rattle.cmd_run.proofs.Lemmas.{◌∙◌, subst, event_values, bank_seen, MachineValue, EventsEnd, IsLoaded, headed_end}
 use Rattle.cmd_run.proofs.run.play.play_all.Goals as goal
 
 pub returns-clause-ends : goal.returns-clause-ends

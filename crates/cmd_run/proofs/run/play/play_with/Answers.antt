@@ -1,10 +1,5 @@
-use Rattle.cmd_run.proofs.Common.{◌≤◌, List, [], take, refl, sym, ◌∙◌, subst, arith, take_all, Event, event_value, event_values, bank_seen, FitsPack, FitsShape, Stage, IsStep, split_by, more_by, event_line, then_step}
+use Rattle.cmd_run.proofs.Lemmas.{◌≤◌, List, [], take, refl, sym, ◌∙◌, subst, arith, take_all, Event, event_value, event_values, bank_seen, FitsPack, FitsShape, Stage, IsStep, split_by, more_by, event_line, then_step, none, AreSteps, AreAllPut, put_none, put_more, still_fits, events_end}
 use Rattle.std.proofs.lemmas.Result.{err_from_is_err_and}
-use Rattle.machine.specs.Machine.{none}
-use Rattle.cmd_stations.specs.Machine.{AreSteps}
-use Rattle.cmd_stations.specs.Playing.{AreAllPut}
-use Rattle.cmd_stations.proofs.PlayingLemmas.{put_none, put_more}
-use Rattle.cmd_run.proofs.PlayLemmas.{still_fits, events_end}
 use Rattle.cmd_run.proofs.run.play.play_with.Goals as goal
 
 pub loop-event-init : goal.loop-event-init

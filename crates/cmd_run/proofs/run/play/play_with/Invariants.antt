@@ -1,6 +1,4 @@
-use Rattle.cmd_run.proofs.Common.{◌≡◌, ◌≤◌, [], take, event_values, Holds, bank_seen}
-use Rattle.cmd_stations.specs.Machine.{AreSteps}
-use Rattle.cmd_stations.specs.Playing.{AreAllPut}
+use Rattle.cmd_run.proofs.Common.{◌≡◌, ◌≤◌, [], take, event_values, Holds, bank_seen, AreSteps, AreAllPut}
 use Rattle.cmd_run.proofs.run.play.play_with.Given as goal
 
 abbrev pub invariant-loop-event : goal.invariant-loop-event

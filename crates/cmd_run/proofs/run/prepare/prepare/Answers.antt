@@ -1,5 +1,4 @@
-use Rattle.cmd_run.proofs.Common.{subst, Explains, ComesScripted, run_seen, ScriptedWords, scripted_reading}
-use Rattle.cmd_run.proofs.StartLemmas.{ready_for, can_play_ready}
+use Rattle.cmd_run.proofs.Lemmas.{subst, Explains, ComesScripted, run_seen, ScriptedWords, scripted_reading, ready_for, can_play_ready}
 use Rattle.cmd_run.proofs.run.prepare.prepare.Goals as goal
 
 pub returns-in-Err-clause-err : goal.returns-in-Err-clause-err

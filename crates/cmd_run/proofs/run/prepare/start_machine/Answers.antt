@@ -1,5 +1,4 @@
-use Rattle.cmd_run.proofs.Common.{ap, ◌∙◌, SimValue}
-use Rattle.cmd_stations.proofs.InitLemmas.{source_starts}
+use Rattle.cmd_run.proofs.Common.{ap, ◌∙◌, SimValue, source_starts}
 use Rattle.cmd_run.proofs.run.prepare.start_machine.Goals as goal
 
 pub returns : goal.returns

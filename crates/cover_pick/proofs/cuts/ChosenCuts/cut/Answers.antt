@@ -1,5 +1,4 @@
-use Rattle.cover_pick.proofs.Common.{◌∙◌, [], None, Some, sym, ap, get_or_from_slice_get, row_at}
-use Rattle.cover_pick.proofs.RuleLemmas.{cut_at_place}
+use Rattle.cover_pick.proofs.Lemmas.{◌∙◌, [], None, Some, sym, ap, get_or_from_slice_get, row_at, cut_at_place}
 use Rattle.cover_pick.proofs.cuts.ChosenCuts.cut.Goals as goal
 
 pub returns-in-None : goal.returns-in-None

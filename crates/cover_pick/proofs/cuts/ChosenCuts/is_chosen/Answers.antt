@@ -1,6 +1,4 @@
-use Rattle.cover_pick.proofs.Common.{◌≡◌, ◌∙◌, ℕ, List, Option, None, Some, refl, sym, ap, row_at, cut_of, has_cut}
-use Rattle.std.specs.Prelude.{is_some}
-use Rattle.cover_pick.proofs.RuleLemmas.{cut_at_place}
+use Rattle.cover_pick.proofs.Lemmas.{◌≡◌, ◌∙◌, ℕ, List, Option, None, Some, refl, sym, ap, row_at, cut_of, has_cut, is_some, cut_at_place}
 use Rattle.cover_pick.proofs.cuts.ChosenCuts.is_chosen.Goals as goal
 
 -- there is a cut where there is a place

@@ -1,5 +1,4 @@
-use Rattle.cover_pick.proofs.Common.{◌≡◌, ◌∙◌, ◌+◌, ◌^◌, ℕ, List, [], length, None, Some, get_or, get_or_from_slice_get, sym, ap, row_at, TABLE_PRICE, price}
-use Rattle.cover_pick.proofs.RuleLemmas.{cut_at_place}
+use Rattle.cover_pick.proofs.Lemmas.{◌≡◌, ◌∙◌, ◌+◌, ◌^◌, ℕ, List, [], length, None, Some, get_or, get_or_from_slice_get, sym, ap, row_at, TABLE_PRICE, price, cut_at_place}
 use Rattle.cover_pick.proofs.cuts.ChosenCuts.price.Goals as goal
 
 pub returns-in-None-clause-value : goal.returns-in-None-clause-value

@@ -1,5 +1,4 @@
-use Rattle.std.proofs.Common.{arith, ◌≡◌, [], ◌∷◌, ◌++◌, ap, ◌∙◌}
-use Rattle.cut_sets.proofs.SignatureLemmas.{signature-one}
+use Rattle.cut_enum.proofs.Common.{arith, ◌≡◌, [], ◌∷◌, ◌++◌, ap, ◌∙◌, signature-one}
 use Rattle.cut_enum.proofs.cut.Cut.one.Goals as goal
 
 pub invariant_of-result : goal.invariant_of-result

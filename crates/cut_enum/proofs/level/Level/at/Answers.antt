@@ -1,5 +1,4 @@
-use Rattle.cut_enum.proofs.Common.{◌<◌, length, arith}
-use Rattle.cut_enum.proofs.PlaceLemmas.{cut_there}
+use Rattle.cut_enum.proofs.Lemmas.{◌<◌, length, arith, cut_there}
 use Rattle.cut_enum.proofs.level.Level.at.Goals as goal
 
 pub index-requires-2 : goal.index-requires-2

@@ -1,5 +1,4 @@
-use Rattle.cut_enum.proofs.Common.{ℕ, List, ap, ◌∙◌, arith, insert}
-use Rattle.cut_enum.proofs.PlaceLemmas.{put_there}
+use Rattle.cut_enum.proofs.Lemmas.{ℕ, List, ap, ◌∙◌, arith, insert, put_there}
 use Rattle.cut_enum.proofs.level.Level.put.Goals as goal
 
 pub invariant_of-self-in-Some : goal.invariant_of-self-in-Some

@@ -1,6 +1,4 @@
-use Rattle.cut_enum.proofs.Common.{◌≡◌, ◌∙◌, ◌≤◌, ℕ, List, map, length, ap, sym, subst, arith, AreShared, signature_of}
-use Rattle.cut_enum.proofs.SharedLemmas.{share_head}
-use Rattle.cut_enum.proofs.SignedLemmas.{signed_head, signed_length}
+use Rattle.cut_enum.proofs.Lemmas.{◌≡◌, ◌∙◌, ◌≤◌, ℕ, List, map, length, ap, sym, subst, arith, AreShared, signature_of, share_head, signed_head, signed_length}
 use Rattle.cut_enum.proofs.signed.Signed.leading.Goals as goal
 
 pub invariant_of-result : goal.invariant_of-result

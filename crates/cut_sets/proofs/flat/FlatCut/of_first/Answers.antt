@@ -1,5 +1,4 @@
-use Rattle.cut_sets.proofs.Common.{◌≡◌, ◌∙◌, ℕ, ◌≤◌, List, [], ◌∷◌, ap, sym, subst, length, take, get_or, refl, arith, IsAscending, signature_of}
-use Rattle.std.proofs.Common.{take-take}
+use Rattle.cut_sets.proofs.Common.{◌≡◌, ◌∙◌, ℕ, ◌≤◌, List, [], ◌∷◌, ap, sym, subst, length, take, get_or, refl, arith, IsAscending, signature_of, take-take}
 use Rattle.cut_sets.proofs.flat.FlatCut.of_first.Goals as goal
 
 six_are : (ns : List ℕ) → 6 ≤ length ns → get_or ns 0 0 ∷ get_or ns 1 0 ∷ get_or ns 2 0 ∷ get_or ns 3 0 ∷ get_or ns 4 0 ∷ get_or ns 5 0 ∷ [] ≡ take 6 ns

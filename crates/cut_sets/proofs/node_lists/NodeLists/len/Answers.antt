@@ -1,6 +1,4 @@
-use Rattle.std.proofs.Common.{◌≡◌, ◌+◌, ℕ, List, length, ap, arith, vec_len}
-use Rattle.cut_sets.specs.Spans.{parts_of}
-use Rattle.cut_sets.proofs.SpanLemmas.{parts_of-count}
+use Rattle.cut_sets.proofs.Lemmas.{◌≡◌, ◌+◌, ℕ, List, length, ap, arith, vec_len, parts_of, parts_of-count}
 use Rattle.cut_sets.proofs.node_lists.NodeLists.len.Goals as goal
 
 pub returns : goal.returns

@@ -1,6 +1,4 @@
-use Rattle.cut_sets.proofs.Common.{◌≡◌, ◌<◌, ◌+◌, ◌∙◌, ap, sym, length, vec_len, arith, get_or_read, parts_of, row_at}
-use Rattle.cut_sets.proofs.SpanLemmas.{parts_of-past, starts-bounds}
-use Rattle.cut_sets.proofs.RowLemmas.{row_length}
+use Rattle.cut_sets.proofs.Lemmas.{◌≡◌, ◌<◌, ◌+◌, ◌∙◌, ap, sym, length, vec_len, arith, get_or_read, parts_of, row_at, parts_of-past, starts-bounds, row_length}
 use Rattle.cut_sets.proofs.rows.CutRows.count.Goals as goal
 
 pub returns-then-n-len : goal.returns-then-n-len

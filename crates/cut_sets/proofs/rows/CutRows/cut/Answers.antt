@@ -1,5 +1,4 @@
-use Rattle.cut_sets.proofs.Common.{◌≡◌, ◌+◌, ◌∙◌, ap, sym, [], length, arith, get_or, parts_of, row_at, slice_get-get_or, Some}
-use Rattle.cut_sets.proofs.RowLemmas.{cut_read}
+use Rattle.cut_sets.proofs.Lemmas.{◌≡◌, ◌+◌, ◌∙◌, ap, sym, [], length, arith, get_or, parts_of, row_at, slice_get-get_or, Some, cut_read}
 use Rattle.cut_sets.proofs.rows.CutRows.cut.Goals as goal
 
 pub place_of-place-requires-clause-inside : goal.place_of-place-requires-clause-inside

@@ -1,5 +1,4 @@
-use Rattle.cut_sets.proofs.Common.{◌≡◌, ◌+◌, ◌∙◌, ap, sym, subst, [], length, arith, get_or, parts_of, row_at, IsAscending, slice_get-get_or, Some}
-use Rattle.cut_sets.proofs.RowLemmas.{cut_read}
+use Rattle.cut_sets.proofs.Lemmas.{◌≡◌, ◌+◌, ◌∙◌, ap, sym, subst, [], length, arith, get_or, parts_of, row_at, IsAscending, slice_get-get_or, Some, cut_read}
 use Rattle.cut_sets.proofs.rows.CutRows.leaves.Goals as goal
 
 pub place_of-requires-clause-inside : goal.place_of-requires-clause-inside

@@ -1,5 +1,4 @@
-use Rattle.cut_sets.proofs.Common.{◌≡◌, ◌+◌, ◌<◌, ◌∙◌, ap, length, vec_len, arith, get_or, get_or_read}
-use Rattle.cut_sets.proofs.RowLemmas.{cut_read}
+use Rattle.cut_sets.proofs.Lemmas.{◌≡◌, ◌+◌, ◌<◌, ◌∙◌, ap, length, vec_len, arith, get_or, get_or_read, cut_read}
 use Rattle.cut_sets.proofs.rows.CutRows.signature.Goals as goal
 
 pub place_of-requires-clause-inside : goal.place_of-requires-clause-inside

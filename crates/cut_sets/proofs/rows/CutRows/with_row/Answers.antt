@@ -1,5 +1,4 @@
-use Rattle.cut_sets.proofs.Common.{◌≡◌, ◌∙◌, ap, sym, List, ℕ, length, vec_len, sum_by, arith, parts_of, ◌++◌, ◌∷◌, []}
-use Rattle.cut_sets.proofs.RowLemmas.{row_push, row_view}
+use Rattle.cut_sets.proofs.Lemmas.{◌≡◌, ◌∙◌, ap, sym, List, ℕ, length, vec_len, sum_by, arith, parts_of, ◌++◌, ◌∷◌, [], row_push, row_view}
 use Rattle.cut_sets.proofs.rows.CutRows.with_row.Goals as goal
 
 pub push_cuts-requires-clause-room : goal.push_cuts-requires-clause-room

@@ -1,5 +1,4 @@
-use Rattle.depth_first.proofs.Common.{ap, ◌∙◌, WalkValue}
-use Rattle.depth_first.proofs.ClearLemmas.{with_count, cleared_fits, cleared_seen}
+use Rattle.depth_first.proofs.Lemmas.{ap, ◌∙◌, WalkValue, with_count, cleared_fits, cleared_seen}
 use Rattle.depth_first.proofs.walk.Walk.clear.Goals as goal
 
 pub invariant_of-self : goal.invariant_of-self

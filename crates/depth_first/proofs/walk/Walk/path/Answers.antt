@@ -1,5 +1,4 @@
-use Rattle.depth_first.proofs.Common.{ap, ◌∙◌, WalkValue}
-use Rattle.depth_first.proofs.PathLemmas.{path_more, path_all}
+use Rattle.depth_first.proofs.Lemmas.{ap, ◌∙◌, WalkValue, path_more, path_all}
 use Rattle.depth_first.proofs.walk.Walk.path.Goals as goal
 
 pub returns : goal.returns

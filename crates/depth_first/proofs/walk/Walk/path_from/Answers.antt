@@ -1,5 +1,4 @@
-use Rattle.depth_first.proofs.Common.{◌∙◌, take, refl, ap, path_of, WalkValue, from_node}
-use Rattle.depth_first.proofs.PathLemmas.{path_all, from_here, from_before}
+use Rattle.depth_first.proofs.Lemmas.{◌∙◌, take, refl, ap, path_of, WalkValue, from_node, path_all, from_here, from_before}
 use Rattle.depth_first.proofs.walk.Walk.path_from.Goals.{then-node-frame, else-node-frame}
 use Rattle.depth_first.proofs.walk.Walk.path_from.Goals as goal
 

@@ -1,5 +1,4 @@
-use Rattle.depth_first.proofs.Common.{ap, ◌∙◌, WalkValue, rules}
-use Rattle.depth_first.proofs.VisitLemmas.{no_path}
+use Rattle.depth_first.proofs.Lemmas.{ap, ◌∙◌, WalkValue, rules, no_path}
 use Rattle.depth_first.proofs.walk.Walk.visit_all.Goals as goal
 
 pub visit_each-requires-clause-ready : goal.visit_each-requires-clause-ready

@@ -1,5 +1,4 @@
-use Rattle.dirty_idx.proofs.Common.{sym, ap, ◌∙◌, subst, node_count, AreOf, bit_readings}
-use Rattle.dirty_idx.proofs.ReadLemmas.{bits_below, readers_made}
+use Rattle.dirty_idx.proofs.Lemmas.{sym, ap, ◌∙◌, subst, node_count, AreOf, bit_readings, bits_below, readers_made}
 use Rattle.dirty_idx.proofs.readers.Readers.make.Goals as goal
 
 pub address_lists-requires-clause-nodes : goal.address_lists-requires-clause-nodes

@@ -1,5 +1,4 @@
-use Rattle.dirty_idx.proofs.Common.{MatchOption, sym, subst, IsLeast, IsEmpty}
-use Rattle.dirty_idx.proofs.MarkLemmas.{least_marks, empty_marks}
+use Rattle.dirty_idx.proofs.Lemmas.{MatchOption, sym, subst, IsLeast, IsEmpty, least_marks, empty_marks}
 use Rattle.dirty_idx.proofs.tiers.Tiers.first.Goals as goal
 
 pub returns-in_err-at : goal.returns-in_err-at

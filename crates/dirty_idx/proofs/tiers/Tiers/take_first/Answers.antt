@@ -1,5 +1,4 @@
-use Rattle.dirty_idx.proofs.Common.{◌+◌, ◌/◌, ◌<◌, length, MatchOption, sym, subst, arith, IsLeast, IsEmpty}
-use Rattle.dirty_idx.proofs.MarkLemmas.{word_within, mark_set, put_marks, least_marks, empty_marks, kept_taken}
+use Rattle.dirty_idx.proofs.Lemmas.{◌+◌, ◌/◌, ◌<◌, length, MatchOption, sym, subst, arith, IsLeast, IsEmpty, word_within, mark_set, put_marks, least_marks, empty_marks, kept_taken}
 use Rattle.dirty_idx.proofs.tiers.Tiers.take_first.Goals as goal
 
 pub returns-in_err-at-clause-least : goal.returns-in_err-at-clause-least

@@ -1,5 +1,4 @@
-use Rattle.flow_label.proofs.Common.{◌≡◌, ◌+◌, ◌≤◌, arith, sym, ap, ◌∙◌, length, get_or, vec_len, zeros, length-replicate}
-use Rattle.flow_label.proofs.StampLemmas.{length_values, values_none, zeros_none}
+use Rattle.flow_label.proofs.Lemmas.{◌≡◌, ◌+◌, ◌≤◌, arith, sym, ap, ◌∙◌, length, get_or, vec_len, zeros, length-replicate, length_values, values_none, zeros_none}
 use Rattle.flow_label.proofs.stamped.Stamped.clear.Goals as goal
 
 pub returns-then-self : goal.returns-then-self

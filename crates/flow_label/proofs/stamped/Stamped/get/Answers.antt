@@ -1,5 +1,4 @@
-use Rattle.flow_label.proofs.Common.{◌≡◌, ◌<◌, ◌≤◌, arith, sym, ap, ◌∙◌, length, get_or, vec_len, get_or_read}
-use Rattle.flow_label.proofs.StampLemmas.{value_here, value_none}
+use Rattle.flow_label.proofs.Lemmas.{◌≡◌, ◌<◌, ◌≤◌, arith, sym, ap, ◌∙◌, length, get_or, vec_len, get_or_read, value_here, value_none}
 use Rattle.flow_label.proofs.stamped.Stamped.get.Goals as goal
 use Rattle.flow_label.proofs.stamped.Stamped.get.Goals.{else-i-len-via-then-i-len+else-index-self, else-i-len-via-else-i-len}
 

@@ -1,5 +1,4 @@
-use Rattle.flow_label.proofs.Common.{arith, sym, ap, ◌∙◌, length, get_or}
-use Rattle.flow_label.proofs.StampLemmas.{values_none, zeros_none}
+use Rattle.flow_label.proofs.Lemmas.{arith, sym, ap, ◌∙◌, length, get_or, values_none, zeros_none}
 use Rattle.flow_label.proofs.stamped.Stamped.of.Goals as goal
 
 pub returns : goal.returns

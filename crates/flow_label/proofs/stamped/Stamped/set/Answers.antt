@@ -1,5 +1,4 @@
-use Rattle.flow_label.proofs.Common.{◌≡◌, arith, sym, ap, ◌∙◌, length, set}
-use Rattle.flow_label.proofs.StampLemmas.{length_values, values_set}
+use Rattle.flow_label.proofs.Lemmas.{◌≡◌, arith, sym, ap, ◌∙◌, length, set, length_values, values_set}
 use Rattle.flow_label.proofs.stamped.Stamped.set.Goals as goal
 
 pub index_mut-requires : goal.index_mut-requires

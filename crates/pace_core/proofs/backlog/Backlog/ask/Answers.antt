@@ -1,5 +1,4 @@
-use Rattle.pace_core.proofs.Common.{◌≡◌, false, List, length, take, sym, ap, ◌∙◌, subst, arith, slice_get-get_or, Write, written, differences, IsBehind}
-use Rattle.pace_core.proofs.DifferenceLemmas.{all_written, written-next, next_within, next_other}
+use Rattle.pace_core.proofs.Lemmas.{◌≡◌, false, List, length, take, sym, ap, ◌∙◌, subst, arith, slice_get-get_or, Write, written, differences, IsBehind, all_written, written-next, next_within, next_other}
 use Rattle.pace_core.proofs.backlog.Backlog.ask.Goals as goal
 
 pub turn-requires : goal.turn-requires

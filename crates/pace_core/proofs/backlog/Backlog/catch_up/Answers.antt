@@ -1,6 +1,4 @@
-use Rattle.pace_core.proofs.Common.{length, ap, arith, length-append, differences, BacklogValue}
-use Rattle.pace_core.proofs.StallLemmas.{catching_more}
-use Rattle.pace_core.proofs.DifferenceLemmas.{differences_few}
+use Rattle.pace_core.proofs.Lemmas.{length, ap, arith, length-append, differences, BacklogValue, catching_more, differences_few}
 use Rattle.pace_core.proofs.backlog.Backlog.catch_up.Goals as goal
 
 pub catch_up_once-requires-clause-room : goal.catch_up_once-requires-clause-room

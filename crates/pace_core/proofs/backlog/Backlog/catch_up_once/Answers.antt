@@ -1,6 +1,5 @@
-use Rattle.pace_core.proofs.Common.{◌≡◌, ◌<◌, ◌-◌, ◌++◌, [], ◌∷◌, length, sym, ap, subst, arith, length-set, BacklogValue, IsBehind, IsCaughtUp}
+use Rattle.pace_core.proofs.Lemmas.{◌≡◌, ◌<◌, ◌-◌, ◌++◌, [], ◌∷◌, length, sym, ap, subst, arith, length-set, BacklogValue, IsBehind, IsCaughtUp, empty_waits, mark_sent}
 use Rattle.late_device.specs.Late.{LateValue}
-use Rattle.pace_core.proofs.StallLemmas.{empty_waits, mark_sent}
 use Rattle.pace_core.proofs.backlog.Backlog.catch_up_once.Goals as goal
 
 pub note-requires : goal.note-requires

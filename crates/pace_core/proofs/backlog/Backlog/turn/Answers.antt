@@ -1,5 +1,4 @@
-use Rattle.pace_core.proofs.Common.{sym, ◌∙◌, subst, arith, BacklogValue, IsBehind}
-use Rattle.pace_core.proofs.StallLemmas.{turn_waits, turn_has_room, one_behind_less, one_behind_more}
+use Rattle.pace_core.proofs.Lemmas.{sym, ◌∙◌, subst, arith, BacklogValue, IsBehind, turn_waits, turn_has_room, one_behind_less, one_behind_more}
 use Rattle.pace_core.proofs.backlog.Backlog.turn.Goals as goal
 
 pub is_behind-requires : goal.is_behind-requires

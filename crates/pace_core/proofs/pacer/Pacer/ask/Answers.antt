@@ -1,5 +1,4 @@
-use Rattle.pace_core.proofs.Common.{◌+◌, List, length, refl, sym, ap, ◌∙◌, subst, arith, Write, AreTurns, IsWithinAsk, PacerValue}
-use Rattle.pace_core.proofs.KeepLemmas.{writes_turn, asked_behind, asked_keeps, ask_within}
+use Rattle.pace_core.proofs.Lemmas.{◌+◌, List, length, refl, sym, ap, ◌∙◌, subst, arith, Write, AreTurns, IsWithinAsk, PacerValue, writes_turn, asked_behind, asked_keeps, ask_within}
 use Rattle.pace_core.proofs.pacer.Pacer.ask.Goals as goal
 
 pub ask-requires : goal.ask-requires

@@ -1,5 +1,4 @@
-use Rattle.pace_core.proofs.Common.{sym, ap, ◌∙◌, length, TemplateValue, SimValue}
-use Rattle.pace_core.proofs.KeepLemmas.{made_keeps}
+use Rattle.pace_core.proofs.Lemmas.{sym, ap, ◌∙◌, length, TemplateValue, SimValue, made_keeps}
 use Rattle.pace_core.proofs.pacer.Pacer.make.Goals as goal
 
 pub invariant_of-result : goal.invariant_of-result

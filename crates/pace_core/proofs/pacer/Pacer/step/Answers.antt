@@ -1,5 +1,4 @@
-use Rattle.pace_core.proofs.Common.{◌≡◌, ◌+◌, Bool, List, length, sym, ◌∙◌, subst, Assign, IsConf, differences, PaceEvent, pace_value, PacerValue, asked, IsAsked, IsPaced}
-use Rattle.pace_core.proofs.KeepLemmas.{waits_for}
+use Rattle.pace_core.proofs.Lemmas.{◌≡◌, ◌+◌, Bool, List, length, sym, ◌∙◌, subst, Assign, IsConf, differences, PaceEvent, pace_value, PacerValue, asked, IsAsked, IsPaced, waits_for}
 use Rattle.pace_core.proofs.pacer.Pacer.step.Goals as goal
 
 pub returns-in-Ask-clause-paced : goal.returns-in-Ask-clause-paced

@@ -1,5 +1,4 @@
-use Rattle.pace_core.proofs.Common.{◌<◌, ◌+◌, sym, ap, ◌∙◌, subst, arith, IsWithinTick, PacerValue, IsTicked, waited, cycled}
-use Rattle.pace_core.proofs.KeepLemmas.{tick_steps, tick_waits, tick_within, cycle_within}
+use Rattle.pace_core.proofs.Lemmas.{◌<◌, ◌+◌, sym, ap, ◌∙◌, subst, arith, IsWithinTick, PacerValue, IsTicked, waited, cycled, tick_steps, tick_waits, tick_within, cycle_within}
 use Rattle.pace_core.proofs.pacer.Pacer.tick.Goals as goal
 
 pub catch_up-requires : goal.catch_up-requires

@@ -1,5 +1,4 @@
-use Rattle.pace_core.proofs.Common.{◌≡◌, List, Bool, length, sym, ◌∙◌, subst, IsConf, differences, PacerValue, HasStalls}
-use Rattle.pace_core.proofs.KeepLemmas.{waits_for, keeps_stalls}
+use Rattle.pace_core.proofs.Lemmas.{◌≡◌, List, Bool, length, sym, ◌∙◌, subst, IsConf, differences, PacerValue, HasStalls, waits_for, keeps_stalls}
 use Rattle.pace_core.proofs.pacer.Pacer.waiting.Goals as goal
 
 pub returns-clause-count : goal.returns-clause-count

@@ -1,5 +1,4 @@
-use Rattle.port_bank.proofs.Common.{true, false, ◌∙◌, err_from_is_err_and}
-use Rattle.port_bank.proofs.SendLemmas.{fills_more, fills_all, fills_breaks, at_place, inside_bits, past_bits}
+use Rattle.port_bank.proofs.Lemmas.{true, false, ◌∙◌, err_from_is_err_and, fills_more, fills_all, fills_breaks, at_place, inside_bits, past_bits}
 use Rattle.port_bank.proofs.bank.PortBank.fill.Goals as goal
 
 pub returns-in_err-call-clause-err : goal.returns-in_err-call-clause-err

@@ -1,5 +1,4 @@
-use Rattle.port_bank.proofs.Common.{sym, ◌∙◌, err_from_is_err_and}
-use Rattle.port_bank.proofs.SendLemmas.{broken_more, mends_now, mends_never, on_ok_at, on_err_at}
+use Rattle.port_bank.proofs.Lemmas.{sym, ◌∙◌, err_from_is_err_and, broken_more, mends_now, mends_never, on_ok_at, on_err_at}
 use Rattle.port_bank.proofs.bank.PortBank.mend.Goals as goal
 
 pub returns-in_err-replace-clause-err : goal.returns-in_err-replace-clause-err

@@ -1,5 +1,4 @@
-use Rattle.port_bank.proofs.Common.{arith, sym, map, length-map}
-use Rattle.port_bank.proofs.FilterLemmas.{parts_joined}
+use Rattle.port_bank.proofs.Lemmas.{arith, sym, map, length-map, parts_joined}
 use Rattle.port_bank.proofs.bank.PortBank.release.Goals as goal
 
 pub returns : goal.returns

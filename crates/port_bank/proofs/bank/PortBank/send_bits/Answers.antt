@@ -1,8 +1,4 @@
-use Rattle.port_bank.proofs.Common.{◌<◌, map, take, length, ap, refl, ◌∙◌, arith, err_from_is_err_and, writes_from, bank_seen}
-use Rattle.port_bank.proofs.RegionLemmas.{wide, has_port}
-use Rattle.port_bank.proofs.FilterLemmas.{serving_count, left_here, ascend_from}
-use Rattle.port_bank.proofs.SendLemmas.{sends_none, sends_more, sends_lost, sends_all, length-writes_from}
-use Rattle.port_bank.proofs.PlayLemmas.{sent_in_bank, lost_in_bank, no_port}
+use Rattle.port_bank.proofs.Lemmas.{◌<◌, map, take, length, ap, refl, ◌∙◌, arith, err_from_is_err_and, writes_from, bank_seen, wide, has_port, serving_count, left_here, ascend_from, sends_none, sends_more, sends_lost, sends_all, length-writes_from, sent_in_bank, lost_in_bank, no_port}
 use Rattle.port_bank.proofs.bank.PortBank.send_bits.Goals as goal
 
 pub returns-then-self-eq0 : goal.returns-then-self-eq0

@@ -1,5 +1,4 @@
-use Rattle.port_bank.proofs.Common.{sym, ◌∙◌, err_from_is_err_and}
-use Rattle.port_bank.proofs.SendLemmas.{steps_accepted, steps_mended, steps_lost, on_ok_at, on_err_at}
+use Rattle.port_bank.proofs.Lemmas.{sym, ◌∙◌, err_from_is_err_and, steps_accepted, steps_mended, steps_lost, on_ok_at, on_err_at}
 use Rattle.port_bank.proofs.bank.PortBank.send_one.Goals as goal
 
 pub returns-then-is_ok-clause-ok : goal.returns-then-is_ok-clause-ok

@@ -1,8 +1,4 @@
-use Rattle.port_bank.proofs.Common.{◌<◌, ℕ, Bool, List, map, take, length, get_or, false, ap, refl, ◌∙◌, arith, drop_more, err_from_is_err_and, In-get_or, Write, slice_get_within, AreBitsOf, bank_seen}
-use Rattle.port_bank.proofs.RegionLemmas.{wide, has_port}
-use Rattle.port_bank.proofs.FilterLemmas.{serving_count}
-use Rattle.port_bank.proofs.SendLemmas.{sends_none, sends_more, sends_lost, sends_all}
-use Rattle.port_bank.proofs.PlayLemmas.{sent_in_bank, lost_in_bank, no_port}
+use Rattle.port_bank.proofs.Lemmas.{◌<◌, ℕ, Bool, List, map, take, length, get_or, false, ap, refl, ◌∙◌, arith, drop_more, err_from_is_err_and, In-get_or, Write, slice_get_within, AreBitsOf, bank_seen, wide, has_port, serving_count, sends_none, sends_more, sends_lost, sends_all, sent_in_bank, lost_in_bank, no_port}
 use Rattle.port_bank.proofs.bank.PortBank.send_writes.Goals as goal
 
 -- a write's address is one of the configuration

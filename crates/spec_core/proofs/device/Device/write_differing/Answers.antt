@@ -1,6 +1,5 @@
 use mathlib.Core.Bool.{beq}
-use Rattle.spec_core.proofs.Common.{◌≡◌, Bool, true, false, not, cond, List, [], ◌∷◌, ◌++◌, length, map, slice_set, sym, ap, ◌∙◌, arith, append-nil, filter, range_with_len, get_or_read, get_or-set_other, xor, DeviceValue, config_bit, differs_at, write_of, bits_under, length-written}
-use Rattle.spec_core.proofs.StoreLemmas.{written-push, writes_few, one_more, test_differs}
+use Rattle.spec_core.proofs.Lemmas.{◌≡◌, Bool, true, false, not, cond, List, [], ◌∷◌, ◌++◌, length, map, slice_set, sym, ap, ◌∙◌, arith, append-nil, filter, range_with_len, get_or_read, get_or-set_other, xor, DeviceValue, config_bit, differs_at, write_of, bits_under, length-written, written-push, writes_few, one_more, test_differs}
 use Rattle.spec_core.proofs.device.Device.write_differing.Goals.{then-index-bit, else-index-bit}
 use Rattle.spec_core.proofs.device.Device.write_differing.Goals as goal
 

@@ -1,7 +1,5 @@
-use Rattle.spec_core.proofs.Common.{◌≡◌, Bool, false, List, [], ◌∷◌, ◌++◌, length, slice_set, sym, ap, ◌∙◌, arith, length-append, append_assoc, append-nil, length-set, is_marked, writes_where, config_bit, write_of, EvaluationValue, bits_under, length-written}
+use Rattle.spec_core.proofs.Lemmas.{◌≡◌, Bool, false, List, [], ◌∷◌, ◌++◌, length, slice_set, sym, ap, ◌∙◌, arith, length-append, append_assoc, append-nil, length-set, is_marked, writes_where, config_bit, write_of, EvaluationValue, bits_under, length-written, written-push, writes_few, least_written, fewer_left, none_written, length-bits_under, addresses_only}
 use Rattle.spec_core.proofs.MarkLemmas.{unmarked}
-use Rattle.spec_core.proofs.StoreLemmas.{written-push, writes_few, least_written, fewer_left, none_written}
-use Rattle.spec_core.proofs.SweepLemmas.{length-bits_under, addresses_only}
 use Rattle.spec_core.proofs.device.Device.write_marked.Goals as goal
 
 pub write-requires-clause-address : goal.write-requires-clause-address

@@ -1,5 +1,4 @@
-use Rattle.spec_core.proofs.Common.{◌*◌, ◌<◌, length, get_or, sym, ap, ◌∙◌, arith, slice_get-get_or, In-get_or, Lit, node_count, value_of, config_bit, EvaluationValue, bits_under}
-use Rattle.spec_core.proofs.SweepLemmas.{bit_of}
+use Rattle.spec_core.proofs.Lemmas.{◌*◌, ◌<◌, length, get_or, sym, ap, ◌∙◌, arith, slice_get-get_or, In-get_or, Lit, node_count, value_of, config_bit, EvaluationValue, bits_under, bit_of}
 use Rattle.spec_core.proofs.evaluation.Evaluation.bit.Goals as goal
 
 pub lit_value-requires : goal.lit_value-requires

@@ -1,5 +1,4 @@
-use Rattle.spec_core.proofs.Common.{List, Bool, ap, ◌∙◌, subst, FitsGraph, PackValue, ReadersValue, EvaluationValue, Belong, IsSweeping, IsSwept}
-use Rattle.spec_core.proofs.SweepLemmas.{Belong-idle, change_done}
+use Rattle.spec_core.proofs.Lemmas.{List, Bool, ap, ◌∙◌, subst, FitsGraph, PackValue, ReadersValue, EvaluationValue, Belong, IsSweeping, IsSwept, Belong-idle, change_done}
 use Rattle.spec_core.proofs.evaluation.Evaluation.change.Goals as goal
 
 pub returns-clause-change : goal.returns-clause-change

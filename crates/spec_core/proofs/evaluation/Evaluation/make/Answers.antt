@@ -1,5 +1,4 @@
-use Rattle.spec_core.proofs.Common.{false, List, length, replicate, ap, ◌∙◌, node_count, Lit}
-use Rattle.spec_core.proofs.SweepLemmas.{Belong-idle}
+use Rattle.spec_core.proofs.Lemmas.{false, List, length, replicate, ap, ◌∙◌, node_count, Lit, Belong-idle}
 use Rattle.spec_core.proofs.KeepLemmas.{start_params, IsIdle-start}
 use Rattle.spec_core.proofs.evaluation.Evaluation.make.Goals as goal
 

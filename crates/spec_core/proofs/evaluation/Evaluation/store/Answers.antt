@@ -1,5 +1,4 @@
-use Rattle.spec_core.proofs.Common.{◌<◌, ap, node_count, EvaluationValue}
-use Rattle.spec_core.proofs.StoreLemmas.{Belong-written}
+use Rattle.spec_core.proofs.Lemmas.{◌<◌, ap, node_count, EvaluationValue, Belong-written}
 use Rattle.spec_core.proofs.evaluation.Evaluation.store.Goals as goal
 
 pub invariant_of-self : goal.invariant_of-self

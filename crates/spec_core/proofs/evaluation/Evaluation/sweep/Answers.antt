@@ -1,6 +1,5 @@
-use Rattle.spec_core.proofs.Common.{sym, ap, subst, arith, IsAnd, IsNode, node_at, PackValue, EvaluationValue, Belong, product_of}
+use Rattle.spec_core.proofs.Lemmas.{sym, ap, subst, arith, IsAnd, IsNode, node_at, PackValue, EvaluationValue, Belong, product_of, visited, IsSweeping-more, swept}
 use Rattle.spec_core.proofs.LeastLemmas.{places_fall}
-use Rattle.spec_core.proofs.SweepLemmas.{visited, IsSweeping-more, swept}
 use Rattle.spec_core.proofs.evaluation.Evaluation.sweep.Goals as goal
 
 pub loop-n-smaller : goal.loop-n-smaller

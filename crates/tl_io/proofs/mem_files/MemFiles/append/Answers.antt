@@ -1,5 +1,4 @@
-use Rattle.tl_io.proofs.Common.{◌≡◌, ◌≤◌, ◌+◌, ◌∙◌, ◌++◌, Some, ap, subst, sym, refl, rules, arith, length, vec_len, IsOk, vec_capacity, Store, appended, written_bytes, written_room, extended, files_but, written_at}
-use Rattle.tl_io.proofs.StoreLemmas.{IsWriting, writing_there, appended_grown, appended_others, appended_in, first_appended, written_bytes_in, written_room_in}
+use Rattle.tl_io.proofs.Lemmas.{◌≡◌, ◌≤◌, ◌+◌, ◌∙◌, ◌++◌, Some, ap, subst, sym, refl, rules, arith, length, vec_len, IsOk, vec_capacity, Store, appended, written_bytes, written_room, extended, files_but, written_at, IsWriting, writing_there, appended_grown, appended_others, appended_in, first_appended, written_bytes_in, written_room_in}
 use Rattle.tl_io.proofs.mem_files.MemFiles.append.Goals as goal
 
 pub invariant_of-self : goal.invariant_of-self

@@ -1,5 +1,4 @@
-use Rattle.tl_io.proofs.Common.{◌≡◌, ◌∙◌, ap, sym, Some, None, List, position, get, MemFile, is_named, Store}
-use Rattle.tl_io.proofs.FirstNamed.{first_named, get-files_of, get-files_none}
+use Rattle.tl_io.proofs.Lemmas.{◌≡◌, ◌∙◌, ap, sym, Some, None, List, position, get, MemFile, is_named, Store, first_named, get-files_of, get-files_none}
 use Rattle.tl_io.proofs.mem_files.MemFiles.bytes.Goals as goal
 
 pub returns-in-Some : goal.returns-in-Some

@@ -1,6 +1,4 @@
-use Rattle.tl_io.proofs.Common.{◌≡◌, ◌∙◌, ap, sym, Some, None, is_some, List, refl, position, get, MemFile, is_named, Store, created}
-use Rattle.tl_io.proofs.FirstNamed.{is_some_there, get-files_none}
-use Rattle.tl_io.proofs.StoreLemmas.{created_there, created_none, first_created}
+use Rattle.tl_io.proofs.Lemmas.{◌≡◌, ◌∙◌, ap, sym, Some, None, is_some, List, refl, position, get, MemFile, is_named, Store, created, is_some_there, get-files_none, created_there, created_none, first_created}
 use Rattle.tl_io.proofs.mem_files.MemFiles.create.Goals as goal
 
 pub returns-in-Some-clause-found : goal.returns-in-Some-clause-found

@@ -1,6 +1,4 @@
-use Rattle.tl_io.proofs.Common.{◌≡◌, ◌∙◌, ap, sym, Some, None, is_some, List, position, get, MemFile, is_named, Store, opened}
-use Rattle.tl_io.proofs.FirstNamed.{is_some_there, get-files_none}
-use Rattle.tl_io.proofs.StoreLemmas.{opened_there, opened_none}
+use Rattle.tl_io.proofs.Lemmas.{◌≡◌, ◌∙◌, ap, sym, Some, None, is_some, List, position, get, MemFile, is_named, Store, opened, is_some_there, get-files_none, opened_there, opened_none}
 use Rattle.tl_io.proofs.mem_files.MemFiles.open.Goals as goal
 
 pub returns-in-Some-clause-found : goal.returns-in-Some-clause-found

@@ -1,5 +1,4 @@
-use Rattle.tl_io.proofs.Common.{◌≡◌, ◌∙◌, ap, sym, arith, length, written_bytes, written_room}
-use Rattle.tl_io.proofs.StoreLemmas.{written_bytes_in, written_room_in}
+use Rattle.tl_io.proofs.Lemmas.{◌≡◌, ◌∙◌, ap, sym, arith, length, written_bytes, written_room, written_bytes_in, written_room_in}
 use Rattle.tl_io.proofs.mem_files.MemFiles.room_left.Goals as goal
 
 pub returns-in-Writing : goal.returns-in-Writing

@@ -1,5 +1,4 @@
-use Rattle.std.proofs.Common.{replicate}
-use Rattle.tl_piece.specs.Added.{IsAdded}
+use Rattle.tl_piece.proofs.Common.{replicate, IsAdded}
 use Rattle.tl_piece.proofs.writer.Writer.add_repeated.Given as goal
 
 abbrev pub invariant-loop : goal.invariant-loop

@@ -1,5 +1,4 @@
-use Rattle.std.proofs.Common.{arith}
-use Rattle.std.proofs.lemmas.List.{take_all}
+use Rattle.tl_piece.proofs.Common.{arith, take_all}
 use Rattle.tl_piece.proofs.AddedLemmas.{added_none, added_as}
 use Rattle.tl_piece.proofs.PartLemmas.{added_next_byte}
 use Rattle.tl_piece.proofs.writer.Writer.add_text.Goals as goal

@@ -1,5 +1,4 @@
-use Rattle.std.proofs.Common.{take}
-use Rattle.tl_piece.specs.Added.{IsAdded}
+use Rattle.tl_piece.proofs.Common.{take, IsAdded}
 use Rattle.tl_piece.proofs.writer.Writer.add_text.Given as goal
 
 abbrev pub invariant-loop-byte : goal.invariant-loop-byte

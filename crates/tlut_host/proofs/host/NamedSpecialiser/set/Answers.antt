@@ -1,5 +1,4 @@
-use Rattle.tlut_host.proofs.Common.{ℕ, List, length, sym, ap, ◌∙◌, subst, AreAssigned, Assign}
-use Rattle.tlut_host.proofs.SettingLemmas.{settings_fit}
+use Rattle.tlut_host.proofs.Lemmas.{ℕ, List, length, sym, ap, ◌∙◌, subst, AreAssigned, Assign, settings_fit}
 use Rattle.tlut_host.proofs.host.NamedSpecialiser.set.Goals as goal
 
 pub change_with-requires-clause-assigns : goal.change_with-requires-clause-assigns

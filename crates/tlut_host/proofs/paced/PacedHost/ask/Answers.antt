@@ -1,6 +1,4 @@
-use Rattle.tlut_host.proofs.Common.{ℕ, List, length, map, sym, ap, ◌∙◌, subst, AreAssigned, Assign, PacedValue, IsRequest, IsAsk, settings_status, assign_of}
-use Rattle.tlut_host.proofs.PacedLemmas.{seen, asked}
-use Rattle.tlut_host.proofs.SettingLemmas.{settings_fit}
+use Rattle.tlut_host.proofs.Lemmas.{ℕ, List, length, map, sym, ap, ◌∙◌, subst, AreAssigned, Assign, PacedValue, IsRequest, IsAsk, settings_status, assign_of, seen, asked, settings_fit}
 use Rattle.tlut_host.proofs.paced.PacedHost.ask.Goals as goal
 
 pub request_with-requires-clause-assigns : goal.request_with-requires-clause-assigns

@@ -1,5 +1,4 @@
-use Rattle.tlut_host.proofs.Common.{Bool, false, List, [], length, replicate, refl, sym, ap, ◌∙◌, arith, PackValue, made_keeps}
-use Rattle.tlut_host.proofs.PacedLemmas.{no_circuit, pacing_of}
+use Rattle.tlut_host.proofs.Lemmas.{Bool, false, List, [], length, replicate, refl, sym, ap, ◌∙◌, arith, PackValue, made_keeps, no_circuit, pacing_of}
 use Rattle.tlut_host.proofs.paced.PacedHost.make.Goals as goal
 
 pub invariant_of-result : goal.invariant_of-result

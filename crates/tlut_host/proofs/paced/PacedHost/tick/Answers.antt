@@ -1,5 +1,4 @@
-use Rattle.tlut_host.proofs.Common.{ℕ, eqb, ap, subst, PacedValue, IsTick}
-use Rattle.tlut_host.proofs.PacedLemmas.{seen, ticked}
+use Rattle.tlut_host.proofs.Lemmas.{ℕ, eqb, ap, subst, PacedValue, IsTick, seen, ticked}
 use Rattle.tlut_host.proofs.paced.PacedHost.tick.Goals as goal
 
 pub returns : goal.returns

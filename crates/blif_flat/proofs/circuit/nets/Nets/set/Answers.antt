@@ -1,5 +1,4 @@
-use Rattle.blif_flat.proofs.Common.{sym, subst, IsNets}
-use Rattle.blif_flat.proofs.Connections.NetCopyLemmas.{with_slot-nets}
+use Rattle.blif_flat.proofs.Lemmas.{sym, subst, IsNets, with_slot-nets}
 use Rattle.blif_flat.proofs.circuit.nets.Nets.set.Goals as goal
 
 pub returns-in-Some-clause-nets : goal.returns-in-Some-clause-nets

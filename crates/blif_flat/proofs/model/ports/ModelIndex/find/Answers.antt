@@ -1,5 +1,4 @@
-use Rattle.blif_flat.proofs.Common.{◌∙◌, sym, subst, ap, place_of, Finds}
-use Rattle.blif_flat.proofs.Models.NameSetLemmas.{finds}
+use Rattle.blif_flat.proofs.Lemmas.{◌∙◌, sym, subst, ap, place_of, Finds, finds}
 use Rattle.blif_flat.proofs.model.ports.ModelIndex.find.Goals as goal
 
 pub returns-in-None-clause-model : goal.returns-in-None-clause-model

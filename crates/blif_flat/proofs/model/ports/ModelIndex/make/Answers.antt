@@ -1,5 +1,4 @@
-use Rattle.blif_flat.proofs.Common.{◌≡◌, [], with_names, model_names, ◌∙◌, new_names}
-use Rattle.blif_flat.proofs.Models.NameSetLemmas.{few_model_names, all_names}
+use Rattle.blif_flat.proofs.Lemmas.{◌≡◌, [], with_names, model_names, ◌∙◌, new_names, few_model_names, all_names}
 use Rattle.blif_flat.proofs.model.ports.ModelIndex.make.Goals as goal
 
 pub invariant_of-result : goal.invariant_of-result

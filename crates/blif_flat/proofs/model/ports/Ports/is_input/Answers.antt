@@ -1,5 +1,4 @@
-use Rattle.blif_flat.proofs.Common.{◌∙◌, ap, Ports, has_name}
-use Rattle.blif_flat.proofs.Models.NameSetLemmas.{has_inputs}
+use Rattle.blif_flat.proofs.Lemmas.{◌∙◌, ap, Ports, has_name, has_inputs}
 use Rattle.blif_flat.proofs.model.ports.Ports.is_input.Goals as goal
 
 pub returns-clause-model : goal.returns-clause-model

@@ -1,5 +1,4 @@
-use Rattle.blif_flat.proofs.Common.{◌∙◌, ap, ModelValue}
-use Rattle.blif_flat.proofs.Models.NameSetLemmas.{ports_of_parts}
+use Rattle.blif_flat.proofs.Lemmas.{◌∙◌, ap, ModelValue, ports_of_parts}
 use Rattle.blif_flat.proofs.model.ports.Ports.make.Goals as goal
 
 pub returns : goal.returns
