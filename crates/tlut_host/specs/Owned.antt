@@ -7,7 +7,7 @@ use Rattle.std_heap.specs.declared.Global.{Global}
 use Rattle.std_heap.specs.contracts.GlobalAllocator.TheImpl.{ghosts}
 use Rattle.std_alloc.specs.Box.Ownership.{box_owns}
 use Rattle.tlut_host.specs.declared.host.NamedSpecialiser.{NamedSpecialiser}
-use Rattle.tlut_host.specs.contracts.host.Host.{the_row}
+use Rattle.tlut_host.specs.contracts.host.NamedSpecialiser.{the_row}
 use Rattle.tlut_host.specs.declared.paced.PacedHost.{PacedHost}
 use Rattle.tlut_host.specs.contracts.paced.PacedHost.{the_row as the_paced_row}
 

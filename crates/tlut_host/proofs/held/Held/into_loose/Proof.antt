@@ -5,7 +5,7 @@ use Rattle.std_heap.specs.contracts.Global as heap
 use Rattle.std_heap.proofs.Global.TheLaws as heap_laws
 use Rattle.tlut_host.proofs.Values.{both, loose_in}
 use Rattle.tlut_host.proofs.HeldValues.{slot_at, held_val, grip_told, held_full}
-use Rattle.tlut_host.specs.contracts.host.Host as state
+use Rattle.tlut_host.specs.contracts.host.NamedSpecialiser as state
 use Rattle.tlut_host.specs.contracts.held.Held.into_loose.{ended, clauses}
 use Rattle.tlut_host.specs.contracts.held.Held.into_loose.Key.{name as #self}
 use Rattle.tlut_host.proofs.held.Held.into_loose.Statement.{statement}

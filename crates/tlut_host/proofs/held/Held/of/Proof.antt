@@ -4,7 +4,7 @@ use Rattle.std_heap.specs.contracts.Global as heap
 use Rattle.std_heap.proofs.Global.TheLaws as heap_laws
 use Rattle.tlut_host.proofs.Values.{both, loose_good, loose_out}
 use Rattle.tlut_host.proofs.HeldValues.{slot_at, held_val, Grip, grip_made}
-use Rattle.tlut_host.specs.contracts.host.Host as state
+use Rattle.tlut_host.specs.contracts.host.NamedSpecialiser as state
 use Rattle.tlut_host.specs.contracts.held.Held as held
 use Rattle.tlut_host.specs.contracts.held.Held.of.{ended, clauses}
 use Rattle.tlut_host.specs.contracts.held.Held.of.Key.{name as #self}
