@@ -1,9 +1,12 @@
 -- A worked example: the multiplexer `.names p a b y` with the rows `11- 1` and `0-1 1`, over the inputs a, b and p, of which p is the parameter. Its nodes are 4 = a · p, 5 = b · not p and
 -- 6 = not 4 · not 5, and its root is the complement of node 6, the literal 13.
-use Rattle.aig_build.proofs.Common.{◌≡◌, ℕ, true, false, List, [], ◌∷◌, codes, None, refl, Zero, One, Any, CoverValue, LibraryValue, FlatNet, Input, Cover, FlatCoverValue, FlatValue, Param, Regular, Parameter, Lit, Aig, RootsValue, Literals}
+use Rattle.aig_build.proofs.Common.{◌≡◌, ℕ, Bool, true, false, List, [], ◌∷◌, codes, None, refl, Zero, One, Any, CoverValue, LibraryValue, FlatNet, Input, Cover, FlatCoverValue, FlatValue, Param, Regular, Parameter, Lit, Aig, RootsValue, Literals}
 use Rattle.netlist.specs.declared.command.Body.TheVariants.{Cover as CoverBody}
-use Rattle.aig_core.proofs.ValueExample.{pair}
+use Rattle.aig_core.proofs.ValueExample.{pair, values_101, fits_101}
 use Rattle.aig_build.specs.NetlistGraph.{source_kinds, input_names, IsSourceLiteral, an_input, Makes, a_source, a_cover, MakesAll, none, more, AreRootsMade, IsGraphOf}
+use Rattle.std.specs.Prelude.{not, bytes_eq}
+use Rattle.machine.specs.Machine.{IsRun, steps, stops}
+use Rattle.aig_build.specs.NetlistCycle.{graph_machine}
 use Rattle.aig_build.proofs.OnlyLemmas.{cover_is}
 
 abbrev choice : CoverValue
@@ -77,3 +80,10 @@ literals = record { outputs = lit 13 ∷ []; next = [] }
 
 is_graph : IsGraphOf library circuit params 3 graph literals
 is_graph = record { made = made; are_made = roots; kinds = refl; pairs = refl; literals = refl; outputs = refl; max = refl }
+
+-- With a = 1, b = 0 and p = 1 its machine gives a's value.
+abbrev values : List ℕ → Bool
+values name = not (bytes_eq name (codes "b"))
+
+run : IsRun (graph_machine circuit params graph literals) (values ∷ []) ((true ∷ []) ∷ []) ([] ∷ [])
+run = record { start = []; starts = refl; runs = steps values [] (true ∷ []) [] [] [] (record { states = refl; values = values_101; fits = fits_101; outputs_are = refl; next_are = refl }) stops }

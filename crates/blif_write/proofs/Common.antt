@@ -27,7 +27,7 @@ pub use Rattle.list_laws.proofs.Ranges.{in_range, of_range, ranges_join}
 pub use Rattle.list_laws.proofs.TwoLists.{get_right}
 pub use Rattle.list_laws.specs.Digits.{bit_value, digit, number}
 pub use Rattle.list_laws.specs.Members.{In}
-pub use Rattle.lut_sim.specs.Cycle.{IsTableCycle, address, leaf_values, table_machine}
+pub use Rattle.lut_sim.specs.Cycle.{IsTableCycle, address, leaf_values, lut_machine}
 pub use Rattle.lut_sim.specs.Sources.{is_plain, is_regular, last_source, source_value}
 pub use Rattle.lut_sim.specs.declared.shape.Shape.{Shape}
 pub use Rattle.netlist.proofs.UnderscoreLemmas.{many_underscores, few_underscores}

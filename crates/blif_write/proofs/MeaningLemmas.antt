@@ -1,10 +1,11 @@
 -- What the two written netlists mean.
-use Rattle.blif_write.proofs.Common.{◌≡◌, ℕ, zero, suc, ◌+◌, ◌-◌, ◌^◌, ◌<◌, ◌≤◌, Bool, false, List, [], ◌∷◌, ◌++◌, length, map, filter, slice_index_or, Option, refl, sym, ap, ◌∙◌, inl, inr, arith, length-append, flat_map, range_with_len, length-map, length-replicate, length-map-range_with_len, sum_by-cons, In, digit, In-append, In-map, from_map, AreOnce, LatchValue, CoverValue, HasOneCycle, address, Denotes, IsWellFormedBody, FlatLatch, FlatValue, Param, Lit, Lut, HaveBases, bits_of, TemplateValue, of_range, in_range, joined_apart, Cover, PlainNetlist, netlist_text, library_of, Naming, naming_of, bit_name, table_name, literal_name, digit_cell, digit_cells, leaf_names, bit_names, chosen_cells, fixed_table, tunable_table, written_latches, with_tables, specialised_netlist, template_netlist, HasPorts, AreTablesOf, Means, driven_by, free_control, all_bit_names, input_bits, rules, library_machine, table_machine, reading}
+use Rattle.blif_write.proofs.Common.{◌≡◌, ℕ, zero, suc, ◌+◌, ◌-◌, ◌^◌, ◌<◌, ◌≤◌, Bool, false, List, [], ◌∷◌, ◌++◌, length, map, filter, slice_index_or, Option, refl, sym, ap, ◌∙◌, inl, inr, arith, length-append, flat_map, range_with_len, length-map, length-replicate, length-map-range_with_len, sum_by-cons, In, digit, In-append, In-map, from_map, AreOnce, LatchValue, CoverValue, HasOneCycle, address, Denotes, IsWellFormedBody, FlatLatch, FlatValue, Param, Lit, Lut, HaveBases, bits_of, TemplateValue, of_range, in_range, joined_apart, Cover, PlainNetlist, netlist_text, library_of, Naming, naming_of, bit_name, table_name, literal_name, digit_cell, digit_cells, leaf_names, bit_names, chosen_cells, fixed_table, tunable_table, written_latches, with_tables, specialised_netlist, template_netlist, HasPorts, AreTablesOf, Means, driven_by, free_control, all_bit_names, input_bits, rules, library_machine, lut_machine, reading, IsTableCycle, regular_names}
 use Rattle.blif_write.proofs.DenoteLemmas.{denotes_plain}
 use Rattle.blif_write.proofs.TableCycleLemmas.{bits_in_order, inputs_again, in_all, table_cycle, fixed_valued, tunable_valued}
 use Rattle.netlist.proofs.LawLemmas.{sound_law}
 use Rattle.netlist.specs.FlatCycle.{flat_inits}
 use Rattle.machine.proofs.RefineLemmas.{refines_by}
+use Rattle.lut_sim.proofs.FitLemmas.{cycle_only}
 use Rattle.blif_write.proofs.PlainCycleLemmas.{PlainFits, IsPlainCycle, plain_cycle, plain_inits, plain_has_cycle, plain_has_run}
 use Rattle.blif_write.proofs.PlainFlatLemmas.{plain_flat}
 use Rattle.blif_write.proofs.PlainSoundLemmas.{IsOrderly, plain_sound}
@@ -100,10 +101,16 @@ module _ (flat : FlatValue) (params : List Param) (t : TemplateValue) (ports : H
         sound = plain_sound n order;
         is_flat = plain_flat n order;
         inputs = λ again h. inputs_again flat params t bits (map table t.luts) ports are.roots.next covers.bits_own again h ∙ ap (λ (k : List (List ℕ)). g.regular ++ (free_control flat.control ++ k)) named;
-        refines = refines_by (library_machine (library_of n)) (reading (driven_by flat params config) (table_machine t g.shape (flat_inits flat)))
+        refines = refines_by (library_machine (library_of n)) (reading (driven_by flat params config) (lut_machine t g.shape (flat_inits flat)))
             (λ x s outputs next c.
             let p : IsPlainCycle n x s outputs next = plain_cycle n x s outputs next c in
-            table_cycle flat params t bits (map table t.luts) ports are x s p.value p.fits (config x) outputs next p.outputs_are p.next_are (valued x s p.value p.fits))
+            let is : IsTableCycle t g.shape (config x) (map x g.regular) s outputs next = table_cycle flat params t bits (map table t.luts) ports are x s p.value p.fits (config x) outputs next p.outputs_are p.next_are (valued x s p.value p.fits) in
+            record {
+              inputs = length-map (regular_names flat params) x;
+              states = p.states ∙ latch_count g flat.control 0 flat.latches t.next are.roots.next;
+              is = is;
+              only = cycle_only t g.shape (config x) (map x g.regular) s outputs next is.value are.playable is.fits is.outputs_are is.next_are;
+            })
             (λ s a. plain_inits n s a ∙ inits_are g flat.control 0 flat.latches t.next are.roots.next);
         has_cycle = λ x s len. plain_has_cycle n law x s (len ∙ sym (latch_count g flat.control 0 flat.latches t.next are.roots.next));
         has_run = plain_has_run n law;

@@ -7,7 +7,7 @@ use Rattle.netlist.specs.FlatCycle.{flat_inits}
 use Rattle.netlist.specs.Runs.{library_machine}
 use Rattle.netlist.specs.Sound.{IsSound}
 use Rattle.lut_sim.specs.Playable.{IsPlayable}
-use Rattle.lut_sim.specs.Cycle.{Driven, table_machine}
+use Rattle.lut_sim.specs.Cycle.{LutInput, lut_machine}
 use Rattle.blif_read.specs.Denotes.{Denotes}
 use Rattle.blif_write.specs.PlainNetlist.{PlainNetlist, library_of, netlist_text}
 use Rattle.blif_write.specs.Netlists.{specialised_netlist, template_netlist}
@@ -46,7 +46,7 @@ free_control None = []
 free_control (Some name) = if bytes_eq name (codes "NIL") then name ∷ [] else []
 
 -- what the tables take under the values x of the inputs, by their names: the regular inputs' values, and a configuration that may depend on x
-abbrev pub driven_by : FlatValue → List Param → ((List ℕ → Bool) → List Bool) → (List ℕ → Bool) → Driven
+abbrev pub driven_by : FlatValue → List Param → ((List ℕ → Bool) → List Bool) → (List ℕ → Bool) → LutInput
 driven_by flat params config x = record { config = config x; values = map x (regular_names flat params) }
 
 -- The library of a written netlist is sound. It has a flat circuit, whose inputs are the regular ones, this control, and configuration bits of these names. It has a cycle from any states under any values, and a run under any. Its machine refines that of the
@@ -55,7 +55,7 @@ pub record Means (flat : FlatValue) (params : List Param) (t : TemplateValue) (n
   pub sound : IsSound (library_of n)
   pub is_flat : (again : FlatValue) × IsFlat (library_of n) again
   pub inputs : (again : FlatValue) → IsFlat (library_of n) again → again.inputs ≡ regular_names flat params ++ (free_control flat.control ++ bits)
-  pub refines : Refines (library_machine (library_of n)) (reading (driven_by flat params config) (table_machine t (naming_of flat params).shape (flat_inits flat)))
+  pub refines : Refines (library_machine (library_of n)) (reading (driven_by flat params config) (lut_machine t (naming_of flat params).shape (flat_inits flat)))
   pub has_cycle : (x : List ℕ → Bool) (s : List Bool) → length s ≡ length flat.latches → GivesCycle (library_machine (library_of n)) x s
   pub has_run : (xs : List (List ℕ → Bool)) → GivesRun (library_machine (library_of n)) xs
 

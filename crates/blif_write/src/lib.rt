@@ -13,7 +13,7 @@
 //! without subcircuits. `OrderlyLemmas.antt` shows that the netlists of LUTs are in order, and `TableCycleLemmas.antt` that
 //! their cycles are those of the LUTs.
 //!
-//! - `names.rt` and `words.rt` have the names. The bytes wait in a `Piece` of `tl_piece`.
+//! - `names.rt` and `words.rt` have the names. The bytes wait in a `WriteBuffer` of `tl_piece`.
 //! - `rows.rt` and `tables.rt` have the LUTs, `latches.rt` and `wires.rt` the other commands, `writing.rt` the whole netlist.
 #![tactic(auto)]
 

@@ -24,7 +24,7 @@ pub use Rattle.spec_core.specs.Differences.{differences}
 pub use Rattle.tl_io.specs.Content.{extended}
 pub use Rattle.tl_io.specs.Shelf.{Files}
 pub use Rattle.cmd_pace.specs.Verdict.{HaveShown, IsAllPaced, HasPace, IsPaceCut, pace_walk, IsShown}
-pub use Rattle.cmd_pace.specs.Headline.{stage_of, IsFirst, shown_machine, ShowAll, HasPaceHeadline, PaceStage, ShowsAsk, ShowsStep, ShowsWait, ShowsTick, Shows, StallsAnywhere}
+pub use Rattle.cmd_pace.specs.Headline.{stage_of, IsFirst, shown_pace_machine, ShowAll, HasPaceHeadline, PaceStage, ShowsAsk, ShowsStep, ShowsWait, ShowsTick, Shows, StallsAnywhere}
 pub use Rattle.machine.proofs.PassLemmas.{then_one, passes_keep, passes_over}
 pub use Rattle.cmd_pace.specs.Job.{PaceJob, StartsPace, IsPaceStart, pacer_header, PaceWords, scripted_of, pace_seen}
 pub use Rattle.cmd_pace.specs.Ready.{IsReadyFor, CanPace, StartsAt, EventsEnd}

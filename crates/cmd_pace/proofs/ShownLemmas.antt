@@ -1,5 +1,5 @@
 -- Asks and ticks show the source circuit.
-use Rattle.cmd_pace.proofs.Common.{◌≡◌, ℕ, Bool, List, [], ◌∷◌, length, map, take, refl, sym, ap, ◌∙◌, subst, inl, inr, arith, length-take, In, TemplateValue, Shape, PackValue, IsConf, differences, length-assigned, PaceValue, Ask, Tick, PacerValue, Shown, shown_line, IsAsked, IsStep, IsWait, IsTicked, steps, waits, IsPaced, ArePaced, Source, width_of, shape_of, IsTunable, cycle_count, param_count, PaceStage, stage_of, ShowsAsk, ShowsStep, ShowsWait, ShowsTick, Shows, ShowAll, shown_machine, pacer_machine, passes_over, IsSourceCycle}
+use Rattle.cmd_pace.proofs.Common.{◌≡◌, ℕ, Bool, List, [], ◌∷◌, length, map, take, refl, sym, ap, ◌∙◌, subst, inl, inr, arith, length-take, In, TemplateValue, Shape, PackValue, IsConf, differences, length-assigned, PaceValue, Ask, Tick, PacerValue, Shown, shown_line, IsAsked, IsStep, IsWait, IsTicked, steps, waits, IsPaced, ArePaced, Source, width_of, shape_of, IsTunable, cycle_count, param_count, PaceStage, stage_of, ShowsAsk, ShowsStep, ShowsWait, ShowsTick, Shows, ShowAll, shown_pace_machine, pacer_machine, passes_over, IsSourceCycle}
 use Rattle.tl_io.specs.Assigns.{assigned}
 use Rattle.tl_io.specs.Writes.{written}
 use Rattle.tl_io.specs.declared.Assign.{Assign}
@@ -34,7 +34,10 @@ module _ (source : Source) (template : TemplateValue) (rate : ℕ) (pack : PackV
   of_tables : (Holds : TemplateValue → Shape → Type 0) (p : PacerValue) → IsKept p → Holds p.sim.template p.sim.shape → Holds template (shape_of source)
   of_tables Holds p kept holds = subst (λ (t : TemplateValue). Holds t (shape_of source)) kept.template_is (subst (λ (f : Shape). Holds p.sim.template f) kept.shape_is holds)
 
-  -- no other values than those that a step plays fit the tables
+  -- the values that a step plays fit the tables, and no others do
+  step_is : (values : List Bool) (old new : PacerValue) (one : Shown) → IsKept old → (s : IsStep values old new one) → IsTableCycle template (shape_of source) old.config values old.sim.states s.outputs s.states
+  step_is values old new one kept s = of_tables (λ (t : TemplateValue) (f : Shape). IsTableCycle t f old.config values old.sim.states s.outputs s.states) old kept s.cycle
+
   step_plays : (values : List Bool) (old new : PacerValue) (one : Shown) → IsKept old → (s : IsStep values old new one) → IsOnlyTableCycle template (shape_of source) old.config values old.sim.states s.outputs s.states
   step_plays values old new one kept s = of_tables (λ (t : TemplateValue) (f : Shape). IsOnlyTableCycle t f old.config values old.sim.states s.outputs s.states) old kept s.only
 
@@ -42,14 +45,14 @@ module _ (source : Source) (template : TemplateValue) (rate : ℕ) (pack : PackV
   step_cycle : (values : List Bool) (old new : PacerValue) (one : Shown) → length values ≡ width_of source → IsKept old → (s : IsStep values old new one) → IsSourceCycle source old.params values old.sim.states s.outputs s.states
   step_cycle values old new one fits kept s =
       (tunable.tables.refines old.params old.config (kept.steady.params ∙ param_count source template pack tunable) (subst (λ (q : PackValue). IsConf q old.params old.config) kept.steady.pack_is s.right)).cycles
-      values old.sim.states s.outputs s.states (record { inputs = fits; states = kept.states; only = step_plays values old new one kept s })
+      values old.sim.states s.outputs s.states (record { inputs = fits; states = kept.states; is = step_is values old new one kept s; only = step_plays values old new one kept s })
 
   shows_step : (values : List Bool) (old new : PacerValue) (one : Shown) → length values ≡ width_of source → IsKept old → IsStep values old new one → ShowsStep source tunable.graph template rate values (stage_of old) (shown_line one) (stage_of new)
   shows_step values old new one fits kept s =
       subst (λ (p : PacerValue). ShowsStep source tunable.graph template rate values (stage_of old) (shown_line one) (stage_of p)) (sym s.becomes) (record {
         is = config_is old old.params old.config kept kept.steady.params s.right;
         outputs = s.outputs;
-        is_play = of_tables (λ (t : TemplateValue) (f : Shape). IsTableCycle t f old.config values old.sim.states s.outputs s.states) old kept s.cycle;
+        is_play = step_is values old new one kept s;
         plays = step_plays values old new one kept s;
         cycle = step_cycle values old new one fits kept s;
         line_is = ap shown_line s.shows;
@@ -111,4 +114,4 @@ module _ (source : Source) (template : TemplateValue) (rate : ℕ) (pack : PackV
       → ShowAll source tunable.graph template rate (stage_of old) events (map shown_line shown) (stage_of new)
   all_shown old new kept are fits =
       passes_over pacer_machine (λ event. pace.Fits (length source.params.list) (width_of source) event) IsKept (λ event from one to here kept is. paced_kept event from to one here kept is)
-      (shown_machine source tunable.graph template rate) stage_of shown_line (λ event from one to here kept is. shows event from to one here kept is) fits kept are
+      (shown_pace_machine source tunable.graph template rate) stage_of shown_line (λ event from one to here kept is. shows event from to one here kept is) fits kept are

@@ -5,7 +5,7 @@ use Rattle.run_text.specs.ScriptText.{IsScript}
 use Rattle.run_text.specs.declared.event.Forms.TheVariants.{Pace}
 use Rattle.run_text.proofs.FitLemmas.{events_fit}
 use Rattle.pace_core.specs.EventValue as pace
-use Rattle.pace_core.specs.PaceText.{ArePaced}
+use Rattle.pace_core.specs.PaceText.{AreAsksAndTicks}
 use Rattle.pace_core.proofs.PaceTextLemmas as texts
 use Rattle.run_text.specs.declared.event.Forms.TheVariants as forms
 use Rattle.pace_core.proofs.PaceTextLemmas.{script_paced}
@@ -23,7 +23,7 @@ module _ (source : Source) (bits : ℕ) where
   kept_fit read fits event i = as_listed event (texts.kept_fit (names_in Pace source bits) (width_of source) read refl fits event i)
 
   -- and those of a script
-  pub script_fits : (text : List ℕ) (read : List EventValue) (events : List PaceValue) → IsScript (names_in Pace source bits) text read → ArePaced read events
+  pub script_fits : (text : List ℕ) (read : List EventValue) (events : List PaceValue) → IsScript (names_in Pace source bits) text read → AreAsksAndTicks read events
       → (event : PaceValue) → In events event → pace.Fits (length source.params.list) (width_of source) event
   script_fits text read events is are event i =
       as_listed event (texts.events_fit (names_in Pace source bits) (width_of source) read events refl are (events_fit (names_in Pace source bits) _ read is.are) event i)
@@ -46,7 +46,7 @@ ready_for files words s ready comes starts are =
       is_job = record {
         read = read;
         is = comes.has;
-        events = subst (λ es. ArePaced read es) (sym are) (script_paced (names_in forms.Pace s.mapped.source s.mapped.tables.template.bits) comes.has.script.text read refl comes.has.script.is);
+        events = subst (λ es. AreAsksAndTicks read es) (sym are) (script_paced (names_in forms.Pace s.mapped.source s.mapped.tables.template.bits) comes.has.script.text read refl comes.has.script.is);
       };
       start = record { start = starts.0; rate_is = starts.1 };
       events = refl;

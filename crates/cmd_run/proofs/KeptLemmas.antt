@@ -1,5 +1,5 @@
 -- What stays from one event of a script to the next while no bit stands upset: the pack and the LUTs, how many values and states there are, and that the configuration is the one specialised from scratch.
-use Rattle.cmd_run.proofs.Common.{◌≡◌, ℕ, Bool, List, length, sym, ap, ◌∙◌, subst, same_Some, EventValue, Set, Cycle, Upset, Scrub, Image, Fits, TemplateValue, PackValue, IsConf, HasOneConf, IsOnlyTableCycle, Shape, SimValue, SpecialiserValue, IsRight, FitsShape, Source, names_of, shape_of, IsTunable, IsNoUpset, Stage, IsStep, cycle_count, param_count, IsSourceCycle}
+use Rattle.cmd_run.proofs.Common.{◌≡◌, ℕ, Bool, List, length, sym, ap, ◌∙◌, subst, same_Some, EventValue, Set, Cycle, Upset, Scrub, Image, Fits, TemplateValue, PackValue, IsConf, HasOneConf, IsTableCycle, IsOnlyTableCycle, Shape, SimValue, SpecialiserValue, IsRight, FitsShape, Source, names_of, shape_of, IsTunable, IsNoUpset, Stage, IsStep, cycle_count, param_count, IsSourceCycle}
 use Rattle.spec_core.proofs.AssignLemmas.{length-assigned}
 
 -- the cycles that a script may name fit the circuit's tables
@@ -45,7 +45,7 @@ module _ (source : Source) (template : TemplateValue) (pack : PackValue) (tunabl
       → IsSourceCycle source old.machine.host.state.params values old.machine.sim.states new.machine.sim.outputs new.machine.sim.states
   cycle_is values old new fits kept step =
       (tunable.tables.refines old.machine.host.state.params old.machine.host.state.config (kept.params ∙ param_count source template pack tunable) kept.right).cycles
-      values old.machine.sim.states new.machine.sim.outputs new.machine.sim.states (record { inputs = fits; states = kept.states; only = of_tables IsOnlyTableCycle values old new kept step.played.one })
+      values old.machine.sim.states new.machine.sim.outputs new.machine.sim.states (record { inputs = fits; states = kept.states; is = of_tables IsTableCycle values old new kept step.played.clock; only = of_tables IsOnlyTableCycle values old new kept step.played.one })
 
   -- what does not depend on the event
   with_rest : (event : EventValue) (old new : Stage) → IsKept old → IsStep event old new → length new.machine.host.state.params ≡ length old.machine.host.state.params → length new.machine.sim.states ≡ length old.machine.sim.states

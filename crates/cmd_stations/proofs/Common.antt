@@ -46,7 +46,7 @@ pub use Rattle.flow_label.specs.Lows.{AreLowsOf, HasOneLow}
 pub use Rattle.list_laws.proofs.Members.{map_agree, In-left, In-right, place_in, length-filter_le, In-filter, In-map}
 pub use Rattle.list_laws.proofs.Places.{get_left, replicate_at}
 pub use Rattle.list_laws.specs.Members.{In}
-pub use Rattle.lut_sim.specs.Cycle.{FitsTables, IsTableCycle, lut_machine}
+pub use Rattle.lut_sim.specs.Cycle.{FitsTables, lut_machine, under}
 pub use Rattle.lut_sim.specs.GraphShape.{HasShape, AreSourceValues}
 pub use Rattle.lut_sim.specs.Playable.{IsPlayable}
 pub use Rattle.lut_sim.specs.Sources.{is_regular, last_source}

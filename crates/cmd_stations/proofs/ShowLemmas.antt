@@ -1,10 +1,11 @@
 -- The LUTs of a source circuit's graph, under the configuration of any values of the parameters, play the source circuit's cycles.
-use Rattle.cmd_stations.proofs.Common.{◌≡◌, ℕ, Bool, List, length, map, sym, ap, ◌∙◌, subst, length-map, In, In-left, In-right, AreOnce, flat_inits, Param, PackParam, param_names, param_inits, is_split, Lit, Aig, first_and, AreNormal, roots_of, lits_of, value_of, HasOneFit, input_names, source_values, literal_values, Lut, TemplateValue, FitsTables, PackValue, inits_of, pack_param, IsPackOf, Source, width_of, shape_of, source_machine, HasTables, IsReadSource, HasSourceTables, refines_by, lut_machine}
+use Rattle.cmd_stations.proofs.Common.{◌≡◌, ℕ, Bool, List, length, map, refl, sym, ap, ◌∙◌, subst, length-map, In, In-left, In-right, AreOnce, flat_inits, Param, PackParam, param_names, param_inits, is_split, Lit, Aig, first_and, AreNormal, roots_of, lits_of, value_of, HasOneFit, input_names, source_values, literal_values, Lut, TemplateValue, FitsTables, PackValue, IsConf, inits_of, pack_param, IsPackOf, Source, width_of, shape_of, source_machine, HasTables, IsReadSource, HasSourceTables, refines_by, lut_machine, under, IsPlayable}
 use Rattle.std.proofs.lemmas.Simd.{map-map}
 use Rattle.aig_core.proofs.FitLemmas.{one_fit}
 use Rattle.bit_fun.specs.Configuration.{IsMapped, IsLawful}
 use Rattle.bit_fun.specs.PackLaw.{HasConfigurations}
 use Rattle.bit_fun.proofs.PackLemmas.{pack_made, params_len as pack_params}
+use Rattle.lut_sim.proofs.FitLemmas.{cycle_only}
 use Rattle.cmd_stations.proofs.SourceLemmas.{next_roots, source_shape, source_params, source_values_are, source_values_count}
 use Rattle.cmd_stations.proofs.InputLemmas.{input_at, parts_are}
 
@@ -54,14 +55,17 @@ module _ (source : Source) (read : IsReadSource source) (g : Aig) (normal : AreN
       law (shape_of source) values s (sources x s) (values_in x s states).values (source_shape source g h.is_graph.kinds) (source_values_are source params values s (names_once source read) params_len len states)
       (values_in x s states).fits
 
-  pub tables_play : (pack : PackValue) → IsPackOf g t.luts source.params.list pack → HasConfigurations g t.luts pack → HasSourceTables source t pack
-  tables_play pack is conf = record {
-    refines = λ params config params_len is_conf. refines_by (lut_machine t (shape_of source) config (flat_inits source.netlist.flat)) (source_machine source params) (λ values s outputs next c.
+  -- a configuration of the pack has the bits of the template's tables
+  lawful : (pack : PackValue) → IsPackOf g t.luts source.params.list pack → HasConfigurations g t.luts pack → (params config : List Bool) → length params ≡ length source.params.list → IsConf pack params config → IsLawful g t.luts params config
+  lawful pack is conf params config len = conf.law params config (len ∙ sym (pack_params g t.luts source.params.list pack is))
+
+  pub tables_play : (pack : PackValue) → IsPackOf g t.luts source.params.list pack → HasConfigurations g t.luts pack → IsPlayable t (shape_of source) → HasSourceTables source t pack
+  tables_play pack is conf playable = record {
+    refines = λ params config params_len is_conf. refines_by (under config (lut_machine t (shape_of source) (flat_inits source.netlist.flat))) (source_machine source params) (λ values s outputs next c.
         let x = input_at source params values in
         let parts = parts_are source (names_once source read) params values params_len c.inputs in
         let graph = values_in x s c.states in
-        let law : IsLawful g t.luts params config = conf.law params config (params_len ∙ sym (pack_params g t.luts source.params.list pack is)) is_conf in
-        let fits = table_values params config values s law params_len c.inputs c.states in
+        let fits = table_values params config values s (lawful pack is conf params config params_len is_conf) params_len c.inputs c.states in
         record {
           x = x;
           regular = parts.0;
@@ -75,4 +79,19 @@ module _ (source : Source) (read : IsReadSource source) (g : Aig) (normal : AreN
           });
         })
         (read.netlist.cycles.agrees).back.starts;
+    gives = λ params config values s params_len is_conf len states.
+        let value : ℕ → Bool = value_of (values_in (input_at source params values) s states).values in
+        let fits = table_values params config values s (lawful pack is conf params config params_len is_conf) params_len len states in
+        let outputs : List Bool = map value (lits_of t.outputs) in
+        let next : List Bool = map value (lits_of t.next) in
+        record {
+          output = outputs;
+          next = next;
+          is = record {
+            inputs = len;
+            states = states;
+            is = record { value = value; fits = fits; outputs_are = refl; next_are = refl };
+            only = cycle_only t (shape_of source) config values s outputs next value playable fits refl refl;
+          };
+        };
   }

@@ -1,8 +1,7 @@
 -- The written netlists of a source circuit mean the source circuit: read again, their cycles and their runs are its own.
-use Rattle.cmd_stations.proofs.Common.{◌≡◌, ℕ, Bool, List, [], ◌++◌, length, refl, sym, ap, ◌∙◌, append-nil, length-map, LibraryValue, FlatLatch, FlatValue, Place, latch_at, Param, regular_names, TemplateValue, IsConf, IsCycle, IsTableCycle, Means, free_control, all_bit_names, input_bits, naming_of, PlainNetlist, library_of, Source, SourceTables, shape_of, source_machine, IsSourceCycle, IsReadSource, AreMade, regular_values, RunsAs, HasConfiguration, IsTuned, specialised_of, template_of, refines_by}
+use Rattle.cmd_stations.proofs.Common.{◌≡◌, ℕ, Bool, List, [], ◌++◌, length, ap, ◌∙◌, append-nil, LibraryValue, FlatValue, Param, regular_names, TemplateValue, IsConf, IsCycle, Means, free_control, all_bit_names, input_bits, naming_of, PlainNetlist, library_of, Source, SourceTables, source_machine, IsSourceCycle, IsReadSource, AreMade, regular_values, RunsAs, HasConfiguration, IsTuned, specialised_of, template_of, refines_by}
 use Rattle.machine.specs.Machine.{reading, restricted}
-use Rattle.netlist.specs.Runs.{AreInits, init_state, inits_of, library_machine}
-use Rattle.lut_sim.proofs.FitLemmas.{cycle_only}
+use Rattle.netlist.specs.Runs.{AreInits, library_machine}
 use Rattle.blif_write.proofs.MeaningLemmas.{specialised_denotes, template_denotes, specialised_means, template_means}
 use Rattle.cmd_stations.proofs.WrittenTableLemmas.{has_ports}
 
@@ -24,21 +23,9 @@ module _ (source : Source) (read : IsReadSource source) (tables : SourceTables) 
     starts_are : (states : List Bool) → AreInits library states → AreInits source.netlist.library states
     starts_are states inits = (read.netlist.cycles.agrees).back.starts states ((means.refines).starts states inits)
 
-    -- its cycle has a state for each latch
-    state_count : (x : List ℕ → Bool) (states outputs next : List Bool) → IsCycle library x states outputs next → length states ≡ length flat.latches
-    state_count x states outputs next c =
-        c.states ∙ sym (length-map c.latches (λ (p : Place). init_state (latch_at library p)))
-        ∙ ap length ((means.refines).starts (inits_of library c.latches) (record { main = c.main; latches = c.latches; are_latches = c.are_latches; are = refl })) ∙ length-map flat.latches (λ (l : FlatLatch). l.init)
-
-    -- and is the source circuit's, where the tables have a configuration of these values
+    -- its cycle is the source circuit's, where the tables have a configuration of these values
     cycle_is : (x : List ℕ → Bool) (states outputs next : List Bool) → IsConf tables.pack given (config x) → IsCycle library x states outputs next → IsSourceCycle source given (regular_values source x) states outputs next
-    cycle_is x states outputs next conf c =
-        let t : IsTableCycle template (shape_of source) (config x) (regular_values source x) states outputs next = (means.refines).cycles x states outputs next c in
-        (made.tunable.tables.refines given (config x) len conf).cycles (regular_values source x) states outputs next (record {
-          inputs = length-map (regular_names flat params) x;
-          states = state_count x states outputs next c;
-          only = cycle_only template (shape_of source) (config x) (regular_values source x) states outputs next t.value made.written.playable t.fits t.outputs_are t.next_are;
-        })
+    cycle_is x states outputs next conf c = (made.tunable.tables.refines given (config x) len conf).cycles (regular_values source x) states outputs next ((means.refines).cycles x states outputs next c)
 
   -- The specialised netlist runs as the source circuit.
   pub specialised_runs : (given config : List Bool) → length given ≡ length params → IsConf tables.pack given config → RunsAs source given (specialised_of source template config)

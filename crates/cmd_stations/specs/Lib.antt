@@ -7,7 +7,7 @@ pub mod Source
 -- of a script and of a pack,
 pub mod Script
 pub mod Packs
--- what the tables, their bits and the written netlists mean,
+-- what the LUTs, their bits and the written netlists mean,
 pub mod Tunable
 pub mod Written
 -- and what events do to a machine and to its host, and put.

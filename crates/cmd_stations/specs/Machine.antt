@@ -48,7 +48,7 @@ pub record IsLoaded (config : List Bool) (old new : BankSeen) : Type 0 where
   pub places : KeepsPlaces old new
   pub holds : Holds config new
 
--- an event was played, all its writes were sent, and the ports hold the configuration behind it
+-- an event was played, all its writes were sent, and the ports hold the configuration after it
 pub record IsStep (event : EventValue) (old new : Stage) : Type 0 where
   pub played : IsPlayed event old.machine new.machine
   pub steady : IsSteady event old.machine.host new.machine.host
@@ -57,7 +57,7 @@ pub record IsStep (event : EventValue) (old new : Stage) : Type 0 where
   pub places : KeepsPlaces old.bank new.bank
   pub holds : Holds new.machine.host.state.config new.bank
 
--- The machine of a script: it starts where the ports hold the configuration, and in a cycle it takes an event and gives its line.
+-- The machine of a script: it starts wherever the ports hold the configuration (`HasCome` says where a job's script starts), and in a cycle it takes an event and gives its line.
 abbrev pub script_machine : MealyMachine EventValue Stage (List ℕ)
 script_machine = record { IsStart = λ stage. Holds stage.machine.host.state.config stage.bank; HasCycle = λ event old line new. IsStep event old new × line ≡ event_line event new.machine }
 

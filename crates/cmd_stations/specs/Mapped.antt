@@ -51,7 +51,7 @@ pub record HasFewLeaves (g : Aig) (k : ℕ) (t : Lut) : Type 0 where
   pub few : length t.leaves ≤ k
   pub each : (m : ℕ) → In t.leaves m → CanBeLeaf g m
 
--- What is so of the chosen template: its tables map the graph with at most k inputs each, none of them a parameter, and their cuts are a cover of the least depth over all covers.
+-- What is so of the chosen template: its LUTs map the graph with at most k inputs each, none of them a parameter, and their cuts are a cover of the least depth over all covers.
 pub record IsLeastMapping (g : Aig) (k : ℕ) (roots : RootsValue) (t : TemplateValue) : Type 0 where
   pub mapping : IsMapping g k (roots_of roots) t.luts t.bits
   pub small : (u : Lut) → In t.luts u → HasFewLeaves g k u

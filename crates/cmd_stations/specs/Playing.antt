@@ -4,7 +4,7 @@ use Rattle.std.specs.List.{concat}
 use Rattle.tl_io.specs.Content.{extended}
 use Rattle.cmd_stations.specs.Script.{IsSplit}
 
--- a fault of writing in the text in front: a prefix of it stands
+-- a fault of writing in the text in front: only a prefix of it is put
 pub record IsCutInFront (front : List ℕ) (before after : Option (List ℕ)) : Type 0 where
   pub part : ℕ
   pub within : part < length front

@@ -24,7 +24,7 @@ pub record HasScript (files : Files) (name : List ℕ) (names : NamesValue) (eve
   pub there : HasText files name text
   pub is : IsScript names text events
 
--- an event of a script, behind others
+-- an event of a script, after others
 pub record IsSplit {Event : Type 0} (events before : List Event) (event : Event) : Type 0 where
   pub after : List Event
   pub is : events ≡ before ++ event ∷ after

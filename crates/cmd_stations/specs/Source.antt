@@ -9,7 +9,7 @@ use Rattle.cmd_stations.specs.declared.source.Source.{Source}
 use Rattle.cmd_stations.specs.Texts.{HasText, IsLongText, IsNetlistText, NetlistRefusal, IsParamsRefusal, is_aag}
 use Rattle.cmd_stations.specs.Mapped.{AreLabelsBy, IsLeastMapping, IsMapped, Aim, IsBuilt, IsUnmade, IsChosen, IsUnchosen, IsUnmapped, ToGraph, ToLabels, ToTables, IsUnbuilt, IsUnlabelled}
 
--- the rule by which cuts are chosen, the size of the tables, and the words that name the netlist and the parameters
+-- the rule by which cuts are chosen, the size of the LUTs, and the words that name the netlist and the parameters
 pub record SourceWords : Type 0 where
   pub rule : Rule
   pub k : ℕ
@@ -30,7 +30,7 @@ source_words rule (Some k) netlist params = Some (record { rule = rule; k = k; n
 abbrev pub source_seen : SourceWordsRead → SourceWords
 source_seen words = record { rule = words.rule; k = words.k; netlist = words.netlist.now; params = words.params.now }
 
--- the size of the tables is from 2 to the most leaves of a cut
+-- the size of the LUTs is from 2 to the most leaves of a cut
 pub record IsTableSize (k : ℕ) : Type 0 where
   pub least : 2 ≤ k
   pub most : k ≤ MOST_LEAVES
@@ -79,7 +79,7 @@ pub record IsMappedFrom (files : Files) (words : SourceWords) : Type 0 where
   pub template : TemplateValue
   pub has : HasMapped files words source template
 
--- the walk comes to a file; a script is read behind the mapping
+-- the walk comes to a file; a script is read after the mapping
 abbrev pub ReachesSource : Files → SourceWords → File → Type 0
 ReachesSource files words Netlist = Unit {0}
 ReachesSource files words Params = (n : NetlistValue) × HasNetlist files words n

@@ -45,7 +45,7 @@ pub record HasTables (source : Source) (g : Aig) (t : TemplateValue) : Type 0 wh
   pub chosen : IsChosen rule g k roots t
   pub least : IsLeastMapping g k roots t
 
--- the tables of a source circuit by a template of its graph: the pack of their bits, and their shape, which can be played and written; and the file of the pack is its own
+-- the LUTs of a source circuit by a template of its graph: the pack of their bits, and their shape, which can be played and written; and the file of the pack is its own
 pub record AreMade (source : Source) (t : SourceTables) : Type 0 where
   pub tunable : IsTunable source t.template t.pack
   pub names : map (λ (p : PackParam). p.name) t.pack.params ≡ param_names source.params.list
@@ -57,7 +57,7 @@ pub record AreMade (source : Source) (t : SourceTables) : Type 0 where
   pub written : AreTablesOf source.netlist.flat source.params.list t.template
   pub file : IsPackFile (present_bytes t.pack) t.pack
 
--- its tables by the chosen template
+-- its LUTs by the chosen template
 pub record AreTables (rule : Rule) (source : Source) (k : ℕ) (t : SourceTables) : Type 0 where
   pub mapped : IsMapped rule source k t.template
   pub least : IsLeastMapping mapped.graph k mapped.roots t.template
@@ -108,7 +108,7 @@ pub record ComesToLabels (files : Files) (words : SourceWords) (l : LabelledSour
   pub has : HasLabels files words l.built.source l.built.graph l.built.roots
   pub settled : IsSourceSettled ToLabels files words
 
--- its source circuit was read and mapped to its tables, and its regular inputs stand at its places
+-- its source circuit was read and mapped to its LUTs, and its regular inputs stand at its places
 pub record IsDraft (d : WritableSource) : Type 0 where
   pub read : IsReadSource d.mapped.source
   pub made : AreMade d.mapped.source d.mapped.tables

@@ -1,17 +1,20 @@
 -- The configuration bits of a source circuit's LUTs as functions of its parameters.
 use Rattle.std.specs.Prelude.{◌≡◌, Bool, List, length}
-use Rattle.cmd_stations.specs.Words.{Aig, RootsValue, IsGraphOf, HasOneGraph, TemplateValue, PackValue, IsConf, Refines, flat_inits}
+use Rattle.cmd_stations.specs.Words.{Aig, RootsValue, IsGraphOf, HasOneGraph, TemplateValue, PackValue, IsConf, GivesCycle, Refines, flat_inits}
 use Rattle.bit_fun.specs.PackOf.{IsPackOf}
 use Rattle.bit_fun.specs.PackLaw.{HasConfigurations}
-use Rattle.lut_sim.specs.Cycle.{lut_machine}
+use Rattle.lut_sim.specs.Cycle.{lut_machine, under}
 use Rattle.cmd_stations.specs.declared.limits.TheConstants.{GRAPH_ROOM}
 use Rattle.cmd_stations.specs.declared.source.Source.{Source}
-use Rattle.cmd_stations.specs.SourceCircuit.{shape_of, source_machine}
+use Rattle.cmd_stations.specs.SourceCircuit.{width_of, shape_of, source_machine}
 
--- Where no bit stands upset, the tables are the source circuit: under the configuration of any values of the parameters, their machine refines the source circuit's under these values.
+-- If no bit is upset, the LUTs are the source circuit: under the configuration of any values of the parameters, they have a cycle from each state under each input, and their machine refines the source circuit's under these values.
 pub record HasSourceTables (source : Source) (template : TemplateValue) (pack : PackValue) : Type 0 where
   pub refines : (params config : List Bool) → length params ≡ length source.params.list → IsConf pack params config
-      → Refines (lut_machine template (shape_of source) config (flat_inits source.netlist.flat)) (source_machine source params)
+      → Refines (under config (lut_machine template (shape_of source) (flat_inits source.netlist.flat))) (source_machine source params)
+  pub gives : (params config values s : List Bool) → length params ≡ length source.params.list → IsConf pack params config
+      → length values ≡ width_of source → length s ≡ length source.netlist.flat.latches
+      → GivesCycle (under config (lut_machine template (shape_of source) (flat_inits source.netlist.flat))) values s
 
 -- the bits of a template as functions of the parameters, in one pack over the source circuit's one graph: its configurations are the template's, and its tables are the source circuit
 pub record IsTunable (source : Source) (template : TemplateValue) (pack : PackValue) : Type 0 where

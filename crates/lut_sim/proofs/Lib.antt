@@ -4,3 +4,4 @@ pub mod FitLemmas
 pub mod RoomLemmas
 mod MappingLemmas
 pub mod SourceLemmas
+mod CycleExample

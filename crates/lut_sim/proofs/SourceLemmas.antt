@@ -57,7 +57,7 @@ abbrev pub one_latch : Shape
 one_latch = record { regular = 0; params = 0; latches = 1 }
 
 -- the only member of a list of one
-only : {A : Type 0} (x y : A) → In (x ∷ []) y → y ≡ x
+pub only : {A : Type 0} (x y : A) → In (x ∷ []) y → y ≡ x
 only x y (inl e) = e
 only x y (inr i) = elim i [ ]
 

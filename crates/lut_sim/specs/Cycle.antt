@@ -2,7 +2,7 @@
 use Rattle.std.specs.Prelude.{◌≡◌, ℕ, ◌+◌, ◌*◌, Bool, false, IsTrue, List, length, map, slice_index_or}
 use Rattle.lut_sim.specs.Words.{In, lits_of, Lut, TemplateValue}
 use Rattle.list_laws.specs.Digits.{number}
-use Rattle.machine.specs.Machine.{MealyMachine}
+use Rattle.machine.specs.Machine.{MealyMachine, reading}
 use Rattle.lut_sim.specs.declared.shape.Shape.{Shape}
 use Rattle.lut_sim.specs.Sources.{is_regular, is_plain, source_value}
 
@@ -32,20 +32,21 @@ pub record IsOnlyTableCycle (t : TemplateValue) (shape : Shape) (config inputs s
   pub next_are : (value : ℕ → Bool) → FitsTables t.luts shape config inputs states value → next ≡ map value (lits_of t.next)
 
 -- what a cycle of LUTs takes: their configuration, and values of the regular inputs
-pub record Driven : Type 0 where
+pub record LutInput : Type 0 where
   pub config : List Bool
   pub values : List Bool
 
--- The machine of LUTs: in each cycle it takes a configuration and values of the regular inputs, and it starts at its latches' inits.
-abbrev pub table_machine : TemplateValue → Shape → List Bool → MealyMachine Driven (List Bool) (List Bool)
-table_machine t shape inits = record { IsStart = λ s. s ≡ inits; HasCycle = λ x s outputs next. IsTableCycle t shape x.config x.values s outputs next }
-
--- a cycle with a value for each regular input, and a state for each latch
-pub record IsLutCycle (t : TemplateValue) (shape : Shape) (config x s outputs next : List Bool) : Type 0 where
-  pub inputs : length x ≡ shape.regular
+-- A cycle takes a value for each regular input and a state for each latch. Some values of the literals fit, and under all that fit the roots have the outputs and next states.
+pub record IsLutCycle (t : TemplateValue) (shape : Shape) (x : LutInput) (s outputs next : List Bool) : Type 0 where
+  pub inputs : length x.values ≡ shape.regular
   pub states : length s ≡ shape.latches
-  pub only : IsOnlyTableCycle t shape config x s outputs next
+  pub is : IsTableCycle t shape x.config x.values s outputs next
+  pub only : IsOnlyTableCycle t shape x.config x.values s outputs next
 
--- The machine of LUTs under one configuration: it takes values of the regular inputs.
-abbrev pub lut_machine : TemplateValue → Shape → List Bool → List Bool → MealyMachine (List Bool) (List Bool) (List Bool)
-lut_machine t shape config inits = record { IsStart = λ s. s ≡ inits; HasCycle = IsLutCycle t shape config }
+-- The machine of LUTs: in each cycle it takes a configuration and values of the regular inputs, and it starts at its latches' inits.
+abbrev pub lut_machine : TemplateValue → Shape → List Bool → MealyMachine LutInput (List Bool) (List Bool)
+lut_machine t shape inits = record { IsStart = λ s. s ≡ inits; HasCycle = IsLutCycle t shape }
+
+-- under one configuration it takes values of the regular inputs
+abbrev pub under : List Bool → MealyMachine LutInput (List Bool) (List Bool) → MealyMachine (List Bool) (List Bool) (List Bool)
+under config m = reading (λ values. record { config = config; values = values }) m

@@ -17,7 +17,7 @@ pub record IsPlayable (t : TemplateValue) (shape : Shape) : Type 0 where
   -- such a leaf is below its table's node, and its positive literal has a table
   pub below : (u : Lut) (m : ℕ) → In t.luts u → In u.leaves m → last_source shape < m → m < u.lit.0 / 2
   pub fed : (u : Lut) (m : ℕ) → In t.luts u → In u.leaves m → last_source shape < m → HasLut t.luts (2 * m)
-  -- the tables ascend by their literals, and their bases and bits are the sums of the bits before
+  -- the LUTs ascend by their literals, and their bases and bits are the sums of the bits before
   pub ascending : AscendByLit t.luts
   pub bases : HaveBases 0 t.luts
   pub sum : t.bits ≡ bits_of t.luts

@@ -18,7 +18,7 @@ with_sources values n (b ∷ bs) = with_sources (slice_set values (2 * n) b) (n 
 abbrev pub with_table : Shape → List Bool → List Bool → Lut → List Bool
 with_table shape config values t = if is_plain shape t.lit.0 then values else slice_set values t.lit.0 (slice_index_or config (address (value_in values) t) false)
 
--- the tables in order
+-- the LUTs in order
 abbrev pub with_tables : Shape → List Bool → List Bool → List Lut → List Bool
 with_tables shape config values [] = values
 with_tables shape config values (t ∷ ts) = with_tables shape config (with_table shape config values t) ts

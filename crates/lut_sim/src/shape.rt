@@ -46,6 +46,7 @@ impl Shape {
         requires { IsPlayable template.now self.now }
         ensures { result ≡ length template.now.luts }
     {
+        // The proof needs this field's model.
         let _bits = template.bits;
         template.luts.len() as u32
     }

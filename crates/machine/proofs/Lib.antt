@@ -1,3 +1,4 @@
--- The laws that other crates cite.
+-- The laws that other crates cite, and a worked example.
 pub mod RefineLemmas
 pub mod PassLemmas
+mod Example

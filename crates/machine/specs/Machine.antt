@@ -18,12 +18,12 @@ pub record IsRun {I S O : Type 0} (m : MealyMachine I S O) (xs : List I) (output
   pub starts : m.IsStart start
   pub runs : Runs m start xs outputs states
 
--- The same cycles by the state behind them.
+-- The same cycles, with only the state after the last one.
 pub data Passes {I S O : Type 0} (m : MealyMachine I S O) : S → List I → List O → S → Type 0 where
   none : {s : S} → Passes m s [] [] s
   more : {old new : S} {xs : List I} {outputs : List O} (x : I) (output : O) (mid : S) → m.HasCycle x old output mid → Passes m mid xs outputs new → Passes m old (x ∷ xs) (output ∷ outputs) new
 
--- the state behind cycles, from the one before them and those after each
+-- the state after the last of some cycles, from the one before them and those after each
 abbrev pub end_of : {S : Type 0} → S → List S → S
 end_of s [] = s
 end_of s (next ∷ states) = end_of next states
@@ -39,7 +39,7 @@ pub record GivesRun {I S O : Type 0} (m : MealyMachine I S O) (xs : List I) : Ty
   pub states : List S
   pub is : IsRun m xs outputs states
 
--- under one input, from one state, a machine has one output and one next state
+-- under one input, from one state, a machine has at most one output and at most one next state
 pub record IsDetermined {I S O : Type 0} (m : MealyMachine I S O) : Type 0 where
   pub outputs : (x : I) (s : S) (output other : O) (next last : S) → m.HasCycle x s output next → m.HasCycle x s other last → output ≡ other
   pub states : (x : I) (s : S) (output other : O) (next last : S) → m.HasCycle x s output next → m.HasCycle x s other last → next ≡ last
@@ -51,7 +51,7 @@ reading read m = record { IsStart = m.IsStart; HasCycle = λ x s output next. m.
 abbrev pub restricted : {I S O : Type 0} → (I → Type 0) → MealyMachine I S O → MealyMachine I S O
 restricted Allows m = record { IsStart = m.IsStart; HasCycle = λ x s output next. Allows x × m.HasCycle x s output next }
 
--- One machine refines another: it starts only where the other does, each of its cycles is one of the other's, and so each of its runs is one of the other's.
+-- One machine refines another: it starts only where the other does, each of its cycles is one of the other's, and so each of its runs is one of the other's. It may have fewer cycles, or none.
 pub record Refines {I S O : Type 0} (low high : MealyMachine I S O) : Type 0 where
   pub starts : (s : S) → low.IsStart s → high.IsStart s
   pub cycles : (x : I) (s : S) (output : O) (next : S) → low.HasCycle x s output next → high.HasCycle x s output next

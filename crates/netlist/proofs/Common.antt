@@ -13,7 +13,7 @@ pub use Rattle.list_laws.proofs.Places.{at_within, set_here, set_other, get_end,
 pub use Rattle.list_laws.proofs.Reversed.{reversed_in}
 pub use Rattle.list_laws.proofs.TwoLists.{item_there}
 pub use Rattle.list_laws.specs.Members.{In}
-pub use Rattle.netlist.specs.{Latch, LatchValue, LatchAt, Net, input_net, latch_net, cover_net, Drives, IsClock, Place, is_latch, FlatOrder, IsSound, own_of, has_name, listed, controls, ModelValue, Path, body_at, CoverAt, FlatNet, an_input, a_latch, a_cover, IsNetOf, AreNetsOf, cover_numbers, IsFlat, reads_at, inputs_at, IsFlatCover, same_place, latch_at, OutPort, FlatLatch, flat_roots, IsFlatLatch, flat_outputs, flat_next, Cover, Body, Subckt, Command, Connection, subckts_of, model_named, model_at, is_input, is_output, Driver, by_input, IsDriver, input, latch, cover, output, by_latch, by_cover, by_subckt, cover_at, with_cover, covers_among, reads_in, reads_of, ConnectionAt, IsMainInput, main_input, latch_output, cover_output, from_inside, from_outside, input_actual, model_output, AreNets, Ordered, is_cover, IsDriven, ReadsCover, Depends, direct, through, latch_covers, all_latch_covers, roots_of, LoopWalk, leads, Repeat, Meets, met, goes, MeetsAll, inputs_of, AreOnce, model_names, placed, Ends, ends, input_ports, IsNumbered, TellsClocks, IsControl, some_latch, no_latch, with_control_net, most_underscores, PostsAll, HasOneFlat, own_places, InFlatOrder, InFlatOrderUnder, flat, latch_in, Zero, cover_value, IsRead, cover_input, Fits, HasOneCycle}
+pub use Rattle.netlist.specs.{Latch, LatchValue, LatchAt, Net, input_net, latch_net, cover_net, Drives, IsClock, Place, is_latch, FlatOrder, IsSound, own_of, has_name, listed, controls, ModelValue, Path, body_at, CoverAt, FlatNet, an_input, a_latch, a_cover, IsNetOf, AreNetsOf, cover_numbers, IsFlat, reads_at, inputs_at, IsFlatCover, same_place, latch_at, OutPort, FlatLatch, flat_roots, IsFlatLatch, flat_machine, Cover, Body, Subckt, Command, Connection, subckts_of, model_named, model_at, is_input, is_output, Driver, by_input, IsDriver, input, latch, cover, output, by_latch, by_cover, by_subckt, cover_at, with_cover, covers_among, reads_in, reads_of, ConnectionAt, IsMainInput, main_input, latch_output, cover_output, from_inside, from_outside, input_actual, model_output, AreNets, Ordered, is_cover, IsDriven, ReadsCover, Depends, direct, through, latch_covers, all_latch_covers, roots_of, LoopWalk, leads, Repeat, Meets, met, goes, MeetsAll, inputs_of, AreOnce, model_names, placed, Ends, ends, input_ports, IsNumbered, TellsClocks, IsControl, some_latch, no_latch, with_control_net, most_underscores, PostsAll, HasOneFlat, own_places, InFlatOrder, InFlatOrderUnder, flat, latch_in, Zero, cover_value, IsRead, cover_input, Fits, HasOneCycle}
 pub use Rattle.netlist.specs.CoverValue.{CoverValue}
 pub use Rattle.netlist.specs.Flat.{Places, underscores}
 pub use Rattle.netlist.specs.FlatCoverValue.{FlatCoverValue}

@@ -1,5 +1,5 @@
 -- A worked example of flat circuits: two inverters in a row, each an instance, and a latch behind them.
-use Rattle.netlist.proofs.Common.{◌≡◌, true, false, [], ◌∷◌, codes, None, refl, inl, inr, Zero, Cover, Latch, Subckt, LatchValue, ModelValue, cover_net, cover_output, from_inside, from_outside, is_cover, FlatOrder, flat, flat_roots, IsNetOf, a_cover, most_underscores, flat_outputs, flat_next, CoverValue, SubcktValue, LibraryValue, Places, FlatValue, more, none}
+use Rattle.netlist.proofs.Common.{◌≡◌, true, false, [], ◌∷◌, codes, None, refl, inl, inr, Zero, Cover, Latch, Subckt, LatchValue, ModelValue, cover_net, cover_output, from_inside, from_outside, is_cover, FlatOrder, flat, flat_roots, IsNetOf, a_cover, most_underscores, flat_machine, CoverValue, SubcktValue, LibraryValue, Places, FlatValue, more, none}
 use Rattle.netlist.specs.declared.flat.FlatNet.TheVariants as net
 
 -- .model top / .inputs a / .outputs y q / .subckt inv i=a o=t / .subckt inv i=t o=y / .latch y q 1 / .model inv / .inputs i / .outputs o / .names i o / 0 1
@@ -69,11 +69,8 @@ roots : flat_roots circuit ≡ 1 ∷ 1 ∷ []
 roots = refl
 
 -- A cycle with the input 1 in the state 0 has the outputs 1 and 0, and the next state 1.
-outputs : flat_outputs library circuit (true ∷ []) (false ∷ []) ≡ true ∷ false ∷ []
-outputs = refl
-
-next : flat_next library circuit (true ∷ []) (false ∷ []) ≡ true ∷ []
-next = refl
+cycle : (flat_machine library circuit).HasCycle (true ∷ []) (false ∷ []) (true ∷ false ∷ []) (true ∷ [])
+cycle = record { states = refl; outputs_are = refl; next_are = refl }
 
 -- two of `__a` and one of `_b`
 under : most_underscores (codes "__a" ∷ codes "_b" ∷ codes "c_" ∷ []) ≡ 2

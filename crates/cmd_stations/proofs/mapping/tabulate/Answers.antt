@@ -15,6 +15,7 @@ returns-clause-made c =
     let graph = c.args.graph.now in
     let pack = c.in_ok-pack.pack in
     let tables = c.requires.tables in
+    let playable = subst (λ (s : Shape). IsPlayable c.args.template s) c.source_shape-shape.ensures.value (c.source_shape-shape.ensures.playable c.args.template tables) in
     record {
       tunable = record {
         graph = graph;
@@ -23,7 +24,7 @@ returns-clause-made c =
         one_graph = tables.one_graph;
         pack_is = c.in_ok-pack.ensures.pack;
         configurations = c.in_ok-pack.ensures.conf;
-        tables = tables_play source c.requires.read graph c.requires.normal c.args.template tables pack c.in_ok-pack.ensures.pack c.in_ok-pack.ensures.conf;
+        tables = tables_play source c.requires.read graph c.requires.normal c.args.template tables pack c.in_ok-pack.ensures.pack c.in_ok-pack.ensures.conf playable;
       };
       names = pack_param_names graph c.args.template.luts source.params.list pack c.in_ok-pack.ensures.pack;
       inits = pack_inits graph c.args.template.luts source.params.list pack c.in_ok-pack.ensures.pack;
@@ -31,8 +32,6 @@ returns-clause-made c =
       params = pack_params graph c.args.template.luts source.params.list pack c.in_ok-pack.ensures.pack ∙ ap (λ (s : Shape). s.params) (sym c.source_shape-shape.ensures.value);
       shape = c.source_shape-shape.ensures.value;
       playable = c.source_shape-shape.ensures.playable c.args.template tables;
-      written =
-          tables_written source c.requires.read graph c.args.template tables c.requires.nodes
-          (subst (λ (s : Shape). IsPlayable c.args.template s) c.source_shape-shape.ensures.value (c.source_shape-shape.ensures.playable c.args.template tables));
+      written = tables_written source c.requires.read graph c.args.template tables c.requires.nodes playable;
       file = record { is_pack = c.in_ok-pack.ensures.kept; normal = c.in_ok-pack.ensures.normal; spelled = inr refl };
     }
