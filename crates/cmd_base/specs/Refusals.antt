@@ -1,6 +1,6 @@
 -- The refusals of the command line itself.
 use Rattle.std.specs.Prelude.{ℕ, codes}
-use Rattle.tl_text.specs.declared.limits.TheConstants.{MOST_PACK_BYTES}
+use Rattle.ppc_pack.specs.declared.pack.TheConstants.{MOST_PACK_BYTES}
 use Rattle.tl_text.specs.declared.logical_lines.TheConstants.{MOST_BYTES}
 use Rattle.tl_fault.specs.RefusalValue.{RefusalValue, refusal}
 use Rattle.tl_fault.specs.declared.refusal.Details.TheVariants.{Nothing}

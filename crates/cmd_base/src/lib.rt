@@ -3,7 +3,7 @@
 //! A *command* is its arguments and the files that they name. It works through them in order, and refuses a file before it
 //! reaches the next one. The way it ends is an *outcome*: done, a refusal of a file with the details of its fault line, or an
 //! external fault. The outcome that the arguments and files call for is the *verdict*, defined independently of the code: a
-//! *walk* (`specs/CommandWalk.antt`), which each command defines, and what each outcome says about it.
+//! *walk* (`specs/Walk.antt`), which each command defines, and what each outcome says about it.
 //!
 //! - `outcome.rt` has [`Outcome`] and [`File`], `status.rt` the [`Status`] of each, and `refusals.rt` the refusal of any
 //!   file.

@@ -10,7 +10,7 @@ use Rattle.run_core.specs.declared.step_err.StepErr.TheVariants.{WriteFault, Por
 use Rattle.run_core.specs.Ends.{HasLine, HasSinkCause, HasPlaces}
 use Rattle.tl_text.specs.declared.logical_lines.TheConstants.{MOST_BYTES}
 use Rattle.cmd_pack.specs.declared.bits.prepare.ReadyScript.{ReadyScript}
-use Rattle.cmd_pack.specs.BitsReady.{CanPlay, IsReady, IsReadyFor, EventsEnd, PlayEnd, PlayEnds}
+use Rattle.cmd_pack.specs.BitsReady.{CanPlay, IsReady, IsReadyFor, EventsEnd, PlayEnd, PlayEndsAnywhere}
 use Rattle.cmd_pack.proofs.BitsWalkLemmas.{names_settled}
 
 -- an event that a script may have on a pack alone is of the host, and can be played on the pack
@@ -72,7 +72,7 @@ rose_later first mid last (Err e) le h = Rose_from first mid last le h
 
 -- how a script ends behind its header
 pub play_end : {E : Type 0} (h : SpecialiserValue) (events : List EventValue) (before headed after : SinkSeen) (r : Result Unit E) → headed.bytes ≡ extended before.bytes (pack_header h.pack) → EventsEnd h events headed.bytes after.bytes r
-    → OnErr r (Rose before.faults after.faults) → PlayEnds h events before after r
+    → OnErr r (Rose before.faults after.faults) → PlayEndsAnywhere h events before after r
 play_end h events before headed after (Ok done) header end rose shelf ports = record {
   end = end.0;
   put = all_behind (λ events lines state come. come) (pack_header h.pack) before.bytes headed.bytes header end.1;

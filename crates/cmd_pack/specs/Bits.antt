@@ -89,7 +89,7 @@ module _ (h : SpecialiserValue) (events : List EventValue) (old new : Outside) w
     pub files : new.files ≡ old.files
     pub ports : new.ports ≡ old.ports
 
--- the files hold a job, its host stands at the start, and this is so of its playing
+-- the files hold a job, its host is at the start, and this is so of its playing
 pub record HasBits (files : Files) (words : BitsWords) (Ends : SpecialiserValue → List EventValue → Type 0) : Type 0 where
   pub pack : PackValue
   pub events : List EventValue

@@ -1,5 +1,5 @@
 -- A job of `bits` that is ready to be played, and the playing of its events.
-use Rattle.std.specs.Prelude.{◌≡◌, ℕ, List, [], length, Option, Result, MatchResult}
+use Rattle.std.specs.Prelude.{◌≡◌, ℕ, List, [], Option, Result, MatchResult}
 use Rattle.list_laws.specs.Members.{In}
 use Rattle.cmd_pack.specs.Words.{PortSeen, Files, ShelfSeen, SinkSeen, PackValue, EventValue, event_values, FitsPack, IsOfHost, SpecialiserValue, Outside, outside, PutsAll, IsHostStart, AreHostSteps}
 use Rattle.cmd_pack.specs.declared.bits.prepare.ReadyScript.{ReadyScript}
@@ -13,7 +13,6 @@ pub record CanPlay (pack : PackValue) (events : List EventValue) : Type 0 where
 -- a script that is ready on a pack
 pub record IsReady (pack : PackValue) (events : List EventValue) (ready : ReadyScript) : Type 0 where
   pub start : IsHostStart pack ready.host
-  pub bits : ready.bits ≡ length pack.bits
   pub are : event_values ready.events.items ≡ events
 
 -- what the files of its job say
@@ -31,5 +30,5 @@ abbrev pub PlayEnd : {E : Type 0} → SpecialiserValue → List EventValue → O
 PlayEnd h events old new result = MatchResult result (λ _. AreLinesPut h events old new) (λ _. AreLinesCut h events old new)
 
 -- whatever files and ports there are
-abbrev pub PlayEnds : {E : Type 0} → SpecialiserValue → List EventValue → SinkSeen → SinkSeen → Result Unit E → Type 0
-PlayEnds h events before after result = (shelf : ShelfSeen) (ports : List PortSeen) → PlayEnd h events (outside shelf before ports) (outside shelf after ports) result
+abbrev pub PlayEndsAnywhere : {E : Type 0} → SpecialiserValue → List EventValue → SinkSeen → SinkSeen → Result Unit E → Type 0
+PlayEndsAnywhere h events before after result = (shelf : ShelfSeen) (ports : List PortSeen) → PlayEnd h events (outside shelf before ports) (outside shelf after ports) result

@@ -7,9 +7,10 @@ ghost use Rattle.cmd_stations.specs.Texts.{HasBytes};
 ghost use Rattle.cmd_stations.specs.Stops.{IsUnread};
 
 use cmd_base::{File, Outcome};
+use ppc_pack::MOST_PACK_BYTES;
 use std::alloc::Global;
 use tl_io::{Shelf, Slurp, slurp};
-use tl_text::{MOST_BYTES, MOST_PACK_BYTES};
+use tl_text::MOST_BYTES;
 
 // The maximal size of a text and of a pack, in bytes.
 const MOST_TEXT: u64 = MOST_BYTES as u64;

@@ -1,9 +1,9 @@
 //! The stations that commands share, in the order of work. Each reads a file or processes what was read, and refuses it
 //! before the next one is reached.
 //!
-//! A *source circuit* is a netlist with its parameters. It is *mapped* to LUTs, whose bits are a *pack*. A *draft* is a
-//! mapped source circuit that is ready to be written. A *stop* is the reason why a text can't be read or a source circuit
-//! can't be mapped. Together with a file it becomes an outcome.
+//! A *source circuit* is a netlist with its parameters. It is *mapped* to LUTs, whose bits are a *pack*. A *draft*
+//! ([`WritableSource`]) is a mapped source circuit that is ready to be written. A *stop* is the reason why a text can't be
+//! read or a source circuit can't be mapped. Together with a file it becomes an outcome.
 //!
 //! - From a netlist to its graph, the graph's labels or its mapping: `files.rt`, `library_text.rt`, `netlist_text.rt`,
 //!   `params.rt`, `graphs.rt` with `limits.rt`, `labelling.rt`, `mapping.rt`, `mapped.rt`, and `words.rt`, the arguments that

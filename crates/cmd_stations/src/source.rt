@@ -28,6 +28,5 @@ fn inits(alloc: Global, latches: &[FlatLatch]) -> Result<Vec<bool>, AllocError>
 pub fn latch_inits(alloc: Global, source: &Source) -> Result<Vec<bool>, AllocError>
     ensures { IfOk result (λ states. states.items ≡ flat_inits source.now.netlist.flat) }
 {
-    let states = inits(alloc, &source.netlist.flat.latches)?;
-    Ok(states)
+    inits(alloc, &source.netlist.flat.latches)
 }

@@ -71,7 +71,7 @@ value_at total (b ∷ rest) = if b == 0 then Ok (false, rest) else if b == 1 the
 abbrev pub names_of_params : List PackParam → List (List ℕ)
 names_of_params ps = map (λ (p : PackParam). p.name) ps
 
--- a parameter behind others with these names: three fields
+-- a parameter after others with these names: three fields
 abbrev pub with_name : List ℕ → Bool × List ℕ → Field PackParam
 with_name name x = Ok (record { name = name; init = x.0 }, x.1)
 

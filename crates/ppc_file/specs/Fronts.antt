@@ -67,7 +67,7 @@ abbrev pub end_at : ℕ → List ℕ → Option (Field Front)
 end_at total [] = None
 end_at total (b ∷ rest) = Some (Err (refused.Trailing (offset total (b ∷ rest))))
 
--- what comes next behind a front: a field, which is taken or refused, or nothing where the pack is whole and the file ends
+-- what comes next after a front: a field, which is taken or refused, or nothing where the pack is whole and the file ends
 abbrev pub next_at : ℕ → Front → List ℕ → Option (Field Front)
 next_at total nothing rest = Some (read_into (λ letters. lettered) (magic_at total rest))
 next_at total lettered rest = Some (read_into versioned (version_at total rest))

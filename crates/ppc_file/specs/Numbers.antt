@@ -16,7 +16,7 @@ abbrev pub spelled : Version → Width → ℕ → List ℕ
 spelled One w n = to_be_bytes w n
 spelled Two w n = sevens 5 n
 
--- a field that is read: its value and the bytes behind it, or why it is refused
+-- a field that is read: its value and the bytes after it, or why it is refused
 abbrev pub Field : Type 0 → Type 0
 Field A = Result (A × List ℕ) PackErr
 

@@ -1,8 +1,7 @@
 //! Reading pack files.
 ghost use Rattle.std.specs.Prelude.{◌≡◌, ◌≤◌, length, IfOk, IfErr};
 ghost use Rattle.tl_fault.specs.OrMemory.{OrMemory};
-ghost use Rattle.tl_text.specs.declared.limits.TheConstants.{MOST_PACK_BYTES};
-ghost use Rattle.ppc_pack.specs.declared.pack.TheConstants.{MOST_PACK_NODES};
+ghost use Rattle.ppc_pack.specs.declared.pack.TheConstants.{MOST_PACK_BYTES, MOST_PACK_NODES};
 ghost use Rattle.ppc_file.specs.Fronts.{versioned};
 ghost use Rattle.ppc_file.specs.PackFile.{IsPackFile, IsPackFault, HasOneReading};
 ghost use Rattle.ppc_file.specs.Reading.{StandsAt};

@@ -1,7 +1,7 @@
 //! The bits of a pack file.
 ghost use Rattle.std.specs.Prelude.{◌≡◌, ◌≤◌, [], length, IfOk, IfErr};
 ghost use Rattle.tl_fault.specs.OrMemory.{OrMemory};
-ghost use Rattle.tl_text.specs.declared.limits.TheConstants.{MOST_PACK_BYTES};
+ghost use Rattle.ppc_pack.specs.declared.pack.TheConstants.{MOST_PACK_BYTES};
 ghost use Rattle.ppc_file.specs.Fronts.{in_nodes, in_bits};
 ghost use Rattle.ppc_file.specs.PackFile.{IsPackFault};
 ghost use Rattle.ppc_file.specs.Reading.{StandsAt};

@@ -2,11 +2,11 @@
 ghost use Rattle.std.specs.Prelude.{◌≡◌, ◌+◌, ◌^◌, ◌≤◌, ◌<◌, ◌||◌, ◌∷◌, [], ◌++◌, length, replicate, true, false, Ok, Err, IfOk, IfErr, OnOk};
 ghost use Rattle.std.specs.List.{list_any};
 ghost use Rattle.tl_fault.specs.OrMemory.{OrMemory};
-ghost use Rattle.tl_text.specs.declared.limits.TheConstants.{MOST_PACK_BYTES, MOST_PARAMETERS};
+ghost use Rattle.tl_text.specs.declared.limits.TheConstants.{MOST_PARAMETERS};
 ghost use Rattle.aig_core.specs.Aig.{node_count};
 ghost use Rattle.aig_core.specs.And.{is_pair, with_pairs};
 ghost use Rattle.aig_core.specs.declared.lit.Kind.TheVariants.{Parameter};
-ghost use Rattle.ppc_pack.specs.declared.pack.TheConstants.{MOST_PACK_NODES as MOST};
+ghost use Rattle.ppc_pack.specs.declared.pack.TheConstants.{MOST_PACK_BYTES, MOST_PACK_NODES as MOST};
 ghost use Rattle.ppc_file.specs.Fields.{is_bad_pair as is_bad, node_at};
 ghost use Rattle.ppc_file.specs.Fronts.{in_params, in_nodes};
 ghost use Rattle.ppc_file.specs.PackFile.{IsPackFault};

@@ -1,7 +1,7 @@
 //! The parameters of a pack file.
 ghost use Rattle.std.specs.Prelude.{◌≡◌, ◌≤◌, ◌∷◌, [], ◌++◌, length, IfOk, IfErr, OnOk, None};
 ghost use Rattle.tl_fault.specs.OrMemory.{OrMemory};
-ghost use Rattle.tl_text.specs.declared.limits.TheConstants.{MOST_PACK_BYTES};
+ghost use Rattle.ppc_pack.specs.declared.pack.TheConstants.{MOST_PACK_BYTES};
 ghost use Rattle.tl_text.specs.NameIndex.{place_of};
 ghost use Rattle.ppc_file.specs.Fronts.{versioned, in_params};
 ghost use Rattle.ppc_file.specs.PackFile.{IsPackFault};

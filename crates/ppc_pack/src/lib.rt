@@ -19,5 +19,5 @@
 
 mod pack;
 
-pub use pack::{MOST_PACK_BITS, MOST_PACK_NODES, Pack, PackParam};
+pub use pack::{MOST_PACK_BITS, MOST_PACK_BYTES, MOST_PACK_NODES, Pack, PackParam};
 pub use tl_text::{MOST_NAME_BYTES, MOST_PARAMETERS};

@@ -11,10 +11,14 @@ use std::alloc::{AllocError, Global};
 use std::marker::Model;
 use tl_text::Name;
 
-/// The maximal number of AND nodes of a pack, and of its bits: 2^25.
+/// The maximal number of AND nodes of a pack: 2^25.
 pub const MOST_PACK_NODES: u32 = 33_554_432;
 
+/// The maximal number of bits of a pack: 2^25.
 pub const MOST_PACK_BITS: u32 = 33_554_432;
+
+/// The maximal size of a pack's file, in bytes.
+pub const MOST_PACK_BYTES: usize = 536_870_912;
 
 /// A parameter of a pack: its name and its initial value.
 #[derive(Debug, Drop)]

@@ -48,7 +48,7 @@ HasLine line old new (Ok done) = new ≡ extended old line
 HasLine line old new (Err WriteFault) = (n : ℕ) × (n < length line) × (new ≡ extended old (take n line))
 HasLine line old new (Err PortFault) = new ≡ old
 
--- A fault of writing comes only where the sink's count rose, and no call of the sink is made behind a fault of a port.
+-- A fault of writing comes only where the sink's count rose, and no call of the sink is made after a fault of a port.
 abbrev pub HasSinkCause : ℕ → ℕ → Result Unit StepErr → Type 0
 HasSinkCause before now (Ok done) = before ≤ now
 HasSinkCause before now (Err WriteFault) = (before ≤ now) × Rose before now
@@ -73,7 +73,7 @@ HasPlaces old new (Ok done) = KeepsPlaces old new
 HasPlaces old new (Err WriteFault) = KeepsPlaces old new
 HasPlaces old new (Err PortFault) = LosesPlace old new
 
--- where the bank held the configuration before the step, it holds the one behind it, unless a region lost its port
+-- where the bank held the configuration before the step, it holds the one after it, unless a region lost its port
 abbrev pub StillHolds : SpecialiserValue → SpecialiserValue → BankSeen → BankSeen → Result Unit StepErr → Type 0
 StillHolds before after old new (Ok done) = Holds before.state.config old → Holds after.state.config new
 StillHolds before after old new (Err WriteFault) = Holds before.state.config old → Holds after.state.config new

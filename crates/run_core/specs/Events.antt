@@ -25,7 +25,7 @@ IsHostEvent (Upset address) old new = IsUpset address old.state new.writes new.s
 IsHostEvent Scrub old new = IsScrub old.pack old.state new.writes new.state
 IsHostEvent Image old new = new ≡ old
 
--- what an event makes of the circuit, under a configuration: a cycle is one of its tables, and nothing else changes it
+-- what an event makes of the circuit, under a configuration: a cycle is one of its LUTs, and nothing else changes it
 abbrev pub IsClockEvent : EventValue → List Bool → SimValue → SimValue → Type 0
 IsClockEvent (Set assigns) config old new = new ≡ old
 IsClockEvent (Cycle values) config old new = IsTableCycle old.template old.shape config values old.states new.outputs new.states
@@ -33,7 +33,7 @@ IsClockEvent (Upset address) config old new = new ≡ old
 IsClockEvent Scrub config old new = new ≡ old
 IsClockEvent Image config old new = new ≡ old
 
--- whatever values fit the tables, a cycle's outputs and states are theirs
+-- whatever values fit the LUTs, a cycle's outputs and states are theirs
 abbrev pub HasOneCycle : EventValue → List Bool → SimValue → SimValue → Type 0
 HasOneCycle (Set assigns) config old new = Unit {0}
 HasOneCycle (Cycle values) config old new = IsOnlyTableCycle old.template old.shape config values old.states new.outputs new.states
@@ -62,11 +62,11 @@ IsWithinSteps (Upset address) old new start end = end ≡ start
 IsWithinSteps Scrub old new start end = end ≡ start
 IsWithinSteps Image old new start end = end ≡ start
 
--- the configuration of the device is the one specialised from scratch: no bit stands upset
+-- the configuration of the device is the one specialised from scratch: no bit is upset
 abbrev pub IsRight : SpecialiserValue → Type 0
 IsRight host = IsConf host.pack host.state.params host.state.config
 
--- where no bit stands upset, only an upset makes one; behind a scrub none does
+-- where no bit is upset, only an upset makes one; after a scrub none does
 abbrev pub IsSteady : EventValue → SpecialiserValue → SpecialiserValue → Type 0
 IsSteady (Set assigns) old new = IsRight old → IsRight new
 IsSteady (Cycle values) old new = IsRight old → IsRight new

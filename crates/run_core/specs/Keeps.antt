@@ -8,7 +8,7 @@ pub record KeepsHost (host : SpecialiserValue) : Type 0 where
   pub params : length host.state.params ≡ length host.pack.params
   pub config : length host.state.config ≡ length host.pack.bits
 
--- the host's bits are those of the tables, and the numbers of the header
+-- the host's bits are those of the LUTs, and the numbers of the header
 pub record Keeps (host : SpecialiserValue) (sim : SimValue) (luts depth : ℕ) : Type 0 where
   pub bits : length host.pack.bits ≡ sim.template.bits
   pub params : length host.pack.params ≡ sim.shape.params

@@ -8,7 +8,7 @@ ghost use Rattle.port_bank.specs.Image.{Holds, KeepsHolding};
 ghost use Rattle.port_bank.specs.Moves.{IsLeft, KeepsPlaces, LosesPlace};
 ghost use Rattle.ppc_pack.specs.Pack.{IsConf, HasOneConf, inits_of};
 ghost use Rattle.run_text.specs.EventValue.{event_value};
-ghost use Rattle.run_text.specs.Lines.{header_line, cycle_line};
+ghost use Rattle.run_text.specs.Lines.{header_line, bits_header_line, cycle_line};
 ghost use Rattle.spec_core.specs.Differences.{write_of};
 ghost use Rattle.spec_core.specs.Specialiser.{SpecialiserValue};
 ghost use Rattle.run_core.specs.Events.{FitsPack, IsOfHost, IsHostEvent, IsHostPlayed, IsWithinSteps, IsSteady, host_line};
@@ -16,10 +16,12 @@ ghost use Rattle.run_core.specs.Ends.{HasSent, HasLost, IsSent, LeavesPorts, Put
 
 use crate::step_err::StepErr;
 use aig_core::Steps;
-use lut_sim::Sim;
 use port_bank::{PortBank, PortFault};
 use ppc_pack::Pack;
-use run_text::{Event, LineBuf, put_cycle, put_header, put_image, put_scrub, put_set, put_upset};
+use run_text::{
+    Event, LineBuf, put_bits_header, put_cycle, put_header, put_image, put_scrub, put_set,
+    put_upset,
+};
 use spec_core::Specialiser;
 use std::alloc::{AllocError, Global};
 use std::marker::Model;
@@ -139,6 +141,18 @@ impl Host {
         }
     }
 
+    /// Writes the line `bits BITS`: the number of configuration bits of the pack. Allocates no memory.
+    ///
+    /// # Errors
+    /// `Failed` only if the count of faults of `out` rose. A prefix of the line is then written.
+    pub fn put_bits_header<O: Sink>(&mut self, out: &mut O) -> Result<(), Failed>
+        ensures same { self.new ≡ self.old }
+        ensures put { IsPut (O.seen out.old) (bits_header_line (length self.old.pack.bits)) (O.seen out.new) result }
+    {
+        let bits = self.specialiser.image().len() as u32;
+        put_bits_header(bits, &mut self.buf, out)
+    }
+
     // Writes the header line of a machine with this host.
     pub(crate) fn put_header<O: Sink>(
         &mut self,
@@ -153,12 +167,17 @@ impl Host {
         put_header(luts, bits, depth, &mut self.buf, out)
     }
 
-    // Writes the line of a simulator's last cycle.
-    pub(crate) fn put_cycle<O: Sink>(&mut self, sim: &Sim, out: &mut O) -> Result<(), Failed>
+    // Writes the line of a cycle with these outputs and states.
+    pub(crate) fn put_cycle<O: Sink>(
+        &mut self,
+        outputs: &[bool],
+        states: &[bool],
+        out: &mut O,
+    ) -> Result<(), Failed>
         ensures same { self.new ≡ self.old }
-        ensures put { IsPut (O.seen out.old) (cycle_line sim.now.outputs sim.now.states) (O.seen out.new) result }
+        ensures put { IsPut (O.seen out.old) (cycle_line outputs.now states.now) (O.seen out.new) result }
     {
-        put_cycle(sim.outputs(), sim.states(), &mut self.buf, out)
+        put_cycle(outputs, states, &mut self.buf, out)
     }
 
     // Writes the whole configuration to a bank.

@@ -194,7 +194,10 @@ impl Machine {
         ensures put { IsPut (O.seen out.old) (event_line (event_value event.now) self.old) (O.seen out.new) result }
     {
         match event {
-            Event::Cycle(_) => self.host.put_cycle(&self.sim, out),
+            Event::Cycle(_) => {
+                let sim = &self.sim;
+                self.host.put_cycle(sim.outputs(), sim.states(), out)
+            }
             Event::Set(_) | Event::Upset(_) | Event::Scrub | Event::Image => {
                 self.host.put(event, out)
             }

@@ -5,12 +5,12 @@ use crate::stop::StageStop;
 use aig_core::Steps;
 use itoa::Buffer;
 use ppc_file::decode;
+use ppc_pack::MOST_PACK_BYTES;
 use spec_core::Specialiser;
 use std::alloc::AllocError;
 use std::marker::Brand;
 use std::sync::ledger::{Blank, Ledger};
 use tl_io::Assign;
-use tl_text::MOST_PACK_BYTES;
 
 // The AND nodes of the chain, and its parameters. Each node is the product of the node before it and the next parameter.
 const NODES: u32 = 60_000;
@@ -36,7 +36,7 @@ fn put_params(bytes: &mut Vec<u8>) -> Result<(), AllocError> {
     Ok(())
 }
 
-// Appends the fan-ins of the nodes behind the first.
+// Appends the fan-ins of the nodes after the first.
 fn put_nodes(bytes: &mut Vec<u8>) -> Result<(), AllocError> {
     for number in 1..NODES {
         put(bytes, 2 * (number + 2))?;

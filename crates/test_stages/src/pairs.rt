@@ -28,7 +28,7 @@ fn source(number: u32) -> Result<Lit, StageStop> {
 }
 
 // Makes each pair, and returns how many products are the literal that they have to be: the product with the number r is that
-// of the node r behind the sources.
+// of the node r after the sources.
 fn make_all(graph: &mut Graph) -> Result<u32, StageStop> {
     let mut right = 0u32;
     let (mut i, mut j) = (0u32, 1u32);

@@ -1,5 +1,5 @@
 //! Small graphs whose cuts and values were found by hand.
-ghost use Rattle.std.specs.Prelude.{◌≡◌, ◌≤◌, IfOk, vec_len};
+ghost use Rattle.std.specs.Prelude.{◌≡◌, ◌≤◌, ◌∷◌, [], IfOk};
 
 use crate::pairs::product;
 use crate::stop::StageStop;
@@ -9,7 +9,7 @@ use std::alloc::{AllocError, Global};
 
 // The kinds of three sources.
 fn three(alloc: Global, first: Kind, second: Kind, third: Kind) -> Result<Vec<Kind>, AllocError>
-    ensures { IfOk result (λ kinds. vec_len kinds ≡ 3) }
+    ensures { IfOk result (λ kinds. kinds.items ≡ first ∷ second ∷ third ∷ []) }
 {
     Ok(vec![in alloc; first, second, third]?)
 }

@@ -38,7 +38,7 @@ mod text_err;
 mod token;
 
 pub use decimals::{bit, decimal};
-pub use limits::{MOST_NAME_BYTES, MOST_PACK_BYTES, MOST_PARAMETERS};
+pub use limits::{MOST_NAME_BYTES, MOST_PARAMETERS};
 pub use line::Line;
 pub use logical_lines::{MOST_BYTES, lines};
 pub use name_index::NameIndex;

@@ -38,7 +38,7 @@ abbrev pub IsCopyCall : {A B H : Type 0} → Option H → Option H → (H → Li
 IsCopyCall old new values make before after count told status = IsReadCall old new status ((after ≡ before) × (told ≡ count)) (λ h. AreHanded make (values h) before after told status)
 
 -- how many parameters and configuration bits there are
-pub record AreCounted (h : SpecialiserValue) (parameters bits status : ℕ) : Type 0 where
+pub record TellsCounts (h : SpecialiserValue) (parameters bits status : ℕ) : Type 0 where
   pub done : status ≡ DONE
   pub parameters_are : parameters ≡ length h.state.params
   pub bits_are : bits ≡ length h.state.config
@@ -55,7 +55,7 @@ pub record IsUpsetCall (address : ℕ) (old new : SpecialiserValue) (status : �
   pub done : address < length old.state.config → (status ≡ DONE) × IsUpset address old.state new.writes new.state
   pub range : length old.state.config ≤ address → (status ≡ RANGE) × (new ≡ old)
 
--- upset bits are set right
+-- upset bits are corrected
 pub record IsScrubCall (old new : SpecialiserValue) (status : ℕ) : Type 0 where
   pub done : status ≡ DONE
   pub pack : new.pack ≡ old.pack
@@ -73,8 +73,8 @@ pub record IsNameCall (names : List (List ℕ)) (number : ℕ) (before after : L
   pub range : length names ≤ number → (status ≡ RANGE) × (after ≡ before) × (told ≡ count)
 
 -- the same of a handle's pack
-abbrev pub IsNameOf : SpecialiserValue → ℕ → List ℕ → List ℕ → ℕ → ℕ → ℕ → Type 0
-IsNameOf h number before after count told status = IsNameCall (param_names h.pack.params) number before after count told status
+abbrev pub IsNameRead : SpecialiserValue → ℕ → List ℕ → List ℕ → ℕ → ℕ → ℕ → Type 0
+IsNameRead h number before after count told status = IsNameCall (param_names h.pack.params) number before after count told status
 
 -- the number of the parameter of a name, or there is none of this name, and then nothing is told
 pub record IsNumberCall (names : List (List ℕ)) (name : List ℕ) (before after : ℕ) (status : ℕ) : Type 0 where

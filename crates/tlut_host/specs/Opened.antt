@@ -1,6 +1,6 @@
 -- Opening a pack: the host that it makes, and what is told where it is refused.
 use Rattle.std.specs.Prelude.{◌≡◌, ℕ, ◌<◌, List, [], length, Option, Some, None}
-use Rattle.tl_text.specs.declared.limits.TheConstants.{MOST_PACK_BYTES}
+use Rattle.ppc_pack.specs.declared.pack.TheConstants.{MOST_PACK_BYTES}
 use Rattle.tlut_host.specs.Words.{IsConf, inits_of, IsPackFile, IsPackFault, SpecialiserValue}
 use Rattle.ppc_file.specs.declared.pack_err.PackErr.{PackErr}
 use Rattle.ppc_file.specs.declared.pack_err.PackErr.TheVariants.{Magic, Version, Truncated, BadName, BadNode, BadBit, Trailing, BadNumber, Memory as NoMemory}

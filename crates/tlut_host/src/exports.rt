@@ -1,11 +1,11 @@
 //! What C calls. Each function tests what C can get wrong, and asks only for memory that is there.
 ghost use Rattle.std.specs.Prelude.{◌≡◌, ◌≢◌, ◌<◌, true, false, Option, Some, None, is_some, length, if◌then◌else◌};
-ghost use Rattle.tl_text.specs.declared.limits.TheConstants.{MOST_PACK_BYTES};
+ghost use Rattle.ppc_pack.specs.declared.pack.TheConstants.{MOST_PACK_BYTES};
 ghost use Rattle.tlut_host.specs.declared.setting.TheConstants.{DONE, LIMIT, CLOSED, OPEN};
 ghost use Rattle.tlut_host.specs.Copied.{bit_write};
 ghost use Rattle.tlut_host.specs.Kept.{param_names};
 ghost use Rattle.tlut_host.specs.Opened.{IsOpened, IsTold, HoldsOne};
-ghost use Rattle.tlut_host.specs.Calls.{IsCall, IsReadCall, IsCopyCall, IsSetCall, IsUpsetCall, IsScrubCall, IsValueCall, IsNameOf, IsNumberCall, AreCounted};
+ghost use Rattle.tlut_host.specs.Calls.{IsCall, IsReadCall, IsCopyCall, IsSetCall, IsUpsetCall, IsScrubCall, IsValueCall, IsNameRead, IsNumberCall, TellsCounts};
 
 use crate::copy::{copy_bits, copy_writes, value_at};
 use crate::handle::{Handle, put, take};
@@ -94,7 +94,7 @@ pub extern "C" fn tlut_scrub(handle: &mut Handle) -> u32
     DONE
 }
 
-/// Copies the writes of the last event as far as there is room, and tells how many there are.
+/// Copies the writes of the last event as far as there is room, and sets the count to the total number.
 #[unsafe(no_mangle)]
 pub extern "C" fn tlut_writes(
     handle: &mut Handle,
@@ -124,7 +124,7 @@ pub extern "C" fn tlut_image(handle: &mut Handle, bits: &mut [bool], count: &mut
     DONE
 }
 
-/// Copies the values of the parameters as far as there is room, and tells how many there are.
+/// Copies the values of the parameters as far as there is room, and sets the count to the total number.
 #[unsafe(no_mangle)]
 pub extern "C" fn tlut_values(handle: &mut Handle, bits: &mut [bool], count: &mut usize) -> u32
     ensures { IsCopyCall handle.old.held.value handle.new.held.value (λ h. h.state.params) (λ b. b) bits.old bits.new count.old count.new result }
@@ -141,7 +141,7 @@ pub extern "C" fn tlut_values(handle: &mut Handle, bits: &mut [bool], count: &mu
 #[unsafe(no_mangle)]
 pub extern "C" fn tlut_counts(handle: &mut Handle, parameters: &mut usize, bits: &mut usize) -> u32
     ensures { IsReadCall handle.old.held.value handle.new.held.value result ((parameters.new ≡ parameters.old) × (bits.new ≡ bits.old))
-        (λ h. AreCounted h parameters.new bits.new result) }
+        (λ h. TellsCounts h parameters.new bits.new result) }
 {
     let Some(host) = take(handle) else {
         return CLOSED;
@@ -165,7 +165,7 @@ pub extern "C" fn tlut_value(handle: &mut Handle, parameter: u16, bit: &mut bool
     status
 }
 
-/// Copies the name of a parameter as far as there is room, and tells its length in bytes.
+/// Copies the name of a parameter as far as there is room, and sets the length to that of the name in bytes.
 #[unsafe(no_mangle)]
 pub extern "C" fn tlut_name(
     handle: &mut Handle,
@@ -174,7 +174,7 @@ pub extern "C" fn tlut_name(
     count: &mut usize,
 ) -> u32
     ensures { IsReadCall handle.old.held.value handle.new.held.value result ((name.new ≡ name.old) × (count.new ≡ count.old))
-        (λ h. IsNameOf h parameter name.old name.new count.old count.new result) }
+        (λ h. IsNameRead h parameter name.old name.new count.old count.new result) }
 {
     let Some(host) = take(handle) else {
         return CLOSED;

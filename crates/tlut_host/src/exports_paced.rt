@@ -1,6 +1,6 @@
 //! What C calls at a limited rate.
 ghost use Rattle.std.specs.Prelude.{◌≡◌, ◌≢◌, ◌<◌, ◌≤◌, true, false, Option, Some, None, is_some, length, if◌then◌else◌};
-ghost use Rattle.tl_text.specs.declared.limits.TheConstants.{MOST_PACK_BYTES};
+ghost use Rattle.ppc_pack.specs.declared.pack.TheConstants.{MOST_PACK_BYTES};
 ghost use Rattle.tlut_host.specs.declared.setting.TheConstants.{DONE, LIMIT, CLOSED, OPEN, RANGE};
 ghost use Rattle.tlut_host.specs.Copied.{bit_write};
 ghost use Rattle.tlut_host.specs.Opened.{IsTold, HoldsOne};
@@ -95,7 +95,7 @@ pub extern "C" fn tlut_tick(handle: &mut PacedHandle, is_right: &mut bool) -> u3
     DONE
 }
 
-/// Copies the writes of the last tick as far as there is room, and tells how many there are.
+/// Copies the writes of the last tick as far as there is room, and sets the count to the total number.
 #[unsafe(no_mangle)]
 pub extern "C" fn tlut_sent(
     handle: &mut PacedHandle,

@@ -6,7 +6,7 @@ use crate::copy::copy_bytes;
 use crate::host::NamedSpecialiser;
 use crate::setting::{DONE, RANGE};
 
-// Copies the name of a parameter, and tells its length. `RANGE` if there is none of this number.
+// Copies the name of a parameter, and sets its length. `RANGE` if there is none of this number.
 pub(crate) fn tell_name(
     host: &NamedSpecialiser,
     parameter: usize,

@@ -1,6 +1,6 @@
 //! Opening a pack.
 ghost use Rattle.std.specs.Prelude.{◌≡◌, ◌≢◌, ◌<◌, ◌≤◌, length, IfOk, IfErr};
-ghost use Rattle.tl_text.specs.declared.limits.TheConstants.{MOST_PACK_BYTES};
+ghost use Rattle.ppc_pack.specs.declared.pack.TheConstants.{MOST_PACK_BYTES};
 ghost use Rattle.ppc_file.specs.PackFile.{IsPackFile};
 ghost use Rattle.tlut_host.specs.declared.setting.TheConstants.{CLOSED};
 ghost use Rattle.tlut_host.specs.Opened.{IsOpened, IsOpenFault, told, told_of, status_of};
@@ -10,9 +10,8 @@ use crate::host::NamedSpecialiser;
 use crate::paced::PacedHost;
 use crate::setting::{LIMIT, MEMORY, PackRefusal, REFUSED};
 use ppc_file::{PackErr, decode};
-use ppc_pack::Pack;
+use ppc_pack::{MOST_PACK_BYTES, Pack};
 use std::alloc::Global;
-use tl_text::MOST_PACK_BYTES;
 
 // Why bytes aren't opened.
 #[derive(Clone, Copy)]

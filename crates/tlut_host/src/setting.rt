@@ -21,8 +21,20 @@ pub const OPEN: u32 = 5;
 /// No parameter has this number, or no bit this address.
 pub const RANGE: u32 = 6;
 
-/// A parameter stands after one of the same or a higher number.
+/// The parameters are not in ascending order.
 pub const ORDER: u32 = 7;
+
+// The statuses have the numbers of `include/tlut_host.h`.
+const _: () = prove!(
+    DONE == 0
+        && REFUSED == 1
+        && LIMIT == 2
+        && MEMORY == 3
+        && CLOSED == 4
+        && OPEN == 5
+        && RANGE == 6
+        && ORDER == 7
+);
 
 /// A new value of a parameter.
 #[repr(C)]

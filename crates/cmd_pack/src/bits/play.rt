@@ -3,13 +3,13 @@ ghost use Rattle.std.specs.Prelude.{◌≡◌, ◌<◌, length};
 ghost use Rattle.tl_io.specs.Causes.{HasCause};
 ghost use Rattle.run_text.specs.EventValue.{event_values};
 ghost use Rattle.port_bank.specs.Seen.{bank_seen};
-ghost use Rattle.cmd_pack.specs.BitsReady.{CanPlay, EventsEnd, PlayEnds};
+ghost use Rattle.cmd_pack.specs.BitsReady.{CanPlay, EventsEnd, PlayEndsAnywhere};
 
 use crate::bits::prepare::ReadyScript;
 use aig_core::Steps;
 use port_bank::PortBank;
 use run_core::Host;
-use run_text::{Event, put_bits_header};
+use run_text::Event;
 use std::marker::Brand;
 use std::sync::ledger::{Blank, Ledger};
 use tl_io::{ConfigPort, Failed, Sink};
@@ -65,11 +65,10 @@ pub fn play<O: Sink, P: ConfigPort>(
     bank: &mut PortBank<P>,
 ) -> Result<(), Failed>
     requires can_play { CanPlay ready.old.host.pack (event_values ready.old.events.items) }
-    requires bits { ready.old.bits ≡ length ready.old.host.pack.bits }
     requires no_ports { length (bank_seen P.port_seen bank.old).serving ≡ 0 }
-    ensures ends { PlayEnds ready.old.host (event_values ready.old.events.items) (O.seen out.old) (O.seen out.new) result }
+    ensures ends { PlayEndsAnywhere ready.old.host (event_values ready.old.events.items) (O.seen out.old) (O.seen out.new) result }
     ensures cause { HasCause (O.seen out.old).faults (O.seen out.new).faults result }
 {
-    put_bits_header(ready.bits, &mut ready.buf, out)?;
+    ready.host.put_bits_header(out)?;
     play_events(&mut ready.host, &ready.events, out, bank)
 }

@@ -1,5 +1,5 @@
 //! Preparing the job of `bits`.
-ghost use Rattle.std.specs.Prelude.{◌≡◌, ◌≤◌, length, IfOk, IfErr, OnOk};
+ghost use Rattle.std.specs.Prelude.{◌≡◌, ◌≤◌, IfOk, IfErr, OnOk};
 ghost use Rattle.list_laws.specs.Members.{In};
 ghost use Rattle.tl_text.specs.declared.logical_lines.TheConstants.{MOST_BYTES};
 ghost use Rattle.run_text.specs.EventValue.{EventValue, event_values};
@@ -12,10 +12,10 @@ ghost use Rattle.cmd_pack.specs.BitsReady.{CanPlay, IsReady, IsReadyFor};
 
 use crate::bits::words::BitsWords;
 use cmd_base::Outcome;
-use cmd_stations::{bit_count, read_pack, read_script_file, script_names};
+use cmd_stations::{read_pack, read_script_file, script_names};
 use ppc_pack::Pack;
 use run_core::Host;
-use run_text::{Event, Forms, LineBuf};
+use run_text::{Event, Forms};
 use std::alloc::{AllocError, Global};
 use tl_io::Shelf;
 
@@ -23,8 +23,6 @@ use tl_io::Shelf;
 #[derive(Drop)]
 pub struct ReadyScript {
     pub host: Host,
-    pub bits: u32,
-    pub buf: LineBuf,
     pub events: Vec<Event>,
 }
 
@@ -52,23 +50,9 @@ fn read_events<S: Shelf>(
 fn make_ready(alloc: Global, pack: Pack, events: Vec<Event>) -> Result<ReadyScript, AllocError>
     ensures { IfOk result (IsReady pack (event_values events.items)) }
 {
-    let bits = bit_count(&pack);
-    let host = match Host::make(alloc, pack) {
-        Ok(host) => host,
+    match Host::make(alloc, pack) {
+        Ok(host) => Ok(ReadyScript { host, events }),
         Err(error) => {
-            drop(events);
-            return Err(error);
-        }
-    };
-    match LineBuf::make(alloc) {
-        Ok(buf) => Ok(ReadyScript {
-            host,
-            bits,
-            buf,
-            events,
-        }),
-        Err(error) => {
-            drop(host);
             drop(events);
             Err(error)
         }
@@ -86,7 +70,6 @@ pub fn prepare<S: Shelf>(
     shelf: &mut S,
 ) -> Result<ReadyScript, Outcome>
     ensures ready { IfOk result (λ r. CanPlay r.host.pack (event_values r.events.items)) }
-    ensures bits { IfOk result (λ r. r.bits ≡ length r.host.pack.bits) }
     ensures prepared { IfOk result (λ r. Told (S.seen shelf.old).files (λ files. IsReadyFor files (bits_seen words.now) r)) }
     ensures given { OnOk result ((S.seen shelf.new).given ≤ MOST_BYTES) }
     ensures err { IfErr result (Explains (bits_reading (bits_seen words.now)) (S.seen shelf.old) (S.seen shelf.new)) }

@@ -1,5 +1,4 @@
-use Rattle.cmd_pack.proofs.Lemmas.{ap, ◌∙◌, event_values, extended, rose_later, play_end}
-use Rattle.run_text.specs.Lines.{bits_header_line}
+use Rattle.cmd_pack.proofs.Lemmas.{event_values, rose_later, play_end}
 use Rattle.cmd_pack.proofs.bits.play.play.Goals as goal
 
 pub returns-clause-ends : goal.returns-clause-ends
@@ -7,5 +6,5 @@ returns-clause-ends g c =
     let before = g.O.Sink.seen c.args.out.now in
     let headed = g.O.Sink.seen c.put_bits_header.new.out in
     let after = g.O.Sink.seen c.play_events.new.out in
-    play_end c.args.ready.now.host (event_values c.args.ready.now.events.items) before headed after c.play_events.result (c.in_ok-put_bits_header.ensures.grown ∙ ap (λ n. extended before.bytes (bits_header_line n)) c.requires.bits)
-    (rw c.deref.ensures.value at c.play_events.ensures.ends) (rose_later before.faults headed.faults after.faults c.play_events.result c.in_ok-put_bits_header.ensures.cause.later c.play_events.ensures.cause.failed)
+    play_end c.args.ready.now.host (event_values c.args.ready.now.events.items) before headed after c.play_events.result c.in_ok-put_bits_header.ensures.put.grown
+    (rw c.in_ok-put_bits_header.ensures.same at (rw c.deref.ensures.value at c.play_events.ensures.ends)) (rose_later before.faults headed.faults after.faults c.play_events.result c.in_ok-put_bits_header.ensures.put.cause.later c.play_events.ensures.cause.failed)
