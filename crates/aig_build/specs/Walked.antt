@@ -43,7 +43,7 @@ gate_made library first built (Some c) = behind_made first built.pairs (cover_be
 abbrev pub with_gate : Built → ℕ → Answer → Built
 with_gate built k made = record { pairs = made.pairs; nets = with_cover built.nets k (record { 0 = made.lit }) }
 
--- the covers of an order, each behind those before it
+-- the covers of an order, each after those before it
 abbrev pub walked : LibraryValue → FlatValue → ℕ → Built → List ℕ → Built
 walked library flat first built [] = built
 walked library flat first built (k ∷ ks) = walked library flat first (with_gate built k (gate_made library first built (slice_get flat.covers k))) ks
@@ -53,7 +53,7 @@ abbrev pub marked : List Bool → List Param → List Bool
 marked marks [] = marks
 marked marks (p ∷ ps) = marked (slice_set marks p.input true) ps
 
--- the positive literals of the unmarked inputs in order, from this index on, and the index behind them
+-- the positive literals of the unmarked inputs in order, from this index on, and the index after them
 abbrev pub regular_lit : ℕ → Bool → Lit
 regular_lit next mark = if mark then no_lit else record { 0 = 2 * next }
 

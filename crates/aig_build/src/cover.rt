@@ -51,8 +51,7 @@ fn make_row(
     ensures full { result ≡ Err AigErr.Full → graph.old.max < length (row_made (first_and graph.old) graph.old.pairs row.now.cells inputs.now).pairs }
 {
     row_literals(scratch, row, inputs)?;
-    let lit = balanced_and(graph, scratch)?;
-    Ok(lit)
+    balanced_and(graph, scratch)
 }
 
 // Replaces `lits` by the complements of the rows, which are built in order.

@@ -60,7 +60,7 @@ kind_of_item (Latch own next init) = kind.Latch
 kind_of_item (Output l) = kind.Output
 kind_of_item (And own left right) = kind.And
 
--- the words behind a latch's literal and its next state: `1` where it starts at 1, else none, `0`, or its own literal
+-- the words after a latch's literal and its next state: `1` where it starts at 1, else none, `0`, or its own literal
 pub data IsInit (own : List ℕ) (init : Bool) (words : List (List ℕ)) : Type 0 where
   none : words ≡ [] → init ≡ false → IsInit own init words
   zero_word : words ≡ codes "0" ∷ [] → init ≡ false → IsInit own init words
@@ -179,13 +179,13 @@ count_of h kind.Latch = h.latches
 count_of h kind.Output = h.outputs
 count_of h kind.And = 0
 
--- A symbol may stand behind earlier ones: its ordinal is below its count, none of them is of the same letter and ordinal, and its name can be a word.
+-- A symbol may come after earlier ones: its ordinal is below its count, none of them is of the same letter and ordinal, and its name can be a word.
 pub record MayStand (h : Header) (earlier : List Symbol) (s : Symbol) : Type 0 where
   pub below : s.ordinal < count_of h s.kind
   pub fresh : (t : Symbol) → In earlier t → t.kind ≡ s.kind → t.ordinal ≡ s.ordinal → ⊥
   pub good : is_bad_name s.name ≡ false
 
--- each behind those before it
+-- each after those before it
 abbrev pub AllStand : Header → List Symbol → List Symbol → Type 0
 AllStand h earlier [] = Unit {0}
 AllStand h earlier (s ∷ symbols) = MayStand h earlier s × AllStand h (earlier ++ s ∷ []) symbols

@@ -37,7 +37,7 @@ lit_at lits k = (slice_index_or lits k (record { 0 = 0 })).0
 abbrev pub input_item : ℕ → Item
 input_item n = Input (2 * n)
 
--- a latch by its ordinal, behind so many inputs
+-- a latch by its ordinal, after so many inputs
 abbrev pub latch_item : ℕ → List Lit → ℕ → FlatLatch → Item
 latch_item inputs next k latch = Latch (2 * (1 + inputs + k)) (lit_at next k) latch.init
 

@@ -191,7 +191,7 @@ output_names h said = names_from 111 0 (drop (h.inputs + h.latches) said.names)
 abbrev pub port_names : Header → SymbolsValue → List (List ℕ)
 port_names h said = input_names h said ++ output_names h said
 
--- does a name stand twice among names: at a place, and at another one behind it
+-- does a name occur twice among names: at a place, and at another one after it
 abbrev pub is_twice : List (List ℕ) → List ℕ → Bool
 is_twice [] name = false
 is_twice (other ∷ names) name = (bytes_eq name other && has_name names name) || is_twice names name
@@ -220,7 +220,7 @@ unless (Some e) x = Err e
 abbrev pub named_circuit : Header → List Item → SymbolsValue → Result Circuit AagErr
 named_circuit h items said = unless (first_twice h said (item_count h + 2) said.places) (circuit_with h items said)
 
--- the lines behind the items are symbols
+-- the lines after the items are symbols
 abbrev pub named_behind : Header → List Item → List (List ℕ) → Result Circuit AagErr
 named_behind h items rows = and_then (named_circuit h items) (symbols_from h (item_count h + 2) (no_symbols h) rows)
 
@@ -270,7 +270,7 @@ capped_item (And own left right) = And (capped own) (capped left) (capped right)
 abbrev pub capped_header : Header → Header
 capped_header h = record { variables = h.variables; inputs = h.inputs; latches = h.latches; outputs = capped h.outputs; ands = h.ands }
 
--- the names that stand twice among those seen and more of them, where some were found already
+-- the names that occur twice among those seen and more of them, where some were found already
 abbrev pub twice_from : List (List ℕ) → List (List ℕ) → List (List ℕ) → List (List ℕ)
 twice_from seen found [] = found
 twice_from seen found (name ∷ names) = if has_name seen name then twice_from seen (with_name found name) names else twice_from (with_name seen name) found names
@@ -302,7 +302,7 @@ symbol_value s = record { kind = s.kind; ordinal = s.ordinal; name = s.name.now 
 abbrev pub named_count : Header → ℕ
 named_count h = h.inputs + h.latches + h.outputs
 
--- symbols leave a name or none at each place of an input, a latch or an output, and are no more than the lines behind the items
+-- symbols leave a name or none at each place of an input, a latch or an output, and are no more than the lines after the items
 pub record AreSized (h : Header) (said : SymbolsValue) (rows : ℕ) : Type 0 where
   pub names : length said.names ≡ named_count h
   pub places : length said.places ≤ rows

@@ -11,7 +11,7 @@ use Rattle.aiger_io.specs.declared.item.LineKind.TheVariants as kind
 use Rattle.aiger_io.specs.AigerText.{IsOfFormatWith, IsHeaderRow, IsLaterRow, kind_of_item, IsItemRow, AreItemRows, item_count, kind_at, is_in_range, Symbol, IsSymbolRow, AreSymbolRows, MayStand, AllStand}
 use Rattle.aiger_io.specs.Circuit.{Circuit}
 
--- the first line is a header, these items stand behind it, each of its place's kind and in range, and then these lines
+-- the first line is a header, these items come after it, each of its place's kind and in range, and then these lines
 pub record Begins (text : List ℕ) (h : Header) (items : List Item) (rest : List (List ℕ)) : Type 0 where
   pub header_row : List ℕ
   pub item_rows : List (List ℕ)
@@ -21,7 +21,7 @@ pub record Begins (text : List ℕ) (h : Header) (items : List Item) (rest : Lis
   pub kinds : (place : ℕ) (item : Item) → slice_get items place ≡ Some item → kind_of_item item ≡ kind_at h place
   pub range : (item : Item) → In items item → is_in_range h.variables item ≡ true
 
--- so do all items, and symbols behind them
+-- so do all items, and symbols after them
 pub record BeginsWithSymbols (text : List ℕ) (h : Header) (symbols : List Symbol) (rest : List (List ℕ)) : Type 0 where
   pub items : List Item
   pub symbol_rows : List (List ℕ)

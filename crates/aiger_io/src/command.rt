@@ -95,8 +95,7 @@ pub(crate) fn buffer(
     let mut inputs = Vec::new(alloc);
     inputs.push(name)?;
     let row = row_of_one(alloc, Cell::One)?;
-    let command = cover(alloc, line, inputs, output, row)?;
-    Ok(command)
+    cover(alloc, line, inputs, output, row)
 }
 
 /// A cover that gives the value of a literal to a name.
@@ -113,8 +112,7 @@ pub(crate) fn literal(
     let mut inputs = Vec::new(alloc);
     inputs.push(input)?;
     let row = row_of_one(alloc, cell(l))?;
-    let command = cover(alloc, line, inputs, output, row)?;
-    Ok(command)
+    cover(alloc, line, inputs, output, row)
 }
 
 /// The cover of an AND gate.
@@ -135,8 +133,7 @@ pub(crate) fn gate(
     inputs.push(first)?;
     inputs.push(second)?;
     let row = row_of_two(alloc, cell(right), cell(left))?;
-    let command = cover(alloc, line, inputs, output, row)?;
-    Ok(command)
+    cover(alloc, line, inputs, output, row)
 }
 
 /// A latch without a control net.

@@ -16,6 +16,7 @@ pub fn graph_law(flat: &Flat, params: &Params, regular: &[u32], graph: &Graph, r
     requires { IsWrittenFrom flat.now params.now.list regular.now graph.now roots.now }
     ensures circuit { IsGraphsCircuit flat.now params.now.list graph.now roots.now (graph_circuit flat.now params.now.list regular.now graph.now roots.now) }
 {
+    // The proof needs what the contracts of these calls say of the graph.
     let _sources = graph.sources();
     let _count = graph.len();
 }

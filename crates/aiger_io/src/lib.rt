@@ -8,9 +8,8 @@
 //! an output; A lines `lhs rhs0 rhs1`; symbols, which are lines of `i`, `l` or `o` with an ordinal, a blank, and a name; and,
 //! after a line `c`, a comment. A latch starts at 1 if and only if its init is `1`.
 //!
-//! `specs/AigerText.antt` defines which circuit a text is, from the writer's side, with `specs/HeaderRow.antt`,
-//! `specs/ItemRow.antt`, `specs/SymbolRow.antt` and `specs/PortName.antt`. The first refusal of a text is in
-//! `specs/Refused.antt`. The behaviour of the circuit is defined by its lines alone, in `specs/Run.antt`.
+//! `specs/AigerText.antt` defines which circuit a text is, from the writer's side: its header, items, symbols and names of
+//! ports. The first refusal of a text is in `specs/Refused.antt`. The behaviour of the circuit is defined by its lines alone, in `specs/Run.antt`.
 //! `proofs/TextExample.antt` has some texts.
 //!
 //! [`read_aag`] reads a text as a netlist library (`specs/CircuitLibrary.antt`), whose cycles and runs are those of the

@@ -170,6 +170,7 @@ pub fn put_aag<O: Sink>(
     requires { IsWrittenFrom flat.now params.now.list regular.now graph.now roots.now }
     ensures put { IsPut (O.seen out.old) (circuit_text (graph_circuit flat.now params.now.list regular.now graph.now roots.now)) (O.seen out.new) result }
 {
+    // The proof needs what the contract of this call says of the graph.
     let _sources = graph.sources();
     let inputs = count_inputs(regular, params);
     let mut piece = WriteBuffer::new();

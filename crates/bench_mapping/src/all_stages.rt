@@ -1,4 +1,4 @@
-//! A netlist through all stages, from its text to cycles and changes, with what came of each and the time that it took.
+//! A netlist through all stages, from its text to cycles and changes, with the result and the time of each.
 ghost use Rattle.cut_sets.specs.declared.limits.TheConstants.{MOST_LEAVES};
 ghost use Rattle.std.specs.Prelude.{◌≡◌, ◌≤◌, length, IfOk, IfSome, Some};
 ghost use Rattle.tl_text.specs.declared.logical_lines.TheConstants.{MOST_BYTES};
@@ -23,7 +23,7 @@ use std::alloc::{AllocError, Global};
 use tl_io::{DiskShelf, Shelf, Slurp, slurp};
 use tl_text::MOST_BYTES;
 
-/// How a netlist is taken through the stages: with tables of K inputs, and then so many cycles and changes.
+/// What a run measures: the K of the LUTs, and how many cycles and changes it plays.
 #[derive(Clone, Copy)]
 pub struct Task {
     pub k: u8,
@@ -50,7 +50,7 @@ fn start_states(alloc: Global, latches: &[FlatLatch]) -> Result<Vec<bool>, Alloc
     Ok(states)
 }
 
-// A length as a smaller number, where it is one.
+// A length as a `u32`, if it fits.
 fn short_len(len: usize) -> Option<u32>
     ensures { IfSome result (λ n. n ≡ len) }
 {
@@ -80,7 +80,7 @@ fn mapped_shape(
     shape_of(graph, count, latches)
 }
 
-// Maps a graph, and plays its tables.
+// Maps a graph, and plays its LUTs.
 fn time_graph(
     meter: Meter<'_>,
     task: Task,
@@ -128,7 +128,7 @@ fn time_netlist(meter: Meter<'_>, task: Task, netlist: &[u8], list: &[u8]) -> Re
     time_graph(meter, task, &graph, &roots, &params, &inits)
 }
 
-/// Takes a netlist and its parameters, both by the names of their files, through all stages, and prints a line for each.
+/// Takes a netlist and its parameters, from the files of these names, through all stages, and prints a line for each.
 pub fn time_stages(
     meter: Meter<'_>,
     task: Task,

@@ -5,13 +5,13 @@ use std::io;
 /// Why there are no figures.
 #[derive(Drop)]
 pub enum BenchErr {
-    /// The words are not those that are wanted.
+    /// A usage error.
     Words,
     /// A file could not be read.
     File,
-    /// A stage refused what it was given, or there was no memory for it.
+    /// A stage refused its input, or ran out of memory.
     Refused,
-    /// There is no memory.
+    /// Out of memory.
     Memory,
     /// The clock or the output failed.
     Outside,

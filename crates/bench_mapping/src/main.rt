@@ -1,7 +1,7 @@
-//! Measures the stages of a mapping: `stages K NETLIST PARAMS CYCLES CHANGES` takes a netlist and its parameters, both by the names
-//! of their files, through each stage with tables of K inputs, and then plays so many cycles and changes that are drawn. It prints
-//! what came of each, and how long it took. A word `counts` behind these leaves the times out, and what is printed then is the same
-//! in each run.
+//! Measures the stages of a mapping. `stages K NETLIST PARAMS CYCLES CHANGES` reads a netlist and its parameters from files,
+//! takes them through each stage with LUTs of K inputs, and then plays CYCLES pseudo-random cycles and CHANGES changes of a
+//! parameter. It prints the result of each stage, and its time. With a last argument `counts` it prints no times, so each run
+//! prints the same.
 #![tactic(auto)]
 
 mod all_stages;
@@ -28,7 +28,7 @@ fn read_words<R: Env + AllocGlobal>(rt: &R) -> Result<Vec<String>, BenchErr> {
     Ok(words)
 }
 
-// The word at a place, or nothing.
+// The argument at a place, or nothing.
 fn word(words: &[String], place: usize) -> &str {
     match words.get(place) {
         None => "",

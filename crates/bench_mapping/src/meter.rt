@@ -2,7 +2,7 @@
 use std::io;
 use std::time::{Duration, Instant};
 
-/// Where lines go, and whether they tell times.
+/// Where lines are printed, and whether they have times.
 #[derive(Clone, Copy)]
 pub struct Meter<'a> {
     pub rt: &'a HostRuntime,
@@ -10,7 +10,7 @@ pub struct Meter<'a> {
 }
 
 impl<'a> Meter<'a> {
-    /// A stage begins.
+    /// Begins a stage.
     pub fn start(&self) -> io::Result<Instant> {
         Instant::now(self.rt)
     }
@@ -20,7 +20,7 @@ impl<'a> Meter<'a> {
         start.elapsed(self.rt)
     }
 
-    /// Prints the line of a stage: what it did, what came of it, and, where times are wanted, how many microseconds it took.
+    /// Prints the line of a stage: what it did, its result, and, if times are wanted, the microseconds that it took.
     pub fn show(&self, stage: &str, counts: &str, took: Duration) -> io::Result<()> {
         let rt = self.rt;
         if !self.timed {

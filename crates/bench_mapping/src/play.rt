@@ -1,4 +1,4 @@
-//! The playing of cycles and of changes.
+//! Plays cycles and changes.
 ghost use Rattle.std.specs.Prelude.{◌≡◌, ◌<◌, ◌≤◌, ◌^◌, length, IfOk};
 ghost use Rattle.lut_sim.specs.Playable.{IsPlayable};
 
@@ -14,7 +14,7 @@ use std::marker::Brand;
 use std::sync::ledger::{Blank, Ledger};
 use tl_io::Assign;
 
-// Gives bits values that look random.
+// Sets bits to pseudo-random values.
 fn draw(random: &mut Random, bits: &mut [bool])
     ensures { length bits.new ≡ length bits.old }
 {
@@ -28,7 +28,7 @@ fn ones(bits: &[bool]) -> u64 {
     bits.iter().filter(|bit| **bit).count() as u64
 }
 
-// Plays cycles under a configuration, each with inputs of its own, and answers how many outputs were 1 in all.
+// Plays cycles under a configuration, each with its own inputs, and returns how many outputs were 1 in all.
 fn play(sim: &mut Sim, config: &[bool], inputs: &mut [bool], cycles: u32) -> u64
     requires config { length config.now ≡ sim.old.template.bits }
     requires inputs { length inputs.old ≡ sim.old.shape.regular }
@@ -68,7 +68,7 @@ pub fn play_cycles(
     Ok(())
 }
 
-// Turns a parameter.
+// Inverts a parameter.
 fn turn_with<L: Ledger>(specialiser: &mut Specialiser, param: u16, blank: Blank)
     requires name { blank.name ≡ L.name }
     requires parts { blank.parts ≡ L.parts }
@@ -83,7 +83,7 @@ fn turn_with<L: Ledger>(specialiser: &mut Specialiser, param: u16, blank: Blank)
     let _values = specialiser.values();
 }
 
-// Turns parameters that look random, and answers how many writes that made.
+// Inverts pseudo-random parameters, and returns the number of writes.
 fn turn(specialiser: &mut Specialiser, params: u32, changes: u32) -> u64
     requires some { 0 < params }
     requires few { params ≤ 2 ^ 16 }

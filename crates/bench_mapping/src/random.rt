@@ -1,6 +1,6 @@
-//! Numbers that look random, the same in each run.
+//! Pseudo-random numbers, the same in each run.
 
-/// A linear congruential generator of 64 binary digits (Knuth's MMIX), whose upper digits are taken.
+/// A linear congruential generator of 64 bits (Knuth's MMIX), of which the upper bits are used.
 #[derive(Drop)]
 pub struct Random {
     state: u64,

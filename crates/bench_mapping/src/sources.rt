@@ -9,7 +9,7 @@ ghost use Rattle.lut_sim.specs.GraphShape.{HasShape, PlaysRoots};
 use aig_core::{Graph, Kind};
 use lut_sim::Shape;
 
-// How many parameters a source of this kind is.
+// 1 if a source of this kind is a parameter, and otherwise 0.
 fn params_of(kind: Kind) -> usize
     ensures value { result ≡ the_param_count (kind ∷ []) }
     ensures few { result ≤ 1 }
@@ -31,7 +31,7 @@ pub fn param_count(graph: &Graph) -> usize
     count
 }
 
-// Whether two kinds are one.
+// Whether two kinds are equal.
 fn is_kind(a: Kind, b: Kind) -> bool
     ensures { result ≡ true → a ≡ b }
 {
@@ -76,7 +76,7 @@ fn has_shape(graph: &Graph, shape: Shape) -> bool
     are_of_kind(graph, latches, graph.sources() + 1, Kind::Regular)
 }
 
-/// The shape of a graph whose last sources are so many latches, behind so many parameters; `None` where they are not.
+/// The shape of a graph whose last sources are this many latches, after this many parameters; otherwise `None`.
 pub fn shape_of(graph: &Graph, params: u32, latches: u32) -> Option<Shape>
     // A template of the graph can be played.
     ensures playable { (shape : ShapeValue) (k : ℕ) (roots : List ℕ) (t : TemplateValue) → result ≡ Some shape → PlaysRoots graph.now k roots latches t shape }

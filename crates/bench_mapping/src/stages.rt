@@ -219,7 +219,7 @@ pub fn bit_functions(
     requires light { IsMakeable graph.now template.now.luts }
     requires names { AreNamed params.now.list }
 {
-    // The graph is made for these parameters, so they are as many.
+    // The graph is made for these parameters, so their numbers are equal.
     if param_count(graph) != params.list.len() {
         return Err(BenchErr::Refused);
     }

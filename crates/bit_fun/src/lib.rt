@@ -22,7 +22,7 @@
 //! If the LUTs map the graph, the leaves of each LUT block its node: each path down ends at a leaf, a parameter or the
 //! constant. So there is exactly one bit at each address, and exactly one configuration for each list of values of the
 //! parameters (`bit`, `configuration`): both are functions of the values of the parameters alone. The law of the
-//! configuration follows (`specs/Lawful.antt`): whatever values the regular sources have, the values of the graph's literals
+//! configuration follows (`IsLawful` of `specs/Configuration.antt`): whatever values the regular sources have, the values of the graph's literals
 //! fit the LUTs under it. So a cycle of the LUTs is a cycle of the graph.
 //!
 //! [`functions`] builds these functions: all bits as literals of one graph over the parameters, a pack. The function of a

@@ -109,6 +109,7 @@ fn push_table(
 {
     let top = table.lit.0 / 2;
     let leaves = table.leaves.leaves();
+    // The proof needs what the contract of this call says of the list.
     let _count = table.leaves.len();
     walk_cone(graph, leaves, kept, top, walk)?;
     let order = walk.order();
@@ -188,6 +189,7 @@ fn make_pack(
     let mut pack = empty_graph(alloc, graph.key(), params)?;
     let tables = template.luts.as_slice();
     let bits = push_tables(alloc, graph, tables, &mut pack, &mut lits, &mut walk)?;
+    // The proof needs what the contract of this call says of the pack.
     let _nodes = pack.len();
     let pack_params = pack_params(alloc, params)?;
     Ok(Pack::make(pack_params, pack, bits))

@@ -1,4 +1,4 @@
--- What each refusal of a library tells.
+-- What each refusal of a library says.
 use Rattle.std.specs.Prelude.{Option, Some, None, codes}
 use Rattle.blif_flat.specs.Circuits.{FlatErr, UnknownModel, RecursiveModel, UnknownFormal, Unconnected, TooLarge, DoublyDriven, Undriven, SecondClock, ClockNotInput, ClockAsData, Loop, Memory}
 use Rattle.tl_fault.specs.RefusalValue.{RefusalValue, refusal}

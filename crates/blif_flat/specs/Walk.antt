@@ -63,7 +63,7 @@ pub data Walked : Type 0 where
   refused : FlatErr → Walked
   walked : List ModelValue → Walked
 
--- the walk of a model's lines behind models that were begun before
+-- the walk of a model's lines after models that were begun before
 pub data Walks (library : LibraryValue) : List (List ℕ) → ModelValue → List ModelValue → List SubcktLine → Walked → Type 0 where
   stop : {chain : List (List ℕ)} {m : ModelValue} {before : List ModelValue} {lines : List SubcktLine} {result : Walked} → lines ≡ [] → result ≡ walked before → Walks library chain m before lines result
   refuse : {chain : List (List ℕ)} {m : ModelValue} {before : List ModelValue} {lines : List SubcktLine} {result : Walked} (l : SubcktLine) (rest : List SubcktLine) (fault : FlatErr)

@@ -48,7 +48,7 @@ first_value None row = option_map (λ (r : RowRead). r.value) row
 abbrev pub row_place : List (List ℕ) → Option CoverPlace → Option CoverPlace
 row_place words place = option_map (λ (p : CoverPlace). record { inputs = p.inputs; value = first_value p.value (row_of p.inputs words) }) place
 
--- behind a `.names` line stand its rows, and behind a row further ones
+-- after a `.names` line stand its rows, and after a row further ones
 abbrev pub place_after : Keyword → List (List ℕ) → Option CoverPlace → Option CoverPlace
 place_after Names names place = Some (record { inputs = length names - 1; value = None })
 place_after Plain words place = row_place words place

@@ -17,7 +17,7 @@ pub record IsConnection (pair : Connection) : Type 0 where
   pub first : ¬ (In pair.formal 61)
   pub actual : 0 < length pair.actual
 
--- the words behind `.subckt`: the name of a model and connections, in which no formal stands twice
+-- the words after `.subckt`: the name of a model and connections, in which no formal occurs twice
 pub record IsSubckt (words : List (List ℕ)) (subckt : SubcktValue) : Type 0 where
   pub words_are : words ≡ subckt.model ∷ map connection_token subckt.pairs
   pub each : (pair : Connection) → In subckt.pairs pair → IsConnection pair
@@ -47,7 +47,7 @@ pub record IsCoverLine (s : StatementValue) (cover : CoverValue) : Type 0 where
   pub names : s.arguments ≡ cover.inputs ++ cover.output ∷ []
   pub no_rows : cover.rows ≡ [] → cover.value ≡ true
 
--- The commands of lines, in order: a cover has the rows directly behind its line. An `.end` may stand last.
+-- The commands of lines, in order: a cover has the rows directly after its line. An `.end` may stand last.
 pub data AreCommands : List StatementValue → List Command → Type 0 where
   none : AreCommands [] []
   end : (s : StatementValue) → s.keyword ≡ keyword.End → s.arguments ≡ [] → AreCommands (s ∷ []) []

@@ -12,7 +12,7 @@ pub data Controls (token : List ℕ) (control : Option (List ℕ)) : Type 0 wher
   nil : token ≡ codes "NIL" → control ≡ None → Controls token control
   net : ¬ (token ≡ codes "NIL") → control ≡ Some token → Controls token control
 
--- the words behind `.latch`: input and output, then a type with its control or none, then an init or none; the type is `re`
+-- the words after `.latch`: input and output, then a type with its control or none, then an init or none; the type is `re`
 pub data IsLatch (words : List (List ℕ)) (latch : Latch) : Type 0 where
   plain : words ≡ latch.input ∷ latch.output ∷ [] → latch.control ≡ None → latch.init ≡ false → IsLatch words latch
   with_init : (init : List ℕ) → words ≡ latch.input ∷ latch.output ∷ init ∷ [] → latch.control ≡ None → Starts init latch.init → IsLatch words latch

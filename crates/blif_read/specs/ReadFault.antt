@@ -8,7 +8,7 @@ use Rattle.blif_read.specs.Context.{context_of}
 use Rattle.blif_read.specs.LineFault.{or_later, line_fault}
 use Rattle.blif_read.specs.Denotes.{Denotes}
 
--- the refusal of the first statement that has one, each in its place behind the earlier ones
+-- the refusal of the first statement that has one, each in its place after the earlier ones
 abbrev pub first_fault : List StatementValue → List StatementValue → Option BlifErr
 first_fault earlier [] = None
 first_fault earlier (s ∷ ss) = or_later (line_fault (context_of earlier) s) (first_fault (s ∷ earlier) ss)

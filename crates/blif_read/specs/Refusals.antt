@@ -1,4 +1,4 @@
--- What each refusal of a netlist tells.
+-- What each refusal of a netlist says.
 use Rattle.std.specs.Prelude.{Option, Some, None, codes}
 use Rattle.blif_read.specs.Words.{BlifErr, BadByte, TrailingSlash, NotCommand, Unsupported, OutsideModel, Arity, BadRow, MixedRows, BadLatch, LatchKind, DuplicateModel, DuplicatePort, BadConnection, NoModel, Memory}
 use Rattle.tl_fault.specs.RefusalValue.{RefusalValue, refusal}

@@ -82,16 +82,12 @@ impl Reported for BlifErr {
             BlifErr::MixedRows(line) => Some(Refusal::new("B6", "MixedRows", Details::Line(line))),
             BlifErr::BadLatch(line) => Some(Refusal::new("B7", "BadLatch", Details::Line(line))),
             BlifErr::LatchKind(line) => Some(Refusal::new("B8", "LatchKind", Details::Line(line))),
-            BlifErr::DuplicateModel(line, name) => Some(Refusal::new(
-                "B9",
-                "DuplicateModel",
-                Details::Named(line, name),
-            )),
-            BlifErr::DuplicatePort(line, name) => Some(Refusal::new(
-                "B10",
-                "DuplicatePort",
-                Details::Named(line, name),
-            )),
+            BlifErr::DuplicateModel(line, name) => {
+                Some(Refusal::named("B9", "DuplicateModel", line, name))
+            }
+            BlifErr::DuplicatePort(line, name) => {
+                Some(Refusal::named("B10", "DuplicatePort", line, name))
+            }
             BlifErr::BadConnection(line) => Some(Refusal::new(
                 "B11",
                 "BadConnection",

@@ -42,10 +42,7 @@ fn connection(alloc: Global, word: &[u8]) -> Result<Option<Connection>, AllocErr
 {
     match sign(word) {
         None => Ok(None),
-        Some(place) => {
-            let pair = split(alloc, word, place)?;
-            Ok(pair)
-        }
+        Some(place) => split(alloc, word, place),
     }
 }
 

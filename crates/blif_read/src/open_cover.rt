@@ -71,7 +71,7 @@ fn check_value(number: u32, cover: &Cover, value: bool) -> Result<(), BlifErr>
     Err(BlifErr::MixedRows(number))
 }
 
-// The cover with a row behind the others.
+// The cover with a row after the others.
 fn with_row(cover: Cover, row: RowLine) -> Result<Cover, AllocError>
     ensures { IfOk result (λ c. c ≡ cover_with_row cover (Some row)) }
 {

@@ -49,7 +49,7 @@ fn read_once(alloc: Global, text: &[u8]) -> Result<Library, BlifErr>
 pub fn read(alloc: Global, text: &[u8]) -> Result<Library, BlifErr>
     requires { length text.now ≤ MOST_BYTES }
 
-    // The text denotes the library, and the library that a text denotes is answered, but for want of memory.
+    // The text denotes the library, and a library that the text denotes is returned unless memory runs out.
     ensures denoted { IfOk result (λ library. Denotes text.now library) }
     ensures complete { (library : LibraryValue) → Denotes text.now library
         → MatchResult result (λ answer. answer ≡ library) (λ e. e ≡ BlifErr.Memory) }

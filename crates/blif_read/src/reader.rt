@@ -58,7 +58,7 @@ fn only(mut words: Vec<Name>) -> Option<Name>
     words.pop()
 }
 
-// The name of a model that begins, by the words behind `.model`, which is then among the names.
+// The name of a model that begins, by the words after `.model`, which is then among the names.
 fn new_name(
     alloc: Global,
     names: &mut NameIndex,
@@ -78,7 +78,7 @@ fn new_name(
     Ok(name)
 }
 
-// Begins a model, by the words behind `.model`.
+// Begins a model, by the words after `.model`.
 fn begin(alloc: Global, reader: &mut Reader, number: u32, words: Vec<Name>) -> Result<(), BlifErr>
     ensures { ReadsUnless (model_fault number reader.old.names words.items)
         (λ _. reader.new ≡ next_by keyword_.Model reader.old number words.items) result }
@@ -89,7 +89,7 @@ fn begin(alloc: Global, reader: &mut Reader, number: u32, words: Vec<Name>) -> R
     Ok(())
 }
 
-// Ends the open model, by the words behind `.end`.
+// Ends the open model, by the words after `.end`.
 fn end(reader: &mut Reader, number: u32, words: &[Name]) -> Result<(), BlifErr>
     ensures { ReadsUnless (end_line_fault reader.old.current number words.now)
         (λ _. reader.new ≡ next_by keyword_.End reader.old number words.now) result }

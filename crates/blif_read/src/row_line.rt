@@ -110,10 +110,7 @@ pub(crate) fn row_line(
 {
     match words {
         [output] => Ok(one_word(alloc, inputs, output.bytes())),
-        [word, output] => {
-            let row = two_words(alloc, inputs, word.bytes(), output.bytes())?;
-            Ok(row)
-        }
+        [word, output] => two_words(alloc, inputs, word.bytes(), output.bytes()),
         _ => Ok(None),
     }
 }

@@ -32,7 +32,7 @@ unions k (c ∷ cs) ds = unions_with k c ds ++ unions k cs ds
 abbrev pub HasLow : (ℕ → ℕ) → ℕ → List (List ℕ) → Type 0
 HasLow label r cs = (c : List ℕ) × In cs c × (height label c ≤ r)
 
--- these unions, and the low cut behind them if none of them is as low as the label
+-- these unions, and the low cut after them if none of them is as low as the label
 pub data WithLow (label : ℕ → ℕ) (r : ℕ) (low : List ℕ) (unions cs : List (List ℕ)) : Type 0 where
   there : HasLow label r unions → cs ≡ unions → WithLow label r low unions cs
   missing : (HasLow label r unions → ⊥) → cs ≡ unions ++ low ∷ [] → WithLow label r low unions cs

@@ -29,7 +29,7 @@ pub data ComesBefore (first second : List ℕ → ℕ) (cs : List (List ℕ)) (i
   by_second : first (candidate_at cs i) ≡ first (candidate_at cs j) → second (candidate_at cs i) < second (candidate_at cs j) → ComesBefore first second cs i j
   by_place : first (candidate_at cs i) ≡ first (candidate_at cs j) → second (candidate_at cs i) ≡ second (candidate_at cs j) → i < j → ComesBefore first second cs i j
 
--- each place of a list comes before all behind it
+-- each place of a list comes before all after it
 abbrev pub AreInOrder : (List ℕ → ℕ) → (List ℕ → ℕ) → List (List ℕ) → List ℕ → Type 0
 AreInOrder first second cs [] = Unit {0}
 AreInOrder first second cs (i ∷ is) = ((j : ℕ) → In is j → ComesBefore first second cs i j) × AreInOrder first second cs is
@@ -84,7 +84,7 @@ pub record AreServing (g : Aig) (k : ℕ) (label : ℕ → ℕ) (rows : List (Li
   pub cuts : (n : ℕ) (c : List ℕ) → IsAnd g n → In (row_at rows n) c → IsCut g k n c
   pub low : (n : ℕ) → IsAnd g n → (c : List ℕ) × In (row_at rows n) c × (height label c ≡ label n)
 
--- for all counts and favoured nodes there is one set for each node
+-- for all counts and favoured nodes there is at most one set for each node
 abbrev pub AreOnce : Aig → ℕ → (ℕ → ℕ) → (ℕ → List ℕ) → Type 0
 AreOnce g k label lows = (counts : ℕ → ℕ) (favoured : ℕ → Bool) (rows more : List (List (List ℕ)))
     → AreSets g k label lows counts favoured rows → AreSets g k label lows counts favoured more → rows ≡ more

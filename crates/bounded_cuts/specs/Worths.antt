@@ -77,7 +77,7 @@ pub record IsPricedBy (ws : List Worth) (c : Candidate) : Type 0 where
 abbrev pub ArePricedBy : List Worth → List Candidate → Type 0
 ArePricedBy ws cs = (c : Candidate) → In cs c → IsPricedBy ws c
 
--- these candidates, and the low cut behind them if none of them is as low as the label
+-- these candidates, and the low cut after them if none of them is as low as the label
 pub data AddsLow (r : ℕ) (low : List ℕ) (all new : List Candidate) : Type 0 where
   as_low : (c : Candidate) → In all c → c.height ≤ r → new ≡ all → AddsLow r low all new
   none_low : ((c : Candidate) → In all c → r < c.height) → cuts_of new ≡ cuts_of all ++ low ∷ [] → AddsLow r low all new

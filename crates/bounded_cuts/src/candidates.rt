@@ -43,6 +43,7 @@ fn is_free(graph: &Graph, labels: &NodeLabels, m: u32) -> bool
     if m == 0 {
         return true;
     }
+    // The proof needs what the contract of this call says of the graph.
     let _count = graph.len();
     if m > graph.sources() {
         return labels.label(m) == 0;
@@ -208,6 +209,7 @@ impl Candidates {
         ensures priced { OnOk result (ArePricedBy prices.now.worths.now self.new.all.items) }
         ensures few { OnOk result (length self.new.all.items ≤ 290) }
     {
+        // The proof needs what the contract of this call says of the graph.
         let _count = graph.len();
         let pair = graph.pair_at(n);
         self.all.clear();

@@ -20,10 +20,9 @@ same_path ps qs same i p e =
 same_justified : (g : Aig) (k : ℕ) (claim : ℕ → ℕ) (s t : StepValue) → bare_step s ≡ bare_step t → IsJustified g k claim s → IsJustified g k claim t
 same_justified g k claim s t same j =
     let node : s.node ≡ t.node = ap (λ (x : StepValue). x.node) same in
-    let claims : s.claim ≡ t.claim = ap (λ (x : StepValue). x.claim) same in
     let paths : map bare_path t.paths ≡ map bare_path s.paths = ap (λ (x : StepValue). x.paths) (sym same) in
     record {
-      count = sym (length-map t.paths bare_path) ∙ (ap length paths ∙ (length-map s.paths bare_path ∙ (j.count ∙ ap (path_count k) claims)));
+      count = sym (length-map t.paths bare_path) ∙ (ap length paths ∙ (length-map s.paths bare_path ∙ (j.count ∙ ap (path_count k) (ap (λ (x : StepValue). x.claim) same))));
       paths = λ p i.
           let at = place_in t.paths p i in
           let q = same_path t.paths s.paths paths at.0 p at.1 in subst (λ n. IsPath g n p.nodes) node (subst (λ ns. IsPath g s.node ns) (sym q.2) (j.paths q.0 (In-get s.paths at.0 q.0 q.1)));

@@ -1,5 +1,5 @@
 -- A valid certificate is a lower bound of the depth of every cover: the K + 1 paths to a node show that no cut of it is low.
-use Rattle.cert_check.proofs.Common.{◌≡◌, ℕ, suc, ◌+◌, ◌/◌, ◌<◌, ◌≤◌, List, [], ◌∷◌, Option, Some, eqb, length, refl, sym, subst, inl, inr, ◌⊎◌, arith, slice_get, eqb-true, cases_lt, Aig, first_and, In, choose, Blocks, IsCut, IsPath, map, length-map, from_map, mapped_at, PathValue, StepValue, CertificateValue, IsLowerBound, AreLowerBounds, claim_of, path_count, IsJustified, Needs, node, complemented, SomeNeeds, IsValid, ArePathsTo}
+use Rattle.cert_check.proofs.Common.{◌≡◌, ℕ, suc, ◌+◌, ◌/◌, ◌<◌, ◌≤◌, List, [], ◌∷◌, Option, Some, eqb, length, refl, sym, subst, inl, inr, ◌⊎◌, arith, slice_get, eqb-true, cases_lt, Aig, first_and, In, choose, Blocks, IsCut, IsPath, map, length-map, from_map, mapped_at, PathValue, StepValue, CertificateValue, IsLowerBound, AreLowerBounds, claim_of, path_count, IsJustified, Needs, node, complemented, SomeNeeds, IsValid, ArePathsTo, rules}
 use Rattle.cut_sets.specs.Covers.{IsCover, HasDepth, source, free, table, RootsWithin}
 use Rattle.cut_sets.specs.Labels.{height}
 use Rattle.cut_sets.proofs.HeightLemmas.{height_le}
@@ -44,29 +44,20 @@ nodes_at ps i l at = mapped_at (λ p. p.nodes) ps i l at
 module _ (g : Aig) (k : ℕ) (claim : ℕ → ℕ) (s : StepValue) (just : IsJustified g k claim s) where
   -- the empty set does not block its node
   not_free : Blocks g [] s.node → ⊥
-  not_free b = let p = some_path s.paths (let e : length s.paths ≡ path_count k s.claim = just.count in let m : 1 ≤ path_count k s.claim = path_count-one k s.claim in omega arith) in
-      path_not_free g s.node p.0.nodes (just.paths p.0 p.1) b
+  not_free b = grind (arith, some_path, path_count-one, path_not_free)
 
   shown : ArePathsTo g s.node s.claim claim (nodes_of s.paths)
   unfolding nodes_of
-  shown = record {
-    paths = λ l i. let p = from_map (λ (q : PathValue). q.nodes) s.paths l i in subst (λ ns. IsPath g s.node ns) (sym p.2) (just.paths p.0 p.1);
-    apart = λ i j m l r less at next a b other.
-        let p = nodes_at s.paths i l at in
-        let q = nodes_at s.paths j r next in
-        just.apart i j m p.0 q.0 less p.1 q.1 (subst (λ ns. In ns m) p.2 a) (subst (λ ns. In ns m) q.2 b) other;
-  }
+  shown = search (rules, from_map, nodes_at)
 
   -- a cut of its node has a leaf whose claim is at least one less
   not_shallow : (c : List ℕ) (d : ℕ) → IsCut g k s.node c → ((m : ℕ) → In c m → claim m ≤ d) → suc d < s.claim → ⊥
   unfolding nodes_of
   not_shallow c d cut low deep =
-      let e : length s.paths ≡ path_count k s.claim = just.count in
       let f : path_count k s.claim ≡ k + 1 = path_count-more k s.claim (omega arith) in
       let l : length (nodes_of s.paths) ≡ length s.paths = length-map s.paths (λ q. q.nodes) in
-      let h : s.claim ≤ height claim c = paths_high g k s.node s.claim claim (nodes_of s.paths) shown (omega arith) c cut in
       let u : height claim c ≤ suc d = height_le claim c d low in
-      absurd (omega arith)
+      absurd (omega (arith, paths_high g k s.node s.claim claim (nodes_of s.paths) shown (omega arith) c cut))
 
 module _ (g : Aig) (k : ℕ) (roots : List ℕ) (cert : CertificateValue) (valid : IsValid g roots k cert) (cover_roots : List ℕ) (cover : ℕ → Option (List ℕ)) (is : IsCover g k cover_roots cover) where
   -- a claim that is 0 is no deeper than anything

@@ -19,7 +19,7 @@ pub record IsAbove (g : Aig) (before : List StepValue) (s : StepValue) : Type 0 
   pub and : IsAnd g s.node
   pub above : (t : StepValue) → In before t → t.node < s.node
 
--- m may stand in a path of the step behind these ones: if it stands in one of them, it is the step's node or has a claim of H - 1 at
+-- m may stand in a path of the step after these ones: if it stands in one of them, it is the step's node or has a claim of H - 1 at
 -- least, where H is the step's
 abbrev pub MayStand : (ℕ → ℕ) → StepValue → List PathValue → ℕ → Type 0
 MayStand claim s earlier m = (p : PathValue) → In earlier p → In p.nodes m → m ≢ s.node → s.claim ≤ claim m + 1
@@ -29,7 +29,7 @@ abbrev pub NodesFault : (ℕ → ℕ) → StepValue → List PathValue → ℕ �
 NodesFault claim s earlier line [] rest e = rest
 NodesFault claim s earlier line (m ∷ ms) rest e = First (MayStand claim s earlier m) (Shared line m) (NodesFault claim s earlier line ms rest e) e
 
--- among the paths of a step, behind earlier ones
+-- among the paths of a step, after earlier ones
 abbrev pub PathsFault : Aig → (ℕ → ℕ) → StepValue → List PathValue → List PathValue → Type 0 → CertErr → Type 0
 PathsFault g claim s earlier [] rest e = rest
 PathsFault g claim s earlier (p ∷ ps) rest e =
@@ -39,7 +39,7 @@ PathsFault g claim s earlier (p ∷ ps) rest e =
 abbrev pub StepFault : Aig → ℕ → (ℕ → ℕ) → StepValue → Type 0 → CertErr → Type 0
 StepFault g k claim s rest e = First (length s.paths ≡ path_count k s.claim) (PathCount s.line) (PathsFault g claim s [] s.paths rest e) e
 
--- among the steps, behind earlier ones: only the claims of these count
+-- among the steps, after earlier ones: only the claims of these count
 abbrev pub StepsFault : Aig → ℕ → List StepValue → List StepValue → Type 0 → CertErr → Type 0
 StepsFault g k before [] rest e = rest
 StepsFault g k before (s ∷ ss) rest e =

@@ -52,7 +52,7 @@ pub record ReadsBack (text : List ℕ) (c : CertificateValue) : Type 0 where
   pub is : IsCertText text read
   pub same : bare read ≡ bare c
 
--- a number behind a blank
+-- a number after a blank
 abbrev pub number_text : ℕ → List ℕ
 number_text n = 32 ∷ decimal n
 

@@ -16,14 +16,14 @@
 //!
 //! # Terms
 //!
-//! `specs/Valid.antt` defines when a certificate is valid, `specs/Paths.antt` what a path is, and `specs/LowerBound.antt`
-//! what a valid certificate shows, in terms of the covers and depths of crate `cut_sets` (`specs/Covers.antt`).
+//! `specs/Valid.antt` defines when a certificate is valid, and what a valid one shows (`IsLowerBound`), in terms of the
+//! paths, covers and depths of crate `cut_sets` (`specs/Paths.antt`, `specs/Covers.antt`).
 //! `specs/Faults.antt` has the fault of an invalid certificate: the first rule that it breaks. `proofs/CertExample.antt`
 //! works out a certificate of depth 2.
 //!
 //! The text of a certificate is the line `depth D`, and for each step a line `claim NODE H` and a line `path NODE NODE ..`
 //! for each path. `specs/CertText.antt` defines which text is that of which certificate, and the first malformed line;
-//! `specs/WrittenText.antt` defines the text that is written. `proofs/TextExample.antt` reads some.
+//! `specs/WrittenText.antt` defines the text that is written. `proofs/CertExample.antt` reads some.
 //!
 //! # The calls
 //!

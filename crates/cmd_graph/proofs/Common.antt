@@ -12,4 +12,4 @@ pub use Rattle.tl_io.proofs.PutLemmas.{put_as}
 pub use Rattle.tl_io.specs.Shelf.{Files, emptied, ShelfSeen}
 pub use Rattle.cmd_graph.specs.Graph.{circuit_at, HasOtherNames, IsExported, HasExport, HasGraphJob, graph_walk, GraphWords, graph_seen}
 pub use Rattle.cmd_stations.specs.Source.{IsSourceRefused, IsSourceSettled, source_seen}
-pub use Rattle.cmd_graph.specs.Exports.{IsExport, export_text, circuit_of}
+pub use Rattle.cmd_graph.specs.Exports.{IsExport, export_text, export_circuit}

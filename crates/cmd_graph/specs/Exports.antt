@@ -10,23 +10,23 @@ use Rattle.cmd_graph.specs.Graph.{graph_line, circuit_at, IsExported}
 use Rattle.cmd_graph.specs.declared.export.Export.{Export}
 
 -- the circuit of a graph with these places of its regular inputs, and that it can be written with them
-abbrev pub circuit_of : BuiltSource → List ℕ → Circuit
-circuit_of b regular = circuit_at b.source regular b.graph b.roots
+abbrev pub export_circuit : BuiltSource → List ℕ → Circuit
+export_circuit b regular = circuit_at b.source regular b.graph b.roots
 
-abbrev pub IsWrittenAt : BuiltSource → List ℕ → Type 0
-IsWrittenAt b regular = IsWrittenFrom b.source.netlist.flat b.source.params.list regular b.graph b.roots
+abbrev pub CanBeWritten : BuiltSource → List ℕ → Type 0
+CanBeWritten b regular = IsWrittenFrom b.source.netlist.flat b.source.params.list regular b.graph b.roots
 
 -- it has the places of its regular inputs and its line, and can be written; its circuit is that of the source circuit
 pub record IsExport (e : Export) : Type 0 where
   pub built : IsBuiltSource e.built
   pub places : AreRegularPlaces e.built.source.netlist.flat e.built.source.params.list e.regular.items
-  pub written : IsWrittenAt e.built e.regular.items
-  pub exported : IsExported e.built.source (circuit_of e.built e.regular.items)
-  pub line : string_bytes e.line ≡ graph_line (circuit_of e.built e.regular.items).header
+  pub written : CanBeWritten e.built e.regular.items
+  pub exported : IsExported e.built.source (export_circuit e.built e.regular.items)
+  pub line : string_bytes e.line ≡ graph_line (export_circuit e.built e.regular.items).header
 
 -- its file, and the writing of this and then of its line, whatever ports there are
 abbrev pub export_text : List ℕ → Export → FileText
-export_text name e = record { name = name; bytes = circuit_text (circuit_of e.built e.regular.items) }
+export_text name e = record { name = name; bytes = circuit_text (export_circuit e.built e.regular.items) }
 
 abbrev pub WritesExport : {E : Type 0} → List ℕ → Export → ShelfSeen → ShelfSeen → SinkSeen → SinkSeen → Result Unit E → Type 0
 WritesExport name e old new before after result = (ports : List PortSeen) → WritesAll (export_text name e ∷ []) (string_bytes e.line) (outside old before ports) (outside new after ports) result

@@ -5,7 +5,7 @@ ghost use Rattle.tl_io.specs.Causes.{HasCause};
 ghost use Rattle.cmd_stations.specs.Tables.{IsBuiltSource};
 ghost use Rattle.cmd_stations.specs.FileWrites.{WritesFile};
 ghost use Rattle.cmd_graph.specs.Graph.{graph_line, IsExported};
-ghost use Rattle.cmd_graph.specs.Exports.{circuit_of, IsWrittenAt, IsExport, export_text};
+ghost use Rattle.cmd_graph.specs.Exports.{export_circuit, CanBeWritten, IsExport, export_text};
 
 use aiger_io::{graph_law, put_aag};
 use cmd_stations::BuiltSource;
@@ -25,7 +25,7 @@ pub struct Export {
 fn regular_places(alloc: Global, built: &BuiltSource) -> Result<Vec<u32>, AllocError>
     requires { IsBuiltSource built.now }
     ensures places { IfOk result (λ places. AreRegularPlaces built.now.source.netlist.flat built.now.source.params.list places.items) }
-    ensures written { IfOk result (λ places. IsWrittenAt built.now places.items) }
+    ensures written { IfOk result (λ places. CanBeWritten built.now places.items) }
 {
     let places = regular(alloc, &built.source.netlist.flat, &built.source.params)?;
     Ok(places)
@@ -33,8 +33,8 @@ fn regular_places(alloc: Global, built: &BuiltSource) -> Result<Vec<u32>, AllocE
 
 // The line with the graph's counts.
 fn counts_line(alloc: Global, built: &BuiltSource, regular: &[u32]) -> Result<String, AllocError>
-    requires { IsWrittenAt built.now regular.now }
-    ensures { IfOk result (λ line. string_bytes line ≡ graph_line (circuit_of built.now regular.now).header) }
+    requires { CanBeWritten built.now regular.now }
+    ensures { IfOk result (λ line. string_bytes line ≡ graph_line (export_circuit built.now regular.now).header) }
 {
     let inputs = regular.len() + built.source.params.list.len();
     let latches = built.source.netlist.flat.latches.len();
@@ -45,8 +45,8 @@ fn counts_line(alloc: Global, built: &BuiltSource, regular: &[u32]) -> Result<St
 // The law of the circuit that is written: it is that of the source circuit. The body is empty: the call is its contract.
 fn export_law(built: &BuiltSource, regular: &[u32])
     requires built { IsBuiltSource built.now }
-    requires written { IsWrittenAt built.now regular.now }
-    ensures { IsExported built.now.source (circuit_of built.now regular.now) }
+    requires written { CanBeWritten built.now regular.now }
+    ensures { IsExported built.now.source (export_circuit built.now regular.now) }
 {
     let source = &built.source;
     graph_law(

@@ -37,14 +37,14 @@ map_seen words = record { source = source_seen words.source; template = words.te
 pub record ReplaysMachine (source : Source) (template : TemplateValue) (pack : PackValue) : Type 0 where
   -- it is that pack's
   pub file : IsPackFile (present_bytes pack) pack
-  -- wherever it stands: for events of the host, a host that starts on it puts the lines that a machine of the tables puts
+  -- wherever it stands: for events of the host, a host that starts on it puts the lines that a machine of the LUTs puts
   pub lines : (files : Files) (name : List ℕ) (p : PackValue) → get files name ≡ Some (present_bytes pack) → HasPack files name p
       → (h end : SpecialiserValue) (events : List EventValue) (lines : List (List ℕ)) → IsHostStart p h → AreHostSteps h events lines end
       → (script : List EventValue) (m : MachineValue) → IsStart (record { source = source; template = template; events = script }) m
       → (ports : BankSeen) (machine_lines : List (List ℕ)) (stage : Stage) → HasCome m ports events machine_lines stage → lines ≡ machine_lines
 
--- The source circuit that the files hold was mapped, with the least depth. One file has the netlist of its tables with their bits as inputs; the other is the file, in version 2, of the pack of these bits as functions of the parameters. Read again, the
--- netlist has the source circuit's cycles wherever these inputs have the configuration of values of the parameters; and for events of the host the pack is played as the machine of the tables plays them.
+-- The source circuit that the files hold was mapped, with the least depth. One file has the netlist of its LUTs with their bits as inputs; the other is the file, in version 2, of the pack of these bits as functions of the parameters. Read again, the
+-- netlist has the source circuit's cycles wherever these inputs have the configuration of values of the parameters; and for events of the host the pack is played as the machine of the LUTs plays them.
 pub record HasMap (files : Files) (words : MapWords) (Ends : List FileText → List ℕ → Type 0) : Type 0 where
   pub source : Source
   pub template : TemplateValue

@@ -23,7 +23,7 @@ spec_of rule words = None
 abbrev pub spec_seen : SpecWordsRead → SpecWords
 spec_seen words = record { source = source_seen words.source; out = words.out.now }
 
--- The source circuit that the files hold was mapped, with the least depth. The file has the netlist of its tables under the configuration of the listed values, specialised from scratch; read again, it runs as the source circuit under these values.
+-- The source circuit that the files hold was mapped, with the least depth. The file has the netlist of its LUTs under the configuration of the listed values, specialised from scratch; read again, it runs as the source circuit under these values.
 pub record HasSpec (files : Files) (words : SpecWords) (Ends : List FileText → List ℕ → Type 0) : Type 0 where
   pub source : Source
   pub template : TemplateValue

@@ -30,14 +30,14 @@ abbrev pub stage_of : PacerValue → PaceStage
 stage_of p = record { params = p.params; config = p.config; states = p.sim.states }
 
 module _ (source : Source) (g : Aig) (template : TemplateValue) (rate : ℕ) where
-  -- An ask: its line tells at how many addresses the device's configuration differs from the one specialised from scratch for the new values; nothing is written, and no state changes.
+  -- An ask: its line says at how many addresses the device's configuration differs from the one specialised from scratch for the new values; nothing is written, and no state changes.
   pub record ShowsAsk (asked : List Bool) (old : PaceStage) (line : List ℕ) (new : PaceStage) : Type 0 where
     pub wanted : List Bool
     pub is : IsConfiguration g template.luts asked wanted
     pub line_is : line ≡ ask_line (length (differences old.config wanted))
     pub becomes : new ≡ record old { params = asked }
 
-  -- A tick that steps: the device has the configuration specialised from scratch for the values that were asked for last; the tables under it are played, and no other values fit them; the outputs and the states are those of the source circuit's cycle under the values that were asked for.
+  -- A tick that steps: the device has the configuration specialised from scratch for the values that were asked for last; the LUTs are played under it, and no other values fit them; the outputs and the states are those of the source circuit's cycle under the values that were asked for.
   pub record ShowsStep (values : List Bool) (old : PaceStage) (line : List ℕ) (new : PaceStage) : Type 0 where
     pub is : IsConfiguration g template.luts old.params old.config
     pub outputs : List Bool
@@ -71,11 +71,11 @@ module _ (source : Source) (g : Aig) (template : TemplateValue) (rate : ℕ) whe
     pub states : AreInits source.netlist.library first.states
 
   -- the machine that asks and ticks show of the source circuit, and some events one after the other, with their lines
-  abbrev pub shown_machine : MealyMachine PaceValue PaceStage (List ℕ)
-  shown_machine = record { IsStart = IsFirst; HasCycle = Shows }
+  abbrev pub shown_pace_machine : MealyMachine PaceValue PaceStage (List ℕ)
+  shown_pace_machine = record { IsStart = IsFirst; HasCycle = Shows }
 
   abbrev pub ShowAll : PaceStage → List PaceValue → List (List ℕ) → PaceStage → Type 0
-  ShowAll = Passes shown_machine
+  ShowAll = Passes shown_pace_machine
 
 -- However the machine was asked and however it ticked, the ticks that come next wait while the bits that differ then aren't written, as many a tick as the port takes, and each later tick is a cycle.
 abbrev pub StallsAnywhere : PacerValue → Type 0

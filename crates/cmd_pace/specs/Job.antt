@@ -7,7 +7,7 @@ use Rattle.run_text.specs.declared.event.Forms.TheVariants as forms
 use Rattle.cmd_pace.specs.Words.{SourceWords, source_words, k_of, source_seen, IsTableSize, ScriptedWords, HasScripted, Files, TemplateValue, PaceValue, PacerValue, Source, template_header}
 use Rattle.cmd_pace.specs.declared.words.PaceWords.{PaceWords as PaceWordsRead}
 use Rattle.run_text.specs.EventValue.{EventValue}
-use Rattle.pace_core.specs.PaceText.{ArePaced as AreAsksAndTicks}
+use Rattle.pace_core.specs.PaceText.{AreAsksAndTicks}
 use Rattle.cmd_stations.specs.Machine.{IsSourceStart}
 
 -- the source circuit, the word that names the script, and how many bits the configuration port takes a tick
@@ -41,7 +41,7 @@ pace_seen words = record { source = source_seen words.source; script = words.scr
 abbrev pub scripted_of : PaceWords → ScriptedWords
 scripted_of words = record { source = words.source; script = words.script; forms = forms.Pace }
 
--- the size of the tables is from 2 to the most leaves of a cut, and the port takes a bit at least
+-- the size of the LUTs is from 2 to the most leaves of a cut, and the port takes a bit at least
 pub record IsInRange (words : PaceWordsRead) : Type 0 where
   pub size : IsTableSize words.source.k
   pub rate : 1 ≤ words.rate

@@ -1,4 +1,4 @@
--- The walk of `pace`, and how its job ends: what stands in the output.
+-- The walk of `pace`, and how its job ends: what is in the output.
 use Rattle.std.specs.Prelude.{◌≡◌, ◌⊎◌, ℕ, List, map}
 use Rattle.tl_io.specs.Causes.{Rose}
 use Rattle.cmd_pace.specs.Words.{Files, PaceValue, PacerValue, Shown, shown_line, IsPaced, ArePaced, Outside, CommandWalk, portless_walk, AreAllPut, IsCutInFront, IsCutInLine, scripted_reading, IsLeastMapped}
@@ -17,7 +17,7 @@ pub record IsShown (event : PaceValue) (old : PacerValue) (line : List ℕ) (new
   pub paced : IsPaced event old new one
   pub line_is : line ≡ shown_line one
 
--- How a job of `pace` ends: what stands in the output.
+-- How a job of `pace` ends: what is in the output.
 module _ (p : PacerValue) (events : List PaceValue) (old new : Outside) where
   -- each event was played, and the output grew by the header and a line an event
   pub record IsAllPaced : Type 0 where
@@ -29,7 +29,7 @@ module _ (p : PacerValue) (events : List PaceValue) (old new : Outside) where
     pub cut : IsCutInFront (pacer_header p) old.bytes new.bytes ⊎ IsCutInLine (HaveShown p) IsShown (pacer_header p) events old.bytes new.bytes
     pub cause : Rose old.put_faults new.put_faults
 
--- the files hold a job, whose source circuit is sound and mapped with the least depth, its machine stands at the start, and this is so of its playing
+-- the files hold a job, whose source circuit is sound and mapped with the least depth, its machine is at the start, and this is so of its playing
 pub record HasPace (files : Files) (words : PaceWords) (old new : Outside) (Ends : PacerValue → List PaceValue → Outside → Outside → Type 0) : Type 0 where
   pub job : PaceJob
   pub is_job : IsPaceJob files words job

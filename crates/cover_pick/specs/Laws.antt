@@ -24,13 +24,13 @@ EachMaps rows g label roots = EachTemplate (Rows rows) g label roots (λ t. (k :
 abbrev pub EachHasLeast : List (List (List ℕ)) → Aig → (ℕ → ℕ) → RootsValue → Type 0
 EachHasLeast rows g label roots = EachTemplate (Rows rows) g label roots (λ t. (k : ℕ) → AreRows g k (node_count g) rows → HasLeast g k roots t)
 
--- there is one template
-abbrev pub IsOne : Supply → Aig → (ℕ → ℕ) → RootsValue → Type 0
-IsOne supply g label roots = (t u : TemplateValue) → IsTemplate supply g label roots t → IsTemplate supply g label roots u → t ≡ u
+-- there is at most one template
+abbrev pub HasOneTemplate : Supply → Aig → (ℕ → ℕ) → RootsValue → Type 0
+HasOneTemplate supply g label roots = (t u : TemplateValue) → IsTemplate supply g label roots t → IsTemplate supply g label roots u → t ≡ u
 
 -- no template's work is both within the limit and past it
-abbrev pub IsLightOrNot : Supply → Aig → (ℕ → ℕ) → RootsValue → Type 0
-IsLightOrNot supply g label roots = (t : TemplateValue) → IsTemplate supply g label roots t → IsLight supply g t.luts → IsTooMuch supply g label (roots_of roots) → ⊥
+abbrev pub IsNotBothLightAndNot : Supply → Aig → (ℕ → ℕ) → RootsValue → Type 0
+IsNotBothLightAndNot supply g label roots = (t : TemplateValue) → IsTemplate supply g label roots t → IsLight supply g t.luts → IsTooMuch supply g label (roots_of roots) → ⊥
 
 -- too much work is refused, unless memory runs out
 abbrev pub IsRefused : Result TemplateValue PickErr → Type 0

@@ -33,7 +33,7 @@ HaveBases b (t ∷ ts) = (t.base ≡ b) × HaveBases (b + 2 ^ length t.leaves) t
 abbrev pub bits_of : List Lut → ℕ
 bits_of ts = sum_by (λ t. 2 ^ length t.leaves) ts
 
--- LutList of at most k leaves that map a graph for some roots: each root and each AND leaf has its table, but for positive regular sources.
+-- LUTs of at most k leaves that map a graph for some roots: each root and each AND leaf has its LUT, except positive regular sources.
 pub record IsMapping (g : Aig) (k : ℕ) (roots : List ℕ) (luts : List Lut) (bits : ℕ) : Type 0 where
   pub table : (t : Lut) → In luts t → IsTableOf g k t
   pub root : (l : ℕ) → In roots l → IsPlain g l ⊎ HasLut luts l

@@ -144,6 +144,7 @@ impl Search {
         ensures stamps { OnOk result ((n : ℕ) → stamp_at self.new.stamps n ≤ stamp) }
         ensures met { OnOk result (MeetsCone graph.now once.now leaves.now top self.old.met self.new.met) }
     {
+        // The proof needs what the contract of this call says of the graph.
         let _count = graph.len();
         self.forget();
         self.reach(graph, once, leaves, stamp, top)?;

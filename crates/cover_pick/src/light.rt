@@ -31,6 +31,7 @@ pub fn apart_tables(
     ensures light { IfOk result (λ made. IsWithin graph.now (λ n. ⊥) made.luts) }
     ensures err { IfErr result (OrMemory refusal_of (λ _. IsPast graph.now (λ n. ⊥) (tables_of graph.now (lits_of roots.now) cuts.now).luts)) }
 {
+    // The proof needs what the contract of this call says of the graph.
     let _count = graph.len();
     let made = make_tables(alloc, graph, cuts, roots)?;
     limit_work(alloc, graph, &[], &made.luts)?;
@@ -52,6 +53,7 @@ pub fn sharing_tables(
     ensures light { IfOk result (λ made. IsWithin graph.now (IsFree graph.now made.luts) made.luts) }
     ensures err { IfErr result (OrMemory refusal_of (λ _. IsPastSharing graph.now (tables_of graph.now (lits_of roots.now) cuts.now).luts)) }
 {
+    // The proof needs what the contract of this call says of the graph.
     let _count = graph.len();
     let made = make_tables(alloc, graph, cuts, roots)?;
     let free = free_nodes(alloc, graph, &made.luts)?;

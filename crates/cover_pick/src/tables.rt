@@ -117,6 +117,7 @@ fn marked_tables(
     ensures ok { IfOk result (λ made. made ≡ tables_from graph.now cuts.now (record { luts = []; bits = 0 }) 0 marks.now) }
     ensures err { IfErr result (OrMemory refusal_of (λ _. MOST_WORK < (tables_from graph.now cuts.now (record { luts = []; bits = 0 }) 0 marks.now).bits)) }
 {
+    // The proof needs what the contract of this call says of the graph.
     let _count = graph.len();
     let mut made = LutList {
         luts: Vec::new(alloc),

@@ -11,7 +11,7 @@ ghost use Rattle.bounded_cuts.specs.Sets.{places};
 ghost use Rattle.cover_pick.specs.Rounds.{Rows, Sets};
 ghost use Rattle.cover_pick.specs.Work.{IsLight};
 ghost use Rattle.cover_pick.specs.Template.{IsTemplate, AreTimely, IsTooMuch};
-ghost use Rattle.cover_pick.specs.Laws.{EachHasLeast, EachMaps, EachTemplate, HasLeast, IsLightOrNot, IsOne, IsRefused, Maps};
+ghost use Rattle.cover_pick.specs.Laws.{EachHasLeast, EachMaps, EachTemplate, HasLeast, IsNotBothLightAndNot, HasOneTemplate, IsRefused, Maps};
 ghost use Rattle.cover_pick.specs.Picked.{ArePicked, CanMakeSets, CanPickFewest, GivesPicked, GivesTemplate, IsPicked};
 
 use crate::choices::Choices;
@@ -198,12 +198,12 @@ pub fn pick(
     // Exactly one template exists. It maps the graph with the least depth over all covers, whatever the call returns.
     ensures mapping { EachMaps table.now graph.now (label_of labels.now) roots.now }
     ensures least { EachHasLeast table.now graph.now (label_of labels.now) roots.now }
-    ensures once { IsOne (Rows table.now) graph.now (label_of labels.now) roots.now }
+    ensures once { HasOneTemplate (Rows table.now) graph.now (label_of labels.now) roots.now }
 
     // The limit on the work, in both directions.
     ensures light { IfOk result (λ t. IsLight (Rows table.now) graph.now t.luts) }
     ensures work { IfErr result (OrMemory refusal_of (λ _. IsTooMuch (Rows table.now) graph.now (label_of labels.now) (roots_of roots.now))) }
-    ensures excluded { IsLightOrNot (Rows table.now) graph.now (label_of labels.now) roots.now }
+    ensures excluded { IsNotBothLightAndNot (Rows table.now) graph.now (label_of labels.now) roots.now }
     ensures too_much { IsTooMuch (Rows table.now) graph.now (label_of labels.now) (roots_of roots.now) → IsRefused result }
 {
     // The contract of this call says that the graph's pairs are normal, which the least depth needs.
@@ -258,14 +258,15 @@ pub fn pick_compact(
     // Exactly one template exists. It maps the graph with the least depth over all covers, whatever the call returns.
     ensures mapping { EachTemplate (Sets k (low_in lows.now)) graph.now (label_at labels.now) roots.now (Maps graph.now k roots.now) }
     ensures least { EachTemplate (Sets k (low_in lows.now)) graph.now (label_at labels.now) roots.now (HasLeast graph.now k roots.now) }
-    ensures once { IsOne (Sets k (low_in lows.now)) graph.now (label_at labels.now) roots.now }
+    ensures once { HasOneTemplate (Sets k (low_in lows.now)) graph.now (label_at labels.now) roots.now }
 
     // The limit on the work, in both directions.
     ensures light { IfOk result (λ t. IsLight (Sets k (low_in lows.now)) graph.now t.luts) }
     ensures work { IfErr result (OrMemory refusal_of (λ _. IsTooMuch (Sets k (low_in lows.now)) graph.now (label_at labels.now) (roots_of roots.now))) }
-    ensures excluded { IsLightOrNot (Sets k (low_in lows.now)) graph.now (label_at labels.now) roots.now }
+    ensures excluded { IsNotBothLightAndNot (Sets k (low_in lows.now)) graph.now (label_at labels.now) roots.now }
     ensures too_much { IsTooMuch (Sets k (low_in lows.now)) graph.now (label_at labels.now) (roots_of roots.now) → IsRefused result }
 {
+    // The proof needs what the contract of this call says of the graph.
     let _count = graph.len();
     // The contract of this call says that a graph has one set for each node, and that sets serve.
     set_laws(graph, k, labels, lows);

@@ -52,6 +52,7 @@ fn own_works(
     ensures met { OnOk result (AreMet graph.now once.now luts.now [] search.new.met) }
     ensures past { IfErr result (OrMemory refusal_of (λ _. IsPast graph.now (once_in once.now) luts.now)) }
 {
+    // The proof needs what the contract of this call says of the graph.
     let _count = graph.len();
     let mut work = 0;
     for lut in luts {

@@ -1,4 +1,4 @@
--- What each refusal of a graph tells that has too many cuts.
+-- What each refusal of a graph says that has too many cuts.
 use Rattle.std.specs.Prelude.{Option, Some, None, codes}
 use Rattle.tl_fault.specs.RefusalValue.{RefusalValue, refusal}
 use Rattle.tl_fault.specs.declared.refusal.Details.TheVariants.{Node}

@@ -96,6 +96,7 @@ pub fn merge(a: &Cut, b: &Cut, k: u8) -> Option<Cut>
     ensures some { IfSome result (λ c. IsUnion a.now b.now c × (length c ≤ k)) }
     ensures none { IfNone result ((c : List ℕ) × IsUnion a.now b.now c × (k < length c)) }
 {
+    // The proof needs this field's model.
     let _leaves = &b.leaves;
     joined(a, b, k)
 }

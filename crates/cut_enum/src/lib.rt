@@ -29,7 +29,7 @@
 //! # Signatures
 //! The signature of a cut is a word of 64 bits in which bit (leaf mod 64) is set for each leaf. If a cut's signature has
 //! a bit that another's lacks, the other cut doesn't contain it. If two signatures together have more than k bits, the
-//! union of the cuts has more than k leaves. Both tests are proved to change no result (`proofs/SignatureLemmas.antt`),
+//! union of the cuts has more than k leaves. Both tests are proved to change no result (`cut_sets/proofs/SignatureLemmas.antt`),
 //! and save most comparisons of leaves.
 //!
 //! Each cut in the table stores its signature. A union's signature is the OR of the two cuts' signatures. While the cuts

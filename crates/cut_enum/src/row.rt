@@ -76,8 +76,7 @@ fn front(alloc: Global, graph: &Graph, rows: &CutRows, m: u32) -> Result<Signed,
         return Ok(signed);
     }
     let cuts = own_cuts(alloc, rows, m)?;
-    let signed = Signed::of(alloc, cuts)?;
-    Ok(signed)
+    Signed::of(alloc, cuts)
 }
 
 // The least unions of what the two nodes of a pair hand on.

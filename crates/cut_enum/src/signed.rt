@@ -138,7 +138,7 @@ impl Signed {
         })
     }
 
-    // With the cuts of a level behind the others, in order.
+    // With the cuts of a level after the others, in order.
     pub fn extended(self, level: &Level) -> Result<Signed, AllocError>
         ensures { IfOk result (λ s. s ≡ self ++ level.now) }
     {

@@ -32,7 +32,7 @@ pub record Covers (cs : List (List ℕ)) (c : List ℕ) : Type 0 where
   pub in' : In cs by
   pub part : Within by c
 
--- exactly the minimal cuts, those with fewer leaves first, then lexicographically: so each stands once
+-- exactly the minimal cuts, those with fewer leaves first, then lexicographically: so each occurs once
 pub record AreMinimal (g : Aig) (k n : ℕ) (cs : List (List ℕ)) : Type 0 where
   pub only : (c : List ℕ) → In cs c → IsMinimal g k n c
   pub all : (c : List ℕ) → IsMinimal g k n c → In cs c

@@ -1,5 +1,5 @@
 -- What the proofs of this crate cite of other crates, and its own definitions, passed on from one place.
-pub use Rattle.std.proofs.Common.{◌≡◌, ℕ, zero, suc, ◌+◌, ◌<◌, ◌≤◌, cond, List, [], ◌∷◌, ◌++◌, length, set, get_or, replicate, refl, sym, ap, ◌∙◌, subst, inl, inr, arith, eq-eqb, ◌⊎◌, ◌-◌, take, drop, slice_range, drop-cons, ◌*◌, ◌/◌, ◌%◌, ◌^◌, min, bit_and, bit_or, Bool, true, false, eqb, eqb-true, Some, None, MatchOption, vec_len}
+pub use Rattle.std.proofs.Common.{◌≡◌, ℕ, zero, suc, ◌+◌, ◌<◌, ◌≤◌, cond, List, [], ◌∷◌, ◌++◌, length, set, get_or, replicate, refl, sym, ap, ◌∙◌, subst, inl, inr, arith, eq-eqb, ◌⊎◌, ◌-◌, take, drop, slice_range, drop-cons, ◌*◌, ◌/◌, ◌%◌, ◌^◌, min, bit_and, bit_or, Bool, true, false, eqb, eqb-true, Some, None, MatchOption, vec_len, rules}
 pub use Rattle.std.proofs.lemmas.Bool.{cases_eq, cases_lt, ne_eqb, lt-ltb, le-ltb}
 pub use Rattle.std.proofs.lemmas.List.{append-nil, length-append, length-set, length-replicate, get_or-set_same, get_or-set_other, get_or_read, length-drop, take-append-drop, take_more, take-set-le, take_more_set, drop-set-lt, drop-set-add, same_lists, get_or-replicate, get_or_past, append_assoc, length-take}
 pub use Rattle.std.proofs.lemmas.List.FromFn.{length-map-range_with_len, get_or-map-range_with_len}

@@ -1,21 +1,15 @@
 -- Readers are AND nodes above what they read, and addresses of the pack; the lists that are made of a pack's readings are those of its readers.
-use Rattle.dirty_idx.proofs.Common.{ℕ, ◌+◌, ◌-◌, ◌/◌, ◌<◌, ◌≤◌, List, length, inl, inr, arith, slice_get_within, Lit, Aig, first_and, IsAnd, IsNormal, AreNormal, Reads, IsLitOf, ◌≡◌, ◌⊎◌, suc, ◌*◌, [], ◌∷◌, ◌++◌, drop, Some, refl, sym, ap, ◌∙◌, subst, slice_get, none-some, same_Some, append_assoc, length-map-range_with_len, get_or-map-range_with_len, cases_eq, In, Pair, node_count, pair_of, PackValue, IsPack, Reading, AreAll, AreReaders, readers_in, lists_of, AreOf, node_readings, bit_readings}
+use Rattle.dirty_idx.proofs.Common.{ℕ, ◌+◌, ◌-◌, ◌/◌, ◌<◌, ◌≤◌, List, length, inl, inr, arith, slice_get_within, Lit, Aig, first_and, IsAnd, IsNormal, AreNormal, Reads, IsLitOf, ◌≡◌, ◌⊎◌, suc, ◌*◌, [], ◌∷◌, ◌++◌, drop, Some, refl, sym, ap, ◌∙◌, subst, slice_get, none-some, same_Some, append_assoc, length-map-range_with_len, get_or-map-range_with_len, cases_eq, In, Pair, node_count, pair_of, PackValue, IsPack, Reading, AreAll, AreReaders, readers_in, lists_of, AreOf, node_readings, bit_readings, rules}
 use Rattle.list_laws.proofs.Places.{drop_get}
 use Rattle.ppc_pack.specs.declared.pack.PackParam.{PackParam}
 use Rattle.dirty_idx.proofs.CountLemmas.{readers_same, readers_other}
 
 pub reads_and : (g : Aig) (n m : ℕ) → Reads g n m → IsAnd g m
-reads_and g n m reads =
-    let above : first_and g ≤ m = reads.is.above in
-    let within : m - first_and g < length g.pairs = slice_get_within g.pairs (m - first_and g) reads.pair reads.is.is in
-    (reads.is.above, omega arith)
+reads_and g n m reads = grind (arith, slice_get_within)
 
 pub reads_above : (g : Aig) (n m : ℕ) → AreNormal (first_and g) g.pairs → Reads g n m → n < m
 reads_above g n m normal reads =
-    let above : first_and g ≤ m = reads.is.above in
     let is : IsNormal (first_and g + (m - first_and g)) reads.pair = normal.each (m - first_and g) reads.pair reads.is.is in
-    let lower : reads.pair.x.0 / 2 < reads.pair.y.0 / 2 = is.ordered in
-    let upper : reads.pair.y.0 / 2 < first_and g + (m - first_and g) = is.below in
     elim reads.fan_in [ inl e ↦ omega arith | inr e ↦ omega arith ]
 
 pub lit_within : (bits : List Lit) (n a : ℕ) → IsLitOf bits n a → a < length bits
@@ -33,37 +27,17 @@ module _ {X : Type 0} (R : X → Type 0) (k : ℕ) (x : X) (xs : List X) where
   at_first r = record { above = omega arith; item = x; is = (let e : k - k ≡ 0 = omega arith in subst (λ i. slice_get (x ∷ xs) i ≡ Some x) (sym e) refl); holds = r }
 
   at_rest : (m : ℕ) → IsAt R (k + 1) xs m → IsAt R k (x ∷ xs) m
-  at_rest m at =
-      let above : k + 1 ≤ m = at.above in
-      let e : m - k ≡ suc (m - (k + 1)) = omega arith in
-      record { above = omega arith; item = at.item; is = subst (λ i. slice_get (x ∷ xs) i ≡ Some at.item) (sym e) at.is; holds = at.holds }
+  at_rest m at = grind arith
 
   at_parts : (m : ℕ) → IsAt R k (x ∷ xs) m → ((m ≡ k) × R x) ⊎ IsAt R (k + 1) xs m
-  at_parts m at = elim (cases_eq m k) [
-    | inl e ↦ (
-        let z : m - k ≡ 0 = omega arith in
-        let i : x ≡ at.item = same_Some x at.item (subst (λ j. slice_get (x ∷ xs) j ≡ Some at.item) z at.is) in
-        inl (e, subst R (sym i) at.holds))
-    | inr d ↦ (
-        let above : k ≤ m = at.above in
-        let s : m - k ≡ suc (m - (k + 1)) = omega arith in
-        inr (record { above = omega arith; item = at.item; is = subst (λ j. slice_get (x ∷ xs) j ≡ Some at.item) s at.is; holds = at.holds }))
-  ]
+  at_parts m at = search (rules, cases_eq, same_Some)
 
   -- the first one is among them where R holds of it, and else it is not
   all_first : (ms : List ℕ) → R x → AreAll (IsAt R (k + 1) xs) ms → AreAll (IsAt R k (x ∷ xs)) (k ∷ ms)
-  all_first ms r rest = record {
-    ascending = ((λ m i. let l : k + 1 ≤ m = (rest.only m i).above in omega arith), rest.ascending);
-    only = λ m i. elim i [ inl e ↦ subst (IsAt R k (x ∷ xs)) (sym e) (at_first r) | inr j ↦ at_rest m (rest.only m j) ];
-    all = λ m at. elim (at_parts m at) [ inl h ↦ inl h.0 | inr later ↦ inr (rest.all m later) ];
-  }
+  all_first ms r rest = search (rules, at_first, at_rest, at_parts)
 
   all_rest : (ms : List ℕ) → (R x → ⊥) → AreAll (IsAt R (k + 1) xs) ms → AreAll (IsAt R k (x ∷ xs)) ms
-  all_rest ms no_ rest = record {
-    ascending = rest.ascending;
-    only = λ m i. at_rest m (rest.only m i);
-    all = λ m at. elim (at_parts m at) [ inl h ↦ absurd (no_ h.1) | inr later ↦ rest.all m later ];
-  }
+  all_rest ms no_ rest = search (rules, at_rest, at_parts)
 
 all_none : {X : Type 0} (R : X → Type 0) (k : ℕ) → AreAll (IsAt R k []) []
 all_none R k = record { ascending = tt; only = λ m i. absurd i; all = λ m at. absurd (none-some at.item at.is) }
@@ -78,17 +52,7 @@ HasFanIn n p = (p.x.0 / 2 ≡ n) ⊎ (p.y.0 / 2 ≡ n)
 -- of the two readings of a pair at most one is of a node
 pair_readers : (k : ℕ) (p : Pair) (ps : List Pair) (n : ℕ) → (p.x.0 / 2 ≡ p.y.0 / 2 → ⊥)
     → (HasFanIn n p × (readers_in (node_readings k (p ∷ ps)) n ≡ k ∷ readers_in (node_readings (k + 1) ps) n)) ⊎ ((HasFanIn n p → ⊥) × (readers_in (node_readings k (p ∷ ps)) n ≡ readers_in (node_readings (k + 1) ps) n))
-pair_readers k p ps n apart =
-    let x : Reading = record { node = p.x.0 / 2; reader = k } in
-    let y : Reading = record { node = p.y.0 / 2; reader = k } in
-    let rest : List Reading = node_readings (k + 1) ps in
-    elim (cases_eq (p.x.0 / 2) n) [
-      | inl e ↦ inl (inl e, readers_same x (y ∷ rest) n e ∙ ap (λ ms. k ∷ ms) (readers_other y rest n (λ f. apart (e ∙ sym f))))
-      | inr d ↦ elim (cases_eq (p.y.0 / 2) n) [
-        | inl f ↦ inl (inr f, readers_other x (y ∷ rest) n d ∙ readers_same y rest n f)
-        | inr g ↦ inr ((λ h. elim h [ inl e ↦ d e | inr f ↦ g f ]), readers_other x (y ∷ rest) n d ∙ readers_other y rest n g)
-      ]
-    ]
+pair_readers k p ps n apart = grind (arith, cases_eq, readers_same, readers_other)
 
 node_all : (k : ℕ) (ps : List Pair) (n : ℕ) → ((i : ℕ) (p : Pair) → slice_get ps i ≡ Some p → p.x.0 / 2 ≡ p.y.0 / 2 → ⊥) → AreAll (IsAt (HasFanIn n) k ps) (readers_in (node_readings k ps) n)
 node_all k [] n apart = all_none (HasFanIn n) k
@@ -101,13 +65,7 @@ node_all k (p ∷ ps) n apart =
 
 bit_all : (k : ℕ) (ls : List Lit) (n : ℕ) → AreAll (IsAt (λ (l : Lit). l.0 / 2 ≡ n) k ls) (readers_in (bit_readings k ls) n)
 bit_all k [] n = all_none (λ (l : Lit). l.0 / 2 ≡ n) k
-bit_all k (l ∷ ls) n =
-    let r : Reading = record { node = l.0 / 2; reader = k } in
-    let rest : AreAll (IsAt (λ (m : Lit). m.0 / 2 ≡ n) (k + 1) ls) (readers_in (bit_readings (k + 1) ls) n) = bit_all (k + 1) ls n in
-    elim (cases_eq (l.0 / 2) n) [
-      | inl e ↦ subst (AreAll (IsAt (λ (m : Lit). m.0 / 2 ≡ n) k (l ∷ ls))) (sym (readers_same r (bit_readings (k + 1) ls) n e)) (all_first (λ (m : Lit). m.0 / 2 ≡ n) k l ls _ e rest)
-      | inr d ↦ subst (AreAll (IsAt (λ (m : Lit). m.0 / 2 ≡ n) k (l ∷ ls))) (sym (readers_other r (bit_readings (k + 1) ls) n d)) (all_rest (λ (m : Lit). m.0 / 2 ≡ n) k l ls _ d rest)
-    ]
+bit_all k (l ∷ ls) n = grind (arith, cases_eq, readers_same, all_first, readers_other, all_rest, bit_all (k + 1) ls n)
 
 -- how many readings there are
 pub length-node_readings : (k : ℕ) (ps : List Pair) → length (node_readings k ps) ≡ 2 * length ps
@@ -147,38 +105,18 @@ bits_below params g bits pack = bit_below 0 (node_count g) bits pack.lits
 -- so the lists of the readings are those of the readers
 pub are_readers : (pack : PackValue) → AreNormal (first_and pack.graph) pack.graph.pairs
     → AreReaders pack (record { nodes = lists_of (node_count pack.graph) (node_readings (first_and pack.graph) pack.graph.pairs); addresses = lists_of (node_count pack.graph) (bit_readings 0 pack.bits) })
-are_readers pack normal = record {
-  node_lists = length-map-range_with_len (λ n. readers_in (node_readings (first_and pack.graph) pack.graph.pairs) n) 0 (node_count pack.graph);
-  address_lists = length-map-range_with_len (λ n. readers_in (bit_readings 0 pack.bits) n) 0 (node_count pack.graph);
-  nodes = λ n l. subst (AreAll (Reads pack.graph n)) (sym (get_or-map-range_with_len (λ m. readers_in (node_readings (first_and pack.graph) pack.graph.pairs) m) 0 (node_count pack.graph) n n [] l (omega arith)))
-      (all_same (IsAt (HasFanIn n) (first_and pack.graph) pack.graph.pairs) (Reads pack.graph n) _
-      (λ m at. record { pair = at.item; is = record { above = at.above; is = at.is }; fan_in = at.holds })
-      (λ m reads. record { above = reads.is.above; item = reads.pair; is = reads.is.is; holds = reads.fan_in })
-      (node_all (first_and pack.graph) pack.graph.pairs n (λ i p is e. let o : p.x.0 / 2 < p.y.0 / 2 = (normal.each i p is).ordered in omega arith)));
-  addresses = λ n l. subst (AreAll (IsLitOf pack.bits n)) (sym (get_or-map-range_with_len (λ m. readers_in (bit_readings 0 pack.bits) m) 0 (node_count pack.graph) n n [] l (omega arith)))
-      (all_same (IsAt (λ (lit : Lit). lit.0 / 2 ≡ n) 0 pack.bits) (IsLitOf pack.bits n) _
-      (λ m at. record { lit = at.item; is = (let e : m - 0 ≡ m = omega arith in subst (λ i. slice_get pack.bits i ≡ Some at.item) e at.is); node = at.holds })
-      (λ m of. record { above = omega arith; item = of.lit; is = (let e : m - 0 ≡ m = omega arith in subst (λ i. slice_get pack.bits i ≡ Some of.lit) (sym e) of.is); holds = of.node })
-      (bit_all 0 pack.bits n));
-}
+are_readers pack normal = search (rules, length-map-range_with_len, get_or-map-range_with_len, all_same, node_all, bit_all)
 
 pub readers_made : (pack : PackValue) (graph : Aig) (bits : List Lit) (count : ℕ) (nodes addresses : List (List ℕ)) → graph ≡ pack.graph → bits ≡ pack.bits → count ≡ node_count graph → AreNormal (first_and graph) graph.pairs
     → nodes ≡ lists_of (node_count graph) (node_readings (first_and graph) graph.pairs) → addresses ≡ lists_of count (bit_readings 0 bits) → AreReaders pack (record { nodes = nodes; addresses = addresses })
 readers_made pack graph bits count nodes addresses g b c normal made_nodes made_addresses =
-    let n : nodes ≡ lists_of (node_count pack.graph) (node_readings (first_and pack.graph) pack.graph.pairs) = made_nodes ∙ ap (λ (h : Aig). lists_of (node_count h) (node_readings (first_and h) h.pairs)) g in
     let k : count ≡ node_count pack.graph = c ∙ ap node_count g in
     let a : addresses ≡ lists_of (node_count pack.graph) (bit_readings 0 pack.bits) = made_addresses ∙ ap (λ m. lists_of m (bit_readings 0 bits)) k ∙ ap (λ ls. lists_of (node_count pack.graph) (bit_readings 0 ls)) b in
-    subst (λ ns. AreReaders pack (record { nodes = ns; addresses = addresses })) (sym n)
+    subst (λ ns. AreReaders pack (record { nodes = ns; addresses = addresses })) (sym (made_nodes ∙ ap (λ (h : Aig). lists_of (node_count h) (node_readings (first_and h) h.pairs)) g))
     (subst (λ as_. AreReaders pack (record { nodes = lists_of (node_count pack.graph) (node_readings (first_and pack.graph) pack.graph.pairs); addresses = as_ })) (sym a)
     (are_readers pack (subst (λ (h : Aig). AreNormal (first_and h) h.pairs) g normal)))
 
 -- one more AND node read
 pub nodes_more : (g : Aig) (n : ℕ) (p : Pair) (readings : List Reading) → first_and g ≤ n → pair_of g n ≡ Some p → readings ++ node_readings n (drop (n - first_and g) g.pairs) ≡ node_readings (first_and g) g.pairs
     → ((readings ++ record { node = p.x.0 / 2; reader = n } ∷ []) ++ record { node = p.y.0 / 2; reader = n } ∷ []) ++ node_readings (n + 1) (drop (n + 1 - first_and g) g.pairs) ≡ node_readings (first_and g) g.pairs
-nodes_more g n p readings above is so =
-    let x : Reading = record { node = p.x.0 / 2; reader = n } in
-    let y : Reading = record { node = p.y.0 / 2; reader = n } in
-    let rest : List Reading = node_readings (n + 1) (drop (n + 1 - first_and g) g.pairs) in
-    let e : n - first_and g + 1 ≡ n + 1 - first_and g = omega arith in
-    let d : drop (n - first_and g) g.pairs ≡ p ∷ drop (n + 1 - first_and g) g.pairs = drop_get g.pairs (n - first_and g) p is ∙ ap (λ m. p ∷ drop m g.pairs) e in
-    append_assoc (readings ++ x ∷ []) (y ∷ []) rest ∙ append_assoc readings (x ∷ []) (y ∷ rest) ∙ sym (ap (λ ps. readings ++ node_readings n ps) d) ∙ so
+nodes_more g n p readings above is so = grind (arith, drop_get, append_assoc)

@@ -57,6 +57,7 @@ pub fn certify_by_flow(
     // Its text, once written, can be read.
     ensures formed { IfOk result IsWritable }
 {
+    // The proof needs what the contract of this call says of the graph.
     let _count = graph.len();
     let all = all_roots(alloc, roots)?;
     let least = target_of(graph, labels, &all);
@@ -98,6 +99,7 @@ pub fn certify(
     // Its text, once written, can be read.
     ensures formed { IfOk result IsWritable }
 {
+    // The proof needs what the contract of this call says of the graph.
     let _count = graph.len();
     certify_by_flow(alloc, graph, roots, labels.node_labels(), k)
 }

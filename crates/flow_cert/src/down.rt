@@ -19,6 +19,7 @@ fn below(graph: &Graph, labels: &NodeLabels, v: u32) -> u32
     ensures live { IsLive graph.now (label_at labels.now) result }
     ensures lower { result < v }
 {
+    // The proof needs what the contract of this call says of the graph.
     let _count = graph.len();
     let pair = graph.pair_at(v);
     if is_live(graph, labels, pair.x.0 / 2) {

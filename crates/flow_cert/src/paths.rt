@@ -42,6 +42,7 @@ pub fn showing_paths(
     ensures paths { IfOk result (λ paths. AreShowing graph.now k (label_at labels.now) n paths.items) }
     ensures room { OnOk result (HasRoom (node_count graph.now) search.new) }
 {
+    // The proof needs what the contract of this call says of the graph.
     let _count = graph.len();
     let height = labels.label(n);
     let lists = paths_to(alloc, graph, labels, n, height, k, search)?;

@@ -35,6 +35,7 @@ fn visit(
     ensures met { OnOk result (length memory.new.met ≡ node_count graph.now) }
     ensures done { OnOk result (DoesNode graph.now k (label_at labels.now) n marks.old.items steps.old.items marks.new.items steps.new.items) }
 {
+    // The proof needs what the contract of this call says of the graph.
     let _count = graph.len();
     if !marks[n as usize] {
         return Ok(());

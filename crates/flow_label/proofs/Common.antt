@@ -22,7 +22,7 @@ pub use Rattle.list_laws.specs.Order.{IsAscending}
 pub use Rattle.cut_sets.specs.Unions.{union, put}
 pub use Rattle.flow_label.specs.Barriers.{ascending_of, unmarked, IsLowCut, IsHigh, IsBarrier}
 pub use Rattle.flow_label.specs.Value.{IsLive, AreKnownTo, FlowValue, label_of, low_cut_of, AreLowCuts, HasOneLabelling}
-pub use Rattle.flow_label.specs.Links.{IsChoice, HasChosen, IsLinked, AreRouted, first_owner, owner_in, AreLinks, IsUpdated, AreStarts, AreWays, low, next_of, IsOnWay, upper, Passes, start, onward, IsWayTo, AreWaysTo}
+pub use Rattle.flow_label.specs.Links.{IsChoice, HasChosen, IsLinked, AreRouted, first_owner, owner_in, AreLinks, IsUpdated, AreStarts, AreWays, low, next_of, IsOnWay, upper, PathPasses, start, onward, IsWayTo, AreWaysTo}
 pub use Rattle.flow_label.specs.Net.{FlowNet, IsLow, IsInner, IsUpper, IsEnd, IsNet, SiteValue, net_of, is_inner, AreEnds, net_at, AreReaders, IsMet}
 pub use Rattle.flow_label.specs.Search.{IsHandedOn, ComesFrom, AreMet, ArePassed, IsSearching, Extends, IsFound, IsBlocked, CanTurn, HasMet}
 pub use Rattle.flow_label.specs.Stamps.{zeros, counted, values_at}

@@ -1,5 +1,5 @@
 -- The ways up from the starts are paths, and share no low node.
-use Rattle.flow_label.proofs.Common.{◌≡◌, ℕ, ◌+◌, ◌<◌, ◌≤◌, cond, ltb, List, [], ◌∷◌, ◌++◌, length, get_or, Some, refl, sym, ap, ◌∙◌, subst, inl, inr, eqb, arith, length-append, eqb-true, eqb-false, ltb-true, ltb-false, cases_lt, IsAnd, IsSource, Regular, In, choose, In-get_or, In-push, place_in, get_pushed, slice_get, slice_get_within, IsLive, source_below, IsFanIn, IsPath, FlowNet, IsLow, IsInner, IsUpper, IsNet, IsChoice, HasChosen, IsLinked, AreStarts, next_of, IsOnWay, low, upper, Passes, start, onward, IsWayTo, AreWays, AreWaysTo, ◌≢◌}
+use Rattle.flow_label.proofs.Common.{◌≡◌, ℕ, ◌+◌, ◌<◌, ◌≤◌, cond, ltb, List, [], ◌∷◌, ◌++◌, length, get_or, Some, refl, sym, ap, ◌∙◌, subst, inl, inr, eqb, arith, length-append, eqb-true, eqb-false, ltb-true, ltb-false, cases_lt, IsAnd, IsSource, Regular, In, choose, In-get_or, In-push, place_in, get_pushed, slice_get, slice_get_within, IsLive, source_below, IsFanIn, IsPath, FlowNet, IsLow, IsInner, IsUpper, IsNet, IsChoice, HasChosen, IsLinked, AreStarts, next_of, IsOnWay, low, upper, PathPasses, start, onward, IsWayTo, AreWays, AreWaysTo, ◌≢◌}
 use Rattle.flow_label.proofs.OnceLemmas.{once_places}
 use Rattle.flow_label.proofs.GraphLemmas.{fan_in_below, live_pos, source_not_and, path_push, path_last}
 
@@ -105,7 +105,7 @@ module _ (net : FlowNet) (is : IsNet net) (owner chosen : ℕ → ℕ) (count : 
   inner_start s x source i e = source_not_and net.graph s source (subst (λ y. IsAnd net.graph y) e i.and)
 
   -- no two paths pass one low node
-  same_start : (s t : ℕ) → IsSource net.graph Regular s → IsSource net.graph Regular t → {x : ℕ} → Passes net owner s x → (y : ℕ) → x ≡ y → Passes net owner t y → s ≡ t
+  same_start : (s t : ℕ) → IsSource net.graph Regular s → IsSource net.graph Regular t → {x : ℕ} → PathPasses net owner s x → (y : ℕ) → x ≡ y → PathPasses net owner t y → s ≡ t
   same_start s t a b (start e) y q (start f) = sym e ∙ (q ∙ f)
   same_start s t a b (start e) y q (onward v p o i) = absurd (inner_start s y a i (sym q ∙ e))
   same_start s t a b {x} (onward v p o i) y q (start f) = absurd (inner_start t x b i (q ∙ f))

@@ -70,15 +70,15 @@ pub data IsOnWay (net : FlowNet) (owner : ℕ → ℕ) (m : ℕ) : Type 0 where
   upper : IsUpper net m → IsOnWay net owner m
 
 -- the path that starts at s passes x, from owner to owner
-pub data Passes (net : FlowNet) (owner : ℕ → ℕ) (s : ℕ) : ℕ → Type 0 where
-  start : {x : ℕ} → x ≡ s → Passes net owner s x
-  onward : {x : ℕ} (v : ℕ) → Passes net owner s v → owner v ≡ x → IsInner net x → Passes net owner s x
+pub data PathPasses (net : FlowNet) (owner : ℕ → ℕ) (s : ℕ) : ℕ → Type 0 where
+  start : {x : ℕ} → x ≡ s → PathPasses net owner s x
+  onward : {x : ℕ} (v : ℕ) → PathPasses net owner s v → owner v ≡ x → IsInner net x → PathPasses net owner s x
 
 -- a path from s up to m, on low nodes from owner to owner
 pub record IsWayTo (net : FlowNet) (owner : ℕ → ℕ) (s m : ℕ) (path : List ℕ) : Type 0 where
   pub is : IsPath net.graph m path
   pub on : IsOnWay net owner m
-  pub low : (x : ℕ) → In path x → x ≢ net.node → IsLow net x → Passes net owner s x
+  pub low : (x : ℕ) → In path x → x ≢ net.node → IsLow net x → PathPasses net owner s x
 
 -- the paths that start at the first of these nodes
 pub record AreWaysTo (net : FlowNet) (owner : ℕ → ℕ) (starts : List ℕ) (limit : ℕ) (paths : List (List ℕ)) : Type 0 where

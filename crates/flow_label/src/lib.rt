@@ -44,8 +44,8 @@
 //!
 //! # Where what is
 //!
-//! - `specs/Lows.antt` (which cut the low cut is), `Known.antt` (what is used of the labels below), `FlowNet.antt` (readers and
-//!   ends), `Links.antt` (the matching and the paths), `PathSearch.antt`, `Walks.antt`, `Barriers.antt` (low cuts), `Parts.antt`
+//! - `specs/Lows.antt` (which cut the low cut is), `Value.antt` (what is used of the labels below), `Net.antt` (readers and
+//!   ends), `Links.antt` (the matching and the paths), `Search.antt`, `Memory.antt`, `Walks.antt`, `Barriers.antt` (low cuts), `Parts.antt`
 //!   (what fan-ins give), `Labelled.antt` and `LowCuts.antt` (labels and low cuts node by node), `Stamps.antt`.
 //! - A node (`node.rt`): the join, and the question (`question.rt`) with the walk (`walk.rt`), the search (`search.rt`), the path
 //!   that it adds (`augment.rt`, `links.rt`), the cut (`barrier.rt`), and the paths as lists (`ways.rt`), all for one `Site`

@@ -23,6 +23,7 @@ pub fn clear_links(site: &Site, links: &mut Links)
     ensures linked { AreLinks site.now links.new.owners links.new.starts.items }
     ensures none { links.new.starts.items ≡ [] }
 {
+    // The proof needs what the contract of this call says of the site.
     let _node = site.node();
     links.owners.clear();
     links.starts.clear();

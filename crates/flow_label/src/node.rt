@@ -69,6 +69,7 @@ fn lower_cut(
     ensures low { IfOk result (λ answer. IfSome answer (λ cut. IsLowerCut graph.now k (label_at labels.now) (low_at cuts.now) n p cut)) }
     ensures room { OnOk result (HasRoom (node_count graph.now) scratch.new) }
 {
+    // The proof needs what the contract of this call says of the graph.
     let _count = graph.len();
     let pair = graph.pair_at(n);
     let x = low_part(graph, labels, cuts, pair.x.0 / 2, p);
@@ -84,6 +85,7 @@ fn fan_in_cut(graph: &Graph, labels: &NodeLabels, n: u32) -> FlatCut
     requires { IsAnd graph.now n }
     ensures { IsFanInCut graph.now (label_at labels.now) n result }
 {
+    // The proof needs what the contract of this call says of the graph.
     let _count = graph.len();
     let pair = graph.pair_at(n);
     let x = own_part(graph, labels, pair.x.0 / 2);
@@ -129,6 +131,7 @@ pub fn label_node(
     ensures low { IfOk result (λ made. HasLowWith graph.now k (label_at labels.now) (low_at cuts.now) n made.label made.cut) }
     ensures room { OnOk result (HasRoom (node_count graph.now) scratch.new) }
 {
+    // The proof needs what the contract of this call says of the graph.
     let _count = graph.len();
     let p = greatest_label(graph, labels, n);
     if p > 0 {

@@ -57,6 +57,7 @@ fn low_cut(site: &Site, links: &Links, kept: &[u32], k: u8) -> FlatCut
     requires barrier { IsBarrier site.now links.now.owners kept.now }
     ensures { IsNearest site.now.graph k site.now.node site.now.height (label_at site.now.labels) result }
 {
+    // The proof needs what the contract of this call says of the site.
     let _node = site.node();
     match cut_of(kept, k) {
         Some(cut) => cut,
@@ -81,6 +82,7 @@ fn answer(
     ensures room { OnOk result (length search.new.seen ≡ node_count site.now.graph) }
     ensures marks { OnOk result (length search.new.passed ≡ node_count site.now.graph) }
 {
+    // The proof needs what the contract of this call says of the site.
     let _node = site.node();
     if let Some(cut) = cut_of(site.ends(), k) {
         return Ok(Some(cut));
@@ -113,6 +115,7 @@ fn all_paths(
     ensures room { OnOk result (length search.new.seen ≡ node_count site.now.graph) }
     ensures marks { OnOk result (length search.new.passed ≡ node_count site.now.graph) }
 {
+    // The proof needs what the contract of this call says of the site.
     let _node = site.node();
     clear_links(site, links);
     match add_paths(site, links, search, k)? {
@@ -143,6 +146,7 @@ pub fn low_cut_of(
     ensures low { IfOk result (λ answer. IfSome answer (λ cut. IsFlowCut graph.now k (label_at labels.now) n (height - 1) cut)) }
     ensures room { OnOk result (HasRoom (node_count graph.now) scratch.new) }
 {
+    // The proof needs what the contract of this call says of the graph.
     let _count = graph.len();
     walk_down(graph, labels, n, height, &mut scratch.walk)?;
     let site = Site::make(
@@ -180,6 +184,7 @@ pub fn paths_to(
     ensures count { IfOk result (λ paths. length paths.items ≡ k + 1) }
     ensures room { OnOk result (HasRoom (node_count graph.now) scratch.new) }
 {
+    // The proof needs what the contract of this call says of the graph.
     let _count = graph.len();
     walk_down(graph, labels, n, height, &mut scratch.walk)?;
     let site = Site::make(

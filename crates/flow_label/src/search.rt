@@ -88,6 +88,7 @@ fn begin(site: &Site, links: &Links, search: &mut PathSearch)
     ensures searching { Searches site.now links.now search.new [] }
     ensures none { search.new.stack.items ≡ [] }
 {
+    // The proof needs what the contract of this call says of the site.
     let _node = site.node();
     search.seen.clear();
     search.queue.clear();
@@ -114,6 +115,7 @@ fn search_from(
     ensures ended { IfOk result (λ ends. ends ≡ true → IsFound site.now links.now.owners search.new.queue.items search.new.backs.items) }
     ensures marks { OnOk result (KeepsMarks search.old search.new) }
 {
+    // The proof needs what the contract of this call says of the site.
     let _node = site.node();
     if meet(site, links, search, m, 0)? {
         return Ok(true);

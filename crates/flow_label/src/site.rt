@@ -75,6 +75,7 @@ impl<'a> Site<'a> {
         ensures net { IsNet (net_of self.now) }
         ensures small { node_count self.now.graph ≤ 2 ^ 30 }
     {
+        // The proof needs what the contract of this call says of the graph.
         let _count = self.graph.len();
         self.node
     }

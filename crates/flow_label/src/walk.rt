@@ -56,6 +56,7 @@ fn read_at(
     ensures room { OnOk result (length walk.new.readers ≡ node_count graph.now) }
     ensures walked { OnOk result (IsWalked (net_at graph.now labels.now n height walk.new.readers) walk.new.uppers.items walk.new.ends.items (place + 1)) }
 {
+    // The proof needs what the contract of this call says of the graph.
     let _count = graph.len();
     let v = walk.uppers[place as usize];
     let pair = graph.pair_at(v);
@@ -83,6 +84,7 @@ pub fn walk_down(
     ensures readers { OnOk result (AreReaders (net_at graph.now labels.now n height walk.new.readers)) }
     ensures ends { OnOk result (AreEnds (net_at graph.now labels.now n height walk.new.readers) walk.new.ends.items) }
 {
+    // The proof needs what the contract of this call says of the graph.
     let _count = graph.len();
     walk.readers.clear();
     walk.uppers.clear();

@@ -1,4 +1,4 @@
--- Lists in which nothing stands twice.
+-- Lists in which nothing occurs twice.
 use Rattle.std.specs.Prelude.{List, [], ◌∷◌}
 use Rattle.list_laws.specs.Members.{In}
 

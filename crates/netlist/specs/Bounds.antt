@@ -34,7 +34,7 @@ pub record IsWithinBounds (library : LibraryValue) (flat : FlatValue) : Type 0 w
   -- each flat cover has a cover behind it, which reads as many nets
   pub behind : (k : ℕ) (c : FlatCoverValue) → slice_get flat.covers k ≡ Some c → IsSome (cover_behind library c)
   pub reads : (k : ℕ) (c : FlatCoverValue) (cover : CoverValue) → slice_get flat.covers k ≡ Some c → cover_behind library c ≡ Some cover → length cover.inputs ≡ length c.inputs
-  -- the order has covers that are there, each once, each behind those that it reads, and the covers at the outputs and at the latches' inputs among them
+  -- the order has covers that are there, each once, each after those that it reads, and the covers at the outputs and at the latches' inputs among them
   pub order_there : (k : ℕ) → In flat.order k → k < length flat.covers
   pub order_once : (i j k : ℕ) → slice_get flat.order i ≡ Some k → slice_get flat.order j ≡ Some k → i ≡ j
   pub order_behind : (j k read : ℕ) → slice_get flat.order j ≡ Some k → In (reads_at flat k) read → StandsBefore flat.order j read

@@ -1,4 +1,4 @@
--- The walk of the covers, depth first and left to right, from the outputs, the latch inputs, and then all covers in flat order; and an order in which each cover stands behind those that it reads.
+-- The walk of the covers, depth first and left to right, from the outputs, the latch inputs, and then all covers in flat order; and an order in which each cover comes after those that it reads.
 use Rattle.std.specs.Prelude.{◌≡◌, ℕ, ◌+◌, List, [], ◌∷◌, Some, ◌++◌, Option, None}
 use Rattle.depth_first.specs.Order.{IsAfter}
 use Rattle.netlist.specs.Circuits.{In, ModelValue, LibraryValue, Path, model_at, Place, is_cover, is_latch, LatchValue, CoverValue, FlatOrder, CoverAt, Net, latch_at}
@@ -30,7 +30,7 @@ pub record LoopWalk (library : LibraryValue) (result : Option (Repeat Place)) : 
   pub nets : AreNets library net
   pub meets : MeetsAll (reads_of library net) [] (roots_of library net main latches ++ covers) result
 
--- Orders of the covers in which each one stands behind those that it reads.
+-- Orders of the covers in which each one comes after those that it reads.
 
 -- an order of all covers, in which each comes after those that it reads
 pub record Ordered (library : LibraryValue) (net : Path → List ℕ → Option Net) : Type 0 where

@@ -1,4 +1,4 @@
--- Sound libraries: well formed, and none of F1 to F10 stands.
+-- Sound libraries: well formed, and none of F1 to F10 holds.
 use Rattle.std.specs.Prelude.{◌≡◌, ℕ, List, [], Some}
 use Rattle.netlist.specs.WellFormed.{IsWellFormed}
 use Rattle.netlist.specs.Circuits.{In, IsDriven, CoverAt, LatchAt, Path, model_at, input_net, Drives, IsClock, Place, LatchValue, CoverValue, ModelValue, LibraryValue}

@@ -17,6 +17,7 @@ pub fn cycle_law(library: &Library)
     ensures law { IsSound library.now → HasOneCycle library.now }
     ensures one { IsSound library.now → HasOneFlat library.now }
 {
+    // The proof needs this field's model.
     let _models = &library.models;
 }
 
@@ -29,6 +30,7 @@ pub fn flat_law(library: &Library, flat: &Flat)
     ensures values { IsFlat library.now flat.now → HasValues library.now flat.now }
     ensures cycles { IsSound library.now → IsFlat library.now flat.now → HasCycles library.now flat.now }
 {
+    // The proof needs these fields' models.
     let _models = &library.models;
     let _covers = &flat.covers;
 }

@@ -26,6 +26,6 @@ pub use Rattle.pace_core.specs.Backlog.{BacklogValue, IsBehind, with_write, IsCa
 pub use Rattle.pace_core.specs.Cost.{IsWithinAsk, IsWithinTick}
 pub use Rattle.pace_core.specs.EventValue.{Ask, Tick, PaceValue, pace_of, asks_and_ticks, Fits, pace_value, pace_values}
 pub use Rattle.pace_core.specs.Pace.{PacerValue, waited, cycled, IsTicked, steps, waits, asked, IsPaced, IsAsked}
-pub use Rattle.pace_core.specs.PaceText.{ArePaced, HasOneReading}
+pub use Rattle.pace_core.specs.PaceText.{AreAsksAndTicks, HasOneReading}
 pub use Rattle.pace_core.specs.Stalls.{HasStalls, AreTicks, IsStall, IsCycled}
 pub use Rattle.pace_core.specs.declared.event.PaceEvent.{PaceEvent}

@@ -1,5 +1,5 @@
 -- A script by the forms of `ask` and `tick` has no other event, and each of its events fits.
-use Rattle.pace_core.proofs.Common.{◌≡◌, ◌⊎◌, ℕ, Bool, List, [], ◌∷◌, length, map, Option, Some, None, codes, bytes_eq, if◌then◌else◌, refl, sym, ap, ◌∙◌, subst, inl, inr, cons_option, none-some, same_Some, Assign, In, In-get, place_in, EventValue, Set, Cycle, Upset, Scrub, Image, PaceValue, Ask, Tick, pace_of, asks_and_ticks, Fits, ArePaced, HasOneReading, rules}
+use Rattle.pace_core.proofs.Common.{◌≡◌, ◌⊎◌, ℕ, Bool, List, [], ◌∷◌, length, map, Option, Some, None, codes, bytes_eq, if◌then◌else◌, refl, sym, ap, ◌∙◌, subst, inl, inr, cons_option, none-some, same_Some, Assign, In, In-get, place_in, EventValue, Set, Cycle, Upset, Scrub, Image, PaceValue, Ask, Tick, pace_of, asks_and_ticks, Fits, AreAsksAndTicks, HasOneReading, rules}
 use Rattle.std.specs.Option.{option_map, option_and_then}
 use Rattle.list_laws.proofs.Choice.{choose}
 use Rattle.tl_text.specs.LineValue.{words_line}
@@ -55,14 +55,14 @@ front_kept : (o : Option PaceValue) (rest : Option (List PaceValue)) (kept : Lis
 front_kept None rest kept pace is later = absurd (none-some pace is)
 front_kept (Some first) rest kept pace is later = ap (in_front (Some first)) later
 
-each_paced : (events : List EventValue) → ((event : EventValue) → In events event → HasPace event) → ArePaced events (asks_and_ticks events)
+each_paced : (events : List EventValue) → ((event : EventValue) → In events event → HasPace event) → AreAsksAndTicks events (asks_and_ticks events)
 each_paced [] all = refl
 each_paced (event ∷ events) all =
     let first = all event (inl refl) in
     front_kept (pace_of event) (each_of pace_of events) (asks_and_ticks events) first.pace first.is (each_paced events (λ e i. all e (inr i)))
 
 -- and so are those of a script by these forms
-pub script_paced : (names : NamesValue) (text : List ℕ) (read : List EventValue) → names.forms ≡ Pace → IsScript names text read → ArePaced read (asks_and_ticks read)
+pub script_paced : (names : NamesValue) (text : List ℕ) (read : List EventValue) → names.forms ≡ Pace → IsScript names text read → AreAsksAndTicks read (asks_and_ticks read)
 script_paced names text read forms script = each_paced read (λ event i.
     let l = each_at (line_event names) (map (words_line text) script.lines) read (place_in read event i).0 event (script.are).are (place_in read event i).1 in
     words_paced names.params l.source.words event (ap (λ f. option_and_then (event_of names.params) (said_of f l.source.words)) (sym forms) ∙ l.is))
@@ -89,7 +89,7 @@ kept_fit names width (event ∷ read) wide fits pace i = elim (front_from (pace_
 ]
 
 -- and those of a script
-pub events_fit : (names : NamesValue) (width : ℕ) (read : List EventValue) (paced : List PaceValue) → names.width ≡ Some width → ArePaced read paced → ((event : EventValue) → In read event → RunFits names event)
+pub events_fit : (names : NamesValue) (width : ℕ) (read : List EventValue) (paced : List PaceValue) → names.width ≡ Some width → AreAsksAndTicks read paced → ((event : EventValue) → In read event → RunFits names event)
     → (pace : PaceValue) → In paced pace → Fits (length names.params) width pace
 events_fit names width read paced wide are fits pace i =
     let p = place_in paced pace i in

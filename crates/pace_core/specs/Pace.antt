@@ -35,7 +35,7 @@ pub record IsAsked (assigns : List Assign) (old new : PacerValue) (shown : Shown
   pub shows : shown ≡ asked (length (differences old.config wanted))
   pub becomes : new ≡ record old { params = assigned old.params assigns; looks = new.looks }
 
--- A tick at which the device has the configuration of the values: a cycle of the tables under it, and the only one.
+-- A tick at which the device has the configuration of the values: a cycle of the LUTs under it, and the only one.
 pub record IsStep (values : List Bool) (old new : PacerValue) (shown : Shown) : Type 0 where
   pub right : IsConf old.pack old.params old.config
   pub outputs : List Bool
@@ -62,11 +62,11 @@ abbrev pub IsPaced : PaceValue → PacerValue → PacerValue → Shown → Type 
 IsPaced (Ask assigns) old new shown = IsAsked assigns old new shown
 IsPaced (Tick values) old new shown = IsTicked values old new shown
 
--- the machine of asks and ticks: it starts with the configuration of its values, and in a cycle it takes an event and shows it
+-- the machine of asks and ticks: it starts wherever the device has the configuration of the values that were asked for (`IsPaceStart` of `cmd_pace` says where a job's script starts), and in a cycle it takes an event and shows it
 abbrev pub pacer_machine : MealyMachine PaceValue PacerValue Shown
 pacer_machine = record { IsStart = λ p. IsConf p.pack p.params p.config; HasCycle = λ event old shown new. IsPaced event old new shown }
 
--- events one after the other, what each shows, and the machine behind them
+-- events one after the other, what each shows, and the machine after them
 abbrev pub ArePaced : PacerValue → List PaceValue → List Shown → PacerValue → Type 0
 ArePaced = Passes pacer_machine
 

@@ -7,14 +7,14 @@ use Rattle.run_text.specs.ScriptText.{IsScript, IsScriptFault}
 use Rattle.pace_core.specs.EventValue.{PaceValue, pace_of}
 
 -- these are the events of a script's lines
-abbrev pub ArePaced : List EventValue → List PaceValue → Type 0
-ArePaced read events = each_of pace_of read ≡ Some events
+abbrev pub AreAsksAndTicks : List EventValue → List PaceValue → Type 0
+AreAsksAndTicks read events = each_of pace_of read ≡ Some events
 
 -- a text is a script of these events; it is refused as a script by its forms is
 pub record IsPaceScript (names : NamesValue) (text : List ℕ) (events : List PaceValue) : Type 0 where
   pub read : List EventValue
   pub is : IsScript names text read
-  pub are : ArePaced read events
+  pub are : AreAsksAndTicks read events
 
 -- a text is one script at most, or has one refusal at most, and never both
 abbrev pub HasOneReading : NamesValue → List ℕ → Type 0

@@ -23,7 +23,7 @@ param_inits params = map (λ (p : Param). p.init) params
 abbrev pub regular_names : FlatValue → List Param → List (List ℕ)
 regular_names flat params = filter (λ name. not (has_name (param_names params) name)) flat.inputs
 
--- the parameters' names are few, short, clean, and each stands once
+-- the parameters' names are few, short, clean, and each occurs once
 pub record AreNamed (params : List Param) : Type 0 where
   pub few : length params ≤ MOST_PARAMETERS
   pub short : (p : Param) → In params p → length p.name ≤ MOST_NAME_BYTES

@@ -11,7 +11,7 @@ pub data Becomes (old : BankSeen) : BankSeen → Type 0 where
   accepted : {mid new : BankSeen} (i : ℕ) (write : Write) → Becomes old mid → Called i write true mid new → Becomes old new
   replaced : {mid next new : BankSeen} (i : ℕ) (write : Write) → Becomes old mid → Called i write false mid next → Replaced i next new → Becomes old new
 
--- behind such calls a port failed while no spare was left
+-- after such calls a port failed while no spare was left
 pub record FallsShort (old new : BankSeen) : Type 0 where
   pub place : ℕ
   pub write : Write

@@ -30,7 +30,7 @@ bits_header_line bits = concat (codes "bits " ∷ decimal bits ∷ codes "\n" �
 abbrev pub write_text : Write → List ℕ
 write_text write = codes " " ++ (decimal write.address ++ (codes "=" ++ (bit_digit write.bit ∷ [])))
 
--- writes behind a word, and how many they are
+-- writes after a word, and how many they are
 abbrev pub writes_line : List ℕ → List Write → List ℕ
 writes_line word writes = concat (word ∷ decimal (length writes) ∷ flat_map write_text writes ∷ codes "\n" ∷ [])
 

@@ -15,7 +15,7 @@ pub data Saying : Type 0 where
   scrubs : Saying
   images : Saying
 
--- a word split at its last `=` (61): what stands before it, and behind it
+-- a word split at its last `=` (61): what stands before it, and after it
 pub record Halves : Type 0 where
   pub front : List ℕ
   pub back : List ℕ

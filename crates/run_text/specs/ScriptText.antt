@@ -52,7 +52,7 @@ saying_refusal names number (Some (upsets address)) = upset_refusal names.bits n
 saying_refusal names number (Some scrubs) = None
 saying_refusal names number (Some images) = None
 
--- the refusal of a line behind so many others
+-- the refusal of a line after so many others
 abbrev pub line_refusal : NamesValue → ℕ → WordsLine → Option ScriptErr
 line_refusal names earlier line =
     if nat_le MOST_EVENTS earlier then Some (Events line.number)

@@ -11,7 +11,7 @@
 //!
 //! Each line of output is one definition in `specs/Lines.antt` and one call here, which writes the bytes of the line to a
 //! sink through a [`LineBuf`], in pieces of 4,096 bytes. A line is a list of parts (`part.rt`), such as a word, a number, a
-//! string of bits or a list of writes, and ends with a line feed. `Piece` of `tl_piece` holds the bytes that still wait.
+//! string of bits or a list of writes, and ends with a line feed. A `WriteBuffer` of `tl_piece` has the bytes that wait.
 #![tactic(auto)]
 
 mod assigns;

@@ -54,6 +54,5 @@ pub(crate) fn read_lines(
     ensures fault { IfErr result (OrMemory refusal_of (IsFirstRefusal names.now (map (words_line text.now) lines.now))) }
 {
     let params = NameIndex::of_with(alloc, TextKey::of(text), &names.params)?;
-    let events = read_each(alloc, text, lines, names, &params)?;
-    Ok(events)
+    read_each(alloc, text, lines, names, &params)
 }

@@ -62,7 +62,7 @@ pub fn put_ask<O: Sink>(count: u32, buf: &mut LineBuf, out: &mut O) -> Result<()
     put_line(&parts, buf, out)
 }
 
-/// Writes the line `scrub COUNT` and each write as `ADDRESS=BIT`: the upset bits that were set right. Writes pieces of 4,096
+/// Writes the line `scrub COUNT` and each write as `ADDRESS=BIT`: the upset bits that were corrected. Writes pieces of 4,096
 /// bytes; the last may be shorter. Allocates no memory.
 ///
 /// # Errors

@@ -24,7 +24,7 @@ pub record IsUpset (address : ℕ) (old : HostState) (writes : List Write) (new 
   pub is : writes ≡ record { address = address; bit = not (config_bit old.config address) } ∷ []
   pub config : new.config ≡ written old.config writes
 
--- The bits that were upset are set right: the writes are the addresses where the device's configuration differs from the one specialised from scratch.
+-- The bits that were upset are corrected: the writes are the addresses where the device's configuration differs from the one specialised from scratch.
 pub record IsScrub (pack : PackValue) (old : HostState) (writes : List Write) (new : HostState) : Type 0 where
   pub params : new.params ≡ old.params
   pub right : List Bool

@@ -23,7 +23,7 @@ pub record IsSent (test : ℕ → Bool) (to : List Bool) (old new : DeviceValue)
   pub writes : new.writes ≡ writes_where test to
   pub config : new.config ≡ written old.config new.writes
 
--- the values of the parameters among those of all nodes: behind that of the constant
+-- the values of the parameters among those of all nodes: after that of the constant
 abbrev pub params_in : PackValue → List Bool → List Bool
 params_in pack values = take (length pack.params) (drop 1 values)
 

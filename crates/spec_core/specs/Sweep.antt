@@ -51,7 +51,7 @@ stored readers now n value =
     then record { values = slice_set now.values n value; nodes = with_marks now.nodes (nodes_of readers n); addresses = with_marks now.addresses (addresses_of readers n) }
     else now
 
--- parameters with new values: their nodes stand behind the constant's
+-- parameters with new values: their nodes come after the constant's
 abbrev pub with_assigned : ReadersValue → Progress → List Assign → Progress
 with_assigned readers now [] = now
 with_assigned readers now (assign ∷ assigns) = with_assigned readers (stored readers now (1 + assign.param) assign.bit) assigns

@@ -11,7 +11,7 @@ is_changed old new n = xor (node_value old n) (node_value new n)
 abbrev pub is_touched : List Bool → List Bool → Pair → Bool
 is_touched old new pair = is_changed old new (pair.x.0 / 2) || is_changed old new (pair.y.0 / 2)
 
--- the touched nodes of a graph, by their pairs, each of which stands once
+-- the touched nodes of a graph, by their pairs, each of which occurs once
 abbrev pub touched : Aig → List Bool → List Bool → List Pair
 touched g old new = filter (is_touched old new) g.pairs
 

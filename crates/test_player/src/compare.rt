@@ -1,4 +1,4 @@
-//! What differs between what a job left and what it must leave.
+//! The differences between what a job left and what it must leave.
 use crate::play::{PlayedCall, untouched};
 use crate::scene::{PlayedJob, SceneFile, find};
 use std::alloc::{AllocError, Global};
@@ -6,7 +6,7 @@ use std::alloc::{AllocError, Global};
 // The most bytes of a line that are shown.
 const SHOWN: usize = 200;
 
-// Puts the beginning of a line, bytes that are no letters as escapes, the line feed too.
+// Adds the beginning of a line, with bytes that aren't printable, and the line feed, as escapes.
 fn put_line(text: &mut String, line: &[u8]) -> Result<(), AllocError> {
     text.push_str("`")?;
     for byte in line.iter().take(SHOWN) {
@@ -23,7 +23,7 @@ fn put_line(text: &mut String, line: &[u8]) -> Result<(), AllocError> {
     text.push_str("`")
 }
 
-// The line at a place of a text, counted from 0, with its number and the text behind where it begins.
+// The line at a place of a text: its number from 0, and the text from its beginning on.
 fn line_at(text: &[u8], place: usize) -> (u64, &[u8]) {
     let (mut number, mut begin) = (1u64, 0usize);
     for (i, byte) in text.iter().take(place).enumerate() {
@@ -35,7 +35,7 @@ fn line_at(text: &[u8], place: usize) -> (u64, &[u8]) {
     (number, text.get(begin..).unwrap_or(&[]))
 }
 
-// The first place in which two texts differ, if there is one.
+// The first place where two texts differ, if there is one.
 fn first_difference(is: &[u8], wanted: &[u8]) -> Option<usize> {
     for (place, (byte, must)) in is.iter().zip(wanted).enumerate() {
         if byte != must {
@@ -48,7 +48,7 @@ fn first_difference(is: &[u8], wanted: &[u8]) -> Option<usize> {
     Some(is.len().min(wanted.len()))
 }
 
-// Puts the first line in which two texts differ, if there is one.
+// Adds the first line in which two texts differ, if there is one.
 fn put_difference(
     text: &mut String,
     what: &str,
@@ -67,7 +67,7 @@ fn put_difference(
     text.push_str("\n")
 }
 
-/// The bytes that a file must have behind a job: those that are told, or those of before.
+/// The bytes that a file must have after a job: the expected ones, or those of before.
 pub fn wanted_bytes<'a>(job: &'a PlayedJob, before: &'a SceneFile) -> &'a [u8] {
     match find(job.wanted.files.as_slice(), before.name.as_str()) {
         Some(file) => file.bytes.as_slice(),
@@ -75,7 +75,7 @@ pub fn wanted_bytes<'a>(job: &'a PlayedJob, before: &'a SceneFile) -> &'a [u8] {
     }
 }
 
-// Puts what differs of the ports.
+// Adds the differences of the ports.
 fn put_ports(
     alloc: Global,
     text: &mut String,
@@ -91,7 +91,7 @@ fn put_ports(
     }
 }
 
-/// What differs: a line for the status, for each output, for each file and for the ports; nothing where nothing does.
+/// The differences: a line for the status, for each output, for each file and for the ports, if they differ.
 pub fn differences(
     alloc: Global,
     before: &[SceneFile],

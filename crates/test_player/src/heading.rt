@@ -1,8 +1,8 @@
-//! A text of rows, taken apart: headings with the lines behind them.
+//! Splits a text of rows into headings and the lines below them.
 use crate::stop::PlayStop;
 use std::alloc::Global;
 
-/// A heading: the number of its line, its line, and the lines of its text without the two blanks before them.
+/// A heading: its line number, its line, and the lines of text below it without their two leading blanks.
 #[derive(Drop)]
 pub struct Heading<'a> {
     pub number: u32,
@@ -15,12 +15,12 @@ pub struct Heading<'a> {
 pub struct WorkedRow<'a> {
     pub number: u32,
     pub title: &'a str,
-    /// It must differ.
+    /// Whether the row must fail.
     pub is_spoilt: bool,
     pub headings: Vec<Heading<'a>>,
 }
 
-/// A text: the headings before its first row, which count for each row, and its rows.
+/// A text: its rows, and the headings before the first row, which apply to each row.
 #[derive(Drop)]
 pub struct Text<'a> {
     pub common: Vec<Heading<'a>>,
@@ -43,7 +43,7 @@ fn add_text<'a>(
 }
 
 impl<'a> Text<'a> {
-    // Takes a line of the text of the last heading in.
+    // Reads a line as text of the last heading.
     fn add_text(&mut self, number: u32, line: &'a str) -> Result<(), PlayStop> {
         match self.rows.last_mut() {
             Some(row) => add_text(&mut row.headings, number, line),
@@ -51,7 +51,7 @@ impl<'a> Text<'a> {
         }
     }
 
-    // Takes a heading of the last row in, or one before the first row.
+    // Reads a heading of the last row, or one before the first row.
     fn add_heading(&mut self, heading: Heading<'a>) -> Result<(), PlayStop> {
         match self.rows.last_mut() {
             Some(row) => row.headings.push(heading)?,
@@ -77,7 +77,7 @@ impl<'a> Text<'a> {
         Ok(())
     }
 
-    // Takes a line in, which has a number.
+    // Reads the line with this number.
     fn add_line(&mut self, alloc: Global, number: u32, line: &'a str) -> Result<(), PlayStop> {
         if let Some(text) = line.strip_prefix("  ") {
             return self.add_text(number, text);
@@ -95,7 +95,7 @@ impl<'a> Text<'a> {
         self.add_heading(Heading { number, line, text })
     }
 
-    /// Takes a text apart.
+    /// Splits a text into its rows.
     pub fn read(alloc: Global, text: &'a str) -> Result<Text<'a>, PlayStop> {
         let mut read = Text {
             common: Vec::new(alloc),

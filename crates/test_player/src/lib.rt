@@ -1,14 +1,13 @@
-//! Plays the rows of texts: jobs of a program over files, outputs and ports in memory, with what each must leave.
+//! Plays the rows of texts. A row has jobs of a program over files, outputs and ports in memory, and what each job must leave.
 //!
-//! A row is data: docs/rows.md says how one is written. Which program it is a job of is the caller's, who hands in a
-//! `Program`; so this crate doesn't stand on the program's, and a text with its rows is played over any that keeps to the
-//! same files, outputs and ports.
+//! A row is data; docs/rows.md describes its form. The caller passes the program to test as a `Program`, so this crate
+//! doesn't depend on the program. The same texts can test any program over the same kinds of files, outputs and ports.
 //!
-//! - `heading.rt` takes a text apart: headings, and the lines behind each.
-//! - `part.rt` reads the bytes of a text, also one that is made by a rule, whose numbers `number.rt` works out.
-//! - `scene.rt` has what a job has outside and what it must leave, and `row.rt` reads it from a row's headings.
-//! - `play.rt` runs a job, `compare.rt` says what differs, and `turn.rt` lets each call fail in turn.
-//! - `report.rt` plays all rows of some texts, and says what became of them.
+//! - `heading.rt` splits a text into headings and the lines below them.
+//! - `part.rt` reads the bytes of a text, including generated ones, whose numbers `number.rt` computes.
+//! - `scene.rt` describes a job's files, outputs and ports and the expected result; `row.rt` reads both from a row's headings.
+//! - `play.rt` runs a job, `compare.rt` reports differences, and `turn.rt` makes each call fail in turn.
+//! - `report.rt` plays all rows of some texts and reports the results.
 #![tactic(auto)]
 
 mod compare;

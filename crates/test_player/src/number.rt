@@ -12,7 +12,7 @@ pub struct Counter<'a> {
 
 const UNREAD: PlayStop = PlayStop::Unread(0, "a number that can't be worked out");
 
-// The value of a word: a number or a counter, of which the one begun last counts.
+// The value of a word: a number, or the innermost counter of that name.
 fn value_of(word: &[u8], counters: &[Counter]) -> Result<i64, PlayStop> {
     if let Some(number) = decimal(word) {
         return i64::try_from(number).ok().ok_or(UNREAD);
@@ -25,7 +25,7 @@ fn value_of(word: &[u8], counters: &[Counter]) -> Result<i64, PlayStop> {
     Err(UNREAD)
 }
 
-// How strongly an operation binds; a parenthesis that is open doesn't.
+// How strongly an operation binds; 0 for an open parenthesis.
 fn rank(operation: u8) -> u8 {
     match operation {
         b'*' | b'%' => 2,
@@ -52,7 +52,7 @@ struct Reading {
 }
 
 impl Reading {
-    // Takes the last operation and its two values away, and puts its value in their place.
+    // Replaces the last two values by the result of the last operation.
     fn apply(&mut self) -> Result<(), PlayStop> {
         let operation = self.operations.pop().ok_or(UNREAD)?;
         let y = self.values.pop().ok_or(UNREAD)?;
@@ -61,7 +61,7 @@ impl Reading {
         Ok(())
     }
 
-    // Applies the operations that bind as strongly as this one.
+    // Applies the operations that bind at least as strongly as this one.
     fn apply_down_to(&mut self, least: u8) -> Result<(), PlayStop> {
         for _ in 0..self.operations.len() {
             match self.operations.last() {
@@ -92,7 +92,7 @@ impl Reading {
         }
     }
 
-    // Takes the word before an operation, if there is one.
+    // Reads the word before an operation, if there is one.
     fn take_word(&mut self, word: &mut Vec<u8>, counters: &[Counter]) -> Result<(), PlayStop> {
         if !word.is_empty() {
             self.values.push(value_of(word.as_slice(), counters)?)?;
@@ -134,7 +134,7 @@ pub fn bounds(alloc: Global, text: &str, counters: &[Counter]) -> Result<(i64, i
     ))
 }
 
-// The sum of an expression over a counter: what stands behind the word `sum`.
+// The sum of an expression over a counter: the text after the word `sum`.
 fn sum(alloc: Global, text: &str) -> Result<i64, PlayStop> {
     let (name, rest) = text.split_once(' ').ok_or(UNREAD)?;
     let (range, expression) = rest.split_once(' ').ok_or(UNREAD)?;
@@ -147,7 +147,7 @@ fn sum(alloc: Global, text: &str) -> Result<i64, PlayStop> {
     Ok(total)
 }
 
-/// The value of an expression, also of a sum over a counter.
+/// The value of an expression, or of a sum over a counter.
 pub fn value(alloc: Global, text: &str, counters: &[Counter]) -> Result<i64, PlayStop> {
     match text.strip_prefix("sum ") {
         Some(rest) => sum(alloc, rest),

@@ -4,7 +4,7 @@ use crate::stop::PlayStop;
 use std::alloc::{AllocError, Global};
 use tl_io::{ConfigPort, MemPort, MemShelf, MemSink};
 
-// The most bytes that a read gives, the room beside what is wanted, and the most writes of a port that are told.
+// The most bytes per read, the room beyond the expected bytes, and the most writes of a port that are shown.
 const PIECE: usize = 7;
 
 const ROOM: usize = 10_000;
@@ -13,7 +13,7 @@ const TOLD_WRITES: usize = 1_000;
 
 /// A program over objects in memory.
 pub trait Program {
-    /// Runs a job, and answers its exit status.
+    /// Runs a job, and returns its exit status.
     fn run(
         &self,
         alloc: Global,
@@ -25,7 +25,7 @@ pub trait Program {
     ) -> u8;
 }
 
-/// The calls of the shelf and of both outputs that fail.
+/// Which calls of the shelf and of both outputs fail.
 #[derive(Clone, Copy)]
 pub struct FailingCalls<'a> {
     pub shelf: &'a [u64],
@@ -33,19 +33,19 @@ pub struct FailingCalls<'a> {
     pub err: &'a [u64],
 }
 
-/// What a call left.
+/// What a job left.
 #[derive(Drop)]
 pub struct PlayedCall {
     pub status: u8,
     pub out: MemSink,
     pub err: MemSink,
-    /// A line for each port in their order: its number among those that were handed in, the writes that it took, and its
+    /// A line for each port, in their present order: its number in the order of before, its writes, and its
     /// faults if there are any.
     pub ports: String,
     pub files: Vec<SceneFile>,
 }
 
-// Puts the files on a shelf, each with room for what it must have behind the job.
+// Puts the files on a shelf, each with room for what it must have after the job.
 fn shelf_of(
     alloc: Global,
     files: &[SceneFile],
@@ -64,7 +64,7 @@ fn shelf_of(
     Ok(shelf)
 }
 
-// A port whose log begins with its number, written before the job: so a port is known again, wherever it stands.
+// A port whose log begins with its number, so that the port is recognised wherever the job leaves it.
 fn numbered(alloc: Global, number: u32, port: &HandedIn) -> Result<MemPort, AllocError> {
     let mut fails = Vec::new(alloc);
     for call in &port.fails {
@@ -75,7 +75,7 @@ fn numbered(alloc: Global, number: u32, port: &HandedIn) -> Result<MemPort, Allo
     Ok(made)
 }
 
-// Tells a port.
+// The line of a port.
 fn put_port<P: ConfigPort>(text: &mut String, port: &P) -> Result<(), AllocError> {
     if let Some(first) = port.logged(0) {
         let number = first.address;
@@ -96,7 +96,7 @@ fn put_port<P: ConfigPort>(text: &mut String, port: &P) -> Result<(), AllocError
     }
 }
 
-// Tells ports in their order.
+// The lines of the ports in their order.
 fn told<P: ConfigPort>(alloc: Global, ports: &[P]) -> Result<String, AllocError> {
     let mut text = String::new(alloc);
     for port in ports {
@@ -105,7 +105,7 @@ fn told<P: ConfigPort>(alloc: Global, ports: &[P]) -> Result<String, AllocError>
     Ok(text)
 }
 
-// The files behind a job.
+// The files after a job.
 fn files_of(
     alloc: Global,
     shelf: &MemShelf,
@@ -123,7 +123,7 @@ fn files_of(
     Ok(files)
 }
 
-/// The lines of ports that were handed in and took nothing.
+/// The lines of ports that took no write.
 pub fn untouched(alloc: Global, ports: usize) -> Result<String, AllocError> {
     let mut text = String::new(alloc);
     for number in 0..ports {
@@ -140,7 +140,7 @@ struct World {
     err: MemSink,
 }
 
-// An output with room for more than what it must have.
+// An output with room for more than the expected bytes.
 fn sink_of(alloc: Global, wanted: &[u8], fails: &[u64]) -> Result<MemSink, AllocError> {
     MemSink::make(alloc, wanted.len().saturating_add(ROOM), fails)
 }
@@ -157,7 +157,7 @@ fn world_of(
     Ok(World { shelf, out, err })
 }
 
-// What is left outside behind a job.
+// What is outside after a job.
 fn left(
     alloc: Global,
     files: &[SceneFile],
@@ -175,7 +175,7 @@ fn left(
     })
 }
 
-/// Runs a job's words on files.
+/// Runs a job on files.
 pub fn run<P: Program>(
     alloc: Global,
     program: &P,

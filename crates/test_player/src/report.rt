@@ -1,4 +1,4 @@
-//! Plays all rows of some texts, and says what became of them.
+//! Plays all rows of some texts, and reports the results.
 use crate::heading::{Text, WorkedRow};
 use crate::play::Program;
 use crate::row::play_row;
@@ -11,10 +11,10 @@ use tl_io::{Shelf, slurp};
 // The most bytes of a text.
 const MOST_BYTES: u64 = 1_000_000;
 
-/// What became of all rows.
+/// The results of all rows.
 #[derive(Drop)]
 struct Report {
-    /// The lines that are printed.
+    /// The lines to print.
     lines: String,
     played: u64,
     told_apart: u64,
@@ -22,7 +22,7 @@ struct Report {
 }
 
 impl Report {
-    // Takes a row in, with what differs.
+    // Adds the result of a row: its differences.
     fn add(&mut self, name: &str, row: &WorkedRow, differences: &str) -> Result<(), PlayStop> {
         self.played = self.played.wrapping_add(1);
         let number = row.number;
@@ -80,7 +80,7 @@ fn add_file<S: Shelf, P: Program>(
     }
 }
 
-// The line that says what became of all rows.
+// The line with the counts of all rows.
 fn add_total(report: &mut Report) -> Result<(), PlayStop> {
     let Report {
         played,
@@ -102,7 +102,7 @@ fn add_total(report: &mut Report) -> Result<(), PlayStop> {
     Ok(())
 }
 
-// Plays the rows of the texts of the words behind the program's name.
+// Plays the rows of the texts that the program's arguments name.
 fn played<R: Env + AllocGlobal, S: Shelf, P: Program>(
     rt: &R,
     shelf: &mut S,
@@ -127,12 +127,12 @@ fn played<R: Env + AllocGlobal, S: Shelf, P: Program>(
     Ok(report)
 }
 
-/// Plays the rows of the texts whose names are the words behind the program's name, and says what became of them: a line and
-/// what differs for each row that differs or is spoilt, and a last line with their counts.
+/// Plays the rows of the texts that the program's arguments name. The report has a line and the differences for each row
+/// that fails or can't be read, and a last line with the counts.
 ///
 /// # Errors
 ///
-/// Where the words can't be had, and where memory doesn't suffice. A text that can't be read is told in the report.
+/// If the arguments can't be read, or if memory runs out. A text that can't be read is part of the report.
 pub fn report_of<R: Env + AllocGlobal, S: Shelf, P: Program>(
     rt: &R,
     shelf: &mut S,

@@ -9,12 +9,12 @@ use crate::turn::run_job;
 use std::alloc::Global;
 use tl_text::decimal;
 
-// The room of a port for which no heading gives another one.
+// The room of a port without a heading that sets it.
 const PORT_ROOM: usize = 100;
 
 const UNREAD: PlayStop = PlayStop::Unread(0, "a heading that can't be read");
 
-// A row while it is played: the files as they lie there now, the next job, and what differed so far.
+// A row that is being played: the present files, the next job, and the differences so far.
 #[derive(Drop)]
 struct Scene<'a, P: Program> {
     alloc: Global,
@@ -54,7 +54,7 @@ fn string(bytes: Vec<u8>) -> Result<String, PlayStop> {
     String::from_utf8(bytes).ok().ok_or(UNREAD)
 }
 
-// The words of a command line: what stands between single blanks, two quotes being the empty word.
+// The arguments in a command line: separated by single blanks; two quotes are the empty argument.
 fn words_of(alloc: Global, line: &str) -> Result<Vec<String>, PlayStop> {
     let mut words = Vec::new(alloc);
     for word in line.split(' ').skip(1) {
@@ -64,7 +64,7 @@ fn words_of(alloc: Global, line: &str) -> Result<Vec<String>, PlayStop> {
     Ok(words)
 }
 
-// Puts a file in the place of one of its name, or behind the others.
+// Replaces the file of the same name, or adds the file at the end.
 fn put_file(files: &mut Vec<SceneFile>, file: SceneFile) -> Result<(), PlayStop> {
     for old in files.iter_mut() {
         if old.name.as_str() == file.name.as_str() {
@@ -77,7 +77,7 @@ fn put_file(files: &mut Vec<SceneFile>, file: SceneFile) -> Result<(), PlayStop>
 }
 
 impl<P: Program> Scene<'_, P> {
-    // The bytes of a heading's text, by the options behind a name or a word.
+    // The bytes of a heading's text, by the options after a name or a word.
     fn bytes(&self, options: &str, heading: &Heading) -> Result<Vec<u8>, PlayStop> {
         let (kind, first) = match options.strip_prefix("hex") {
             Some(first) => (PartKind::Hex, first),
@@ -96,7 +96,7 @@ impl<P: Program> Scene<'_, P> {
         Ok(bytes)
     }
 
-    // The file of a heading: a name, and options.
+    // The file in a heading: a name, and options.
     fn file(&self, rest: &str, heading: &Heading) -> Result<SceneFile, PlayStop> {
         let (name, options) = rest.split_once(' ').unwrap_or((rest, ""));
         let name = String::from_str(self.alloc, name)?;
@@ -128,7 +128,7 @@ impl<P: Program> Scene<'_, P> {
         Ok(())
     }
 
-    // Begins what the next job has outside.
+    // Resets what the next job has outside.
     fn prepare(&mut self) -> Result<(), PlayStop> {
         if self.job.words.is_empty() {
             return Ok(());
@@ -136,7 +136,7 @@ impl<P: Program> Scene<'_, P> {
         self.finish()
     }
 
-    // The room of a port, or its calls that fail.
+    // The room of a port, or which of its calls fail.
     fn port(&mut self, rest: &str) -> Result<(), PlayStop> {
         let (word, rest) = rest.split_once(' ').ok_or(UNREAD)?;
         let (kind, value) = rest.split_once(' ').ok_or(UNREAD)?;
@@ -174,7 +174,7 @@ impl<P: Program> Scene<'_, P> {
         }
     }
 
-    // Which calls of an object fail. Answers whether the word is an object's.
+    // Reads which calls of an object fail. Returns whether the word names an object.
     fn fails(&mut self, word: &str, words: &str) -> Result<bool, PlayStop> {
         if word != "shelf" && word != "out" && word != "err" {
             return Ok(false);
@@ -185,7 +185,7 @@ impl<P: Program> Scene<'_, P> {
         Ok(true)
     }
 
-    // What a job has outside. Answers whether the heading tells it.
+    // Reads what a job has outside. Returns whether the heading describes that.
     fn outside(&mut self, word: &str, rest: &str, heading: &Heading) -> Result<bool, PlayStop> {
         if let Some(words) = rest.strip_prefix("fails ") {
             return self.fails(word, words);
@@ -199,7 +199,7 @@ impl<P: Program> Scene<'_, P> {
         Ok(true)
     }
 
-    // Further words of which the same must come.
+    // Further arguments that must give the same result.
     fn also(&mut self, rest: &str) -> Result<(), PlayStop> {
         let line = rest.strip_prefix("$ tlut").ok_or(UNREAD)?;
         let words = words_of(self.alloc, line)?;
@@ -232,7 +232,7 @@ impl<P: Program> Scene<'_, P> {
         Ok(())
     }
 
-    // What a job must leave.
+    // Reads what a job must leave.
     fn wanted(&mut self, word: &str, rest: &str, heading: &Heading) -> Result<(), PlayStop> {
         if self.job.words.is_empty() {
             return Err(UNREAD);
@@ -254,7 +254,7 @@ impl<P: Program> Scene<'_, P> {
         }
     }
 
-    // Takes a heading in.
+    // Reads a heading.
     fn take(&mut self, line: &str, heading: &Heading) -> Result<(), PlayStop> {
         if let Some(words) = line.strip_prefix("$ tlut") {
             self.prepare()?;
@@ -278,7 +278,7 @@ impl<P: Program> Scene<'_, P> {
     }
 }
 
-// Plays a row once, and tells what differs.
+// Plays a row once, and returns the differences.
 fn play_once<P: Program>(
     alloc: Global,
     program: &P,
@@ -308,7 +308,7 @@ fn play_once<P: Program>(
     Ok(scene.differences)
 }
 
-// The counter of a row that is played once for each of its values, with the bounds.
+// The counter of a row that is played once for each of its values, with its bounds.
 fn counter_of<'a>(
     alloc: Global,
     row: &WorkedRow<'a>,
@@ -323,7 +323,7 @@ fn counter_of<'a>(
     Ok(None)
 }
 
-/// Plays a row, and tells what differs: nothing where it leaves what it must.
+/// Plays a row, and returns the differences: none if each job leaves what it must.
 pub fn play_row<P: Program>(
     alloc: Global,
     program: &P,

@@ -1,12 +1,12 @@
 //! What a job has outside, and what it must leave.
 use std::alloc::Global;
 
-/// The calls of an object that fail.
+/// Which calls of an object fail.
 #[derive(Drop)]
 pub enum Calls {
-    /// Those of these numbers.
+    /// The calls with these numbers.
     These(Vec<u64>),
-    /// One alone, from the first one on, until the job leaves what it must.
+    /// One call at a time, from the first one on, until the job leaves what it must.
     InTurn,
 }
 
@@ -17,15 +17,15 @@ pub struct SceneFile {
     pub bytes: Vec<u8>,
 }
 
-/// A port that is handed in: for how many writes it has room, and which of its calls fail.
+/// A port of a job: for how many writes it has room, and which of its calls fail.
 #[derive(Drop)]
 pub struct HandedIn {
     pub room: usize,
     pub fails: Vec<u64>,
 }
 
-/// What a job must leave: both outputs, the status, the files that differ from before, and the lines of the ports. No line:
-/// the ports as they were handed in.
+/// What a job must leave: both outputs, the status, the changed files, and the lines of the ports. Without lines of
+/// ports, the ports must be as before.
 #[derive(Drop)]
 pub struct Expected {
     pub out: Vec<u8>,
@@ -35,7 +35,7 @@ pub struct Expected {
     pub ports: Vec<u8>,
 }
 
-/// A job: its words, further words of which the same must come, what it has outside beside the files, and what it must leave.
+/// A job: its arguments, further arguments that must give the same result, what it has outside, and what it must leave.
 #[derive(Drop)]
 pub struct PlayedJob {
     pub words: Vec<Vec<String>>,
@@ -47,7 +47,7 @@ pub struct PlayedJob {
 }
 
 impl PlayedJob {
-    /// A job without words, of which no call fails and which must leave nothing.
+    /// A job without arguments, of which no call fails and which must leave nothing.
     pub fn new(alloc: Global) -> PlayedJob {
         PlayedJob {
             words: Vec::new(alloc),
@@ -66,7 +66,7 @@ impl PlayedJob {
     }
 }
 
-/// The file of a name.
+/// The file with a name.
 pub fn find<'a>(files: &'a [SceneFile], name: &str) -> Option<&'a SceneFile> {
     for file in files {
         if file.name.as_str() == name {

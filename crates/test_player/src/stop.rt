@@ -10,7 +10,7 @@ pub enum PlayStop {
 }
 
 impl PlayStop {
-    /// The same at a line, where none is told yet.
+    /// The same stop, at this line unless it has one.
     pub fn at(self, line: u32) -> PlayStop {
         match self {
             PlayStop::Unread(0, why) => PlayStop::Unread(line, why),

@@ -1,4 +1,4 @@
-//! Each call of the shelf or of an output failing in turn, until a job leaves what it must.
+//! Lets each call of the shelf or of an output fail in turn, until a job leaves what it must.
 use crate::compare::{differences, wanted_bytes};
 use crate::play::{FailingCalls, PlayedCall, Program, run, untouched};
 use crate::scene::{Calls, PlayedJob, SceneFile, find};
@@ -12,7 +12,7 @@ const READ_FAULT: u8 = 5;
 
 const WRITE_FAULT: u8 = 6;
 
-// Whether a file is as it must be, or the writing of it was cut off, or begun by nothing.
+// Whether a file is as expected, or begun and written in part.
 #[derive(Clone, Copy)]
 enum Written {
     Whole,
@@ -33,7 +33,7 @@ fn how_written(is: &SceneFile, was: &SceneFile, wanted: &[u8]) -> Option<Written
     }
 }
 
-// Whether the files that are written are whole ones in the order of the words, then at most one in part, then ones as before.
+// Whether the written files, in the order of the arguments, are first complete, then at most one in part, then unchanged.
 fn are_cut_off(before: &[SceneFile], job: &PlayedJob, words: &[String], ran: &PlayedCall) -> bool {
     let mut is_whole = true;
     for word in words {
@@ -55,7 +55,7 @@ fn are_cut_off(before: &[SceneFile], job: &PlayedJob, words: &[String], ran: &Pl
     true
 }
 
-// Whether the files that aren't written are as before; where `all` is told, each of them.
+// Whether the files that the job doesn't write are as before; with `all`, each file.
 fn are_kept(before: &[SceneFile], job: &PlayedJob, ran: &PlayedCall, all: bool) -> bool {
     for (is, was) in ran.files.iter().zip(before) {
         let is_written = find(job.wanted.files.as_slice(), was.name.as_str()).is_some();
@@ -66,7 +66,7 @@ fn are_kept(before: &[SceneFile], job: &PlayedJob, ran: &PlayedCall, all: bool) 
     true
 }
 
-// Whether the fault line is that of a file among the words that can't be read.
+// Whether the fault line names one of the files among the arguments that can't be read.
 fn is_read_line(alloc: Global, words: &[String], err: &[u8]) -> Result<bool, AllocError> {
     for word in words {
         let line = format!(in alloc; "tlut: {}: read failed\n", word.as_str())?;
@@ -77,7 +77,7 @@ fn is_read_line(alloc: Global, words: &[String], err: &[u8]) -> Result<bool, All
     Ok(false)
 }
 
-// Whether a fault of the shelf or of the output allows what was left.
+// Whether a fault of the shelf or of the output explains what was left.
 fn is_allowed(
     alloc: Global,
     before: &[SceneFile],
@@ -102,7 +102,7 @@ fn is_allowed(
     }
 }
 
-// Whether a fault of the error output allows what was left: all as it must be, but for a beginning of the fault line.
+// Whether a fault of stderr explains what was left: all as expected, with a prefix of the fault line.
 fn is_line_cut_off(job: &PlayedJob, before: &[SceneFile], ran: &PlayedCall) -> bool {
     for (is, was) in ran.files.iter().zip(before) {
         if is.bytes.as_slice() != wanted_bytes(job, was) {
@@ -114,7 +114,7 @@ fn is_line_cut_off(job: &PlayedJob, before: &[SceneFile], ran: &PlayedCall) -> b
         && job.wanted.err.as_slice().starts_with(ran.err.bytes())
 }
 
-// The numbers of the calls of an object that fail, where call `turn` fails of the one whose calls fail in turn.
+// The numbers of an object's failing calls, with call `turn` failing if its calls fail in turn.
 fn these<'a>(calls: &'a Calls, turn: &'a [u64]) -> &'a [u64] {
     match calls {
         Calls::These(numbers) => numbers.as_slice(),
@@ -126,7 +126,7 @@ fn is_in_turn(calls: &Calls) -> bool {
     matches!(calls, Calls::InTurn)
 }
 
-// Runs a job whose calls fail in turn, and tells what differs.
+// Runs a job whose calls fail in turn, and returns the differences.
 fn run_in_turn<P: Program>(
     alloc: Global,
     program: &P,
@@ -163,7 +163,7 @@ fn run_in_turn<P: Program>(
     ))
 }
 
-/// Runs a job on files, and tells what it left and what differs.
+/// Runs a job on files, and returns what it left and the differences.
 pub fn run_job<P: Program>(
     alloc: Global,
     program: &P,

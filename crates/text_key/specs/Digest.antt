@@ -39,7 +39,7 @@ with_word s word =
 abbrev pub with_chunk : Digest → List ℕ → Digest
 with_chunk s chunk = with_word s (from_le_bytes w64 chunk)
 
--- the state after bytes: words of eight, and then a word of those that are left over behind a 1
+-- the state after bytes: words of eight, and then a word of those that are left over after a 1
 abbrev pub with_bytes : Digest → List ℕ → Digest
 with_bytes s bytes = with_word (fold with_chunk s (chunks_of bytes)) (fold longer 1 (rest_of bytes))
 

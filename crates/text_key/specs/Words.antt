@@ -11,6 +11,6 @@ longer word byte = ((word * 256) % 2 ^ 64 + byte) % 2 ^ 64
 abbrev pub chunks_of : List ℕ → List (List ℕ)
 chunks_of bytes = first_chunks 8 (length bytes / 8) bytes
 
--- the bytes behind them
+-- the bytes after them
 abbrev pub rest_of : List ℕ → List ℕ
 rest_of bytes = drop (length bytes / 8 * 8) bytes

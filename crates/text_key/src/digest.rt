@@ -101,7 +101,7 @@ impl Digest {
         }
     }
 
-    /// Adds bytes: words of eight, and then a word of those that are left over behind a 1. The time is linear in their number.
+    /// Adds bytes: words of eight, and then a word of those that are left over after a 1. The time is linear in their number.
     pub fn add(&mut self, bytes: &[u8])
         ensures { self.new ≡ with_bytes self.old bytes.now }
     {

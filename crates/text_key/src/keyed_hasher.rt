@@ -7,7 +7,7 @@ use crate::key::TextKey;
 use crate::words::behind;
 use std::hash::Hasher;
 
-/// Hashes bytes eight at a time, each word folded into the hash. Those that are left over are collected behind a 1, so that the
+/// Hashes bytes eight at a time, each word folded into the hash. Those that are left over are collected after a 1, so that the
 /// last word tells where the bytes end.
 #[derive(Clone, Copy)]
 pub struct KeyedHasher {

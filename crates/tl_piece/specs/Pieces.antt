@@ -2,7 +2,7 @@
 use Rattle.std.specs.Prelude.{◌≡◌, ℕ, ◌<◌, List, ◌++◌, length, take, Option}
 use Rattle.tl_io.specs.Content.{extended}
 
--- a text was added behind what waited: a front of both was put, and the rest waits
+-- a text was added after what waited: a front of both was put, and the rest waits
 pub record Adds (old : Option (List ℕ)) (waiting text : List ℕ) (new : Option (List ℕ)) (left : List ℕ) : Type 0 where
   pub sent : List ℕ
   pub put : new ≡ extended old sent

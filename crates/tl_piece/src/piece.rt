@@ -9,7 +9,7 @@ pub(crate) const PIECE: usize = 4_096;
 
 /// The bytes of a text that were not put yet, at most 4,096. They are stored in place, so no memory is allocated.
 ///
-/// Contracts see a piece as these bytes.
+/// Contracts see a buffer as these bytes.
 #[derive(Drop)]
 pub struct WriteBuffer {
     bytes: ArrayVec<u8, PIECE>,
@@ -24,7 +24,7 @@ impl Model for WriteBuffer {
 }
 
 impl WriteBuffer {
-    /// Creates an empty piece.
+    /// Creates an empty buffer.
     pub fn new() -> WriteBuffer
         ensures { result ≡ [] }
     {

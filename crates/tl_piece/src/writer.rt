@@ -18,7 +18,7 @@ pub struct Writer<'a, O: Sink> {
 }
 
 impl<'a, O: Sink> Writer<'a, O> {
-    /// Creates a writer over this sink that uses this piece as its buffer. The old bytes of the piece are removed.
+    /// Creates a writer over this sink that uses this buffer, whose old bytes are removed.
     pub fn over(out: &'a mut O, piece: &'a mut WriteBuffer) -> Writer<'a, O>
         ensures { IsNew out.entry result }
     {

@@ -21,7 +21,7 @@ pub use Rattle.tl_text.specs.NameSets.{has_name, with_name, with_names}
 pub use Rattle.tl_text.specs.Once.{AreOnce}
 pub use Rattle.tl_text.specs.Refusals.{refusal_of}
 pub use Rattle.tl_text.specs.Spans.{spans}
-pub use Rattle.tl_text.specs.Tokens.{is_blank, tokens_at, IsRunAt, begins_run, lengthened, IsRun, AreRuns}
+pub use Rattle.tl_text.specs.Tokens.{is_blank, tokens_at, IsRunAt, begins_run, lengthened, IsTokenRun, AreRuns}
 pub use Rattle.tl_text.specs.declared.text_err.TextErr.{TextErr}
 pub use Rattle.tl_text.specs.declared.text_err.TextErr.TheVariants.{BadByte, TrailingSlash, Memory}
 pub use Rattle.tl_text.specs.declared.token.Token.{Token}

@@ -1,5 +1,5 @@
 -- Worked examples: the tokens of bytes, a run of them, and what is a clean name and what isn't.
-use Rattle.tl_text.proofs.Common.{◌≡◌, ℕ, zero, suc, ◌<◌, ◌≤◌, true, false, List, [], ◌∷◌, codes, get_or, refl, inl, inr, subst, sym, arith, Ok, Err, BadByte, TrailingSlash, is_bad, lines_of, is_blank, IsRun, tokens_at, IsClean}
+use Rattle.tl_text.proofs.Common.{◌≡◌, ℕ, zero, suc, ◌<◌, ◌≤◌, true, false, List, [], ◌∷◌, codes, get_or, refl, inl, inr, subst, sym, arith, Ok, Err, BadByte, TrailingSlash, is_bad, lines_of, is_blank, IsTokenRun, tokens_at, IsClean}
 
 -- ` ab` `\t` `c `, which stand at the place 5 of a text
 abbrev blanks : List ℕ
@@ -18,7 +18,7 @@ run_inside (suc zero) l m = refl
 run_inside (suc (suc zero)) l m = refl
 run_inside (suc (suc (suc i))) l m = absurd (omega arith)
 
-first_run : IsRun blanks 1 3
+first_run : IsTokenRun blanks 1 3
 first_run = record {
   some = omega arith;
   within = omega arith;
@@ -27,10 +27,10 @@ first_run = record {
   behind = λ l. refl;
 }
 
-too_short : IsRun blanks 1 2 → ⊥
+too_short : IsTokenRun blanks 1 2 → ⊥
 too_short r = let e : is_blank 98 ≡ true = r.behind (omega arith) in let wrong : ⊥ = cc in wrong
 
-with_blank : IsRun blanks 0 3 → ⊥
+with_blank : IsTokenRun blanks 0 3 → ⊥
 with_blank r = let e : is_blank 32 ≡ false = r.inside 0 (omega arith) (omega arith) in let wrong : ⊥ = cc in wrong
 
 -- clean names

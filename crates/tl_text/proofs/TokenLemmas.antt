@@ -1,5 +1,5 @@
 -- The tokens of bytes are exactly their runs.
-use Rattle.tl_text.proofs.Common.{◌≡◌, ℕ, zero, suc, ◌+◌, ◌<◌, ◌≤◌, Bool, true, false, List, [], ◌∷◌, length, map, get_or, refl, sym, ap, subst, ◌∙◌, inl, inr, arith, not-true, not-false, In, In-map, choose, Token, is_blank, IsRun, begins_run, lengthened, tokens_at, IsRunAt, AreRuns, rules}
+use Rattle.tl_text.proofs.Common.{◌≡◌, ℕ, zero, suc, ◌+◌, ◌<◌, ◌≤◌, Bool, true, false, List, [], ◌∷◌, length, map, get_or, refl, sym, ap, subst, ◌∙◌, inl, inr, arith, not-true, not-false, In, In-map, choose, Token, is_blank, IsTokenRun, begins_run, lengthened, tokens_at, IsRunAt, AreRuns, rules}
 
 abbrev token_of : ℕ → ℕ → Token
 token_of start end = record { start = start; end = end }
@@ -10,20 +10,20 @@ moved tokens a b c d e f i = subst (λ x. In tokens (token_of x d)) e (subst (λ
 true_false : {A : Type 0} (b : Bool) → b ≡ true → b ≡ false → A
 true_false b t f = absurd (let e : ⊥ = cc in e)
 
-behind_inside : (b : ℕ) (bs : List ℕ) (first past : ℕ) → IsRun bs first past → (i : ℕ) → suc first ≤ i → i < suc past → is_blank (get_or (b ∷ bs) i 0) ≡ false
+behind_inside : (b : ℕ) (bs : List ℕ) (first past : ℕ) → IsTokenRun bs first past → (i : ℕ) → suc first ≤ i → i < suc past → is_blank (get_or (b ∷ bs) i 0) ≡ false
 behind_inside b bs first past r zero l m = absurd (omega arith)
 behind_inside b bs first past r (suc i) l m = r.inside i (omega arith) (omega arith)
 
-behind_before : (b : ℕ) (bs : List ℕ) (first past : ℕ) → (first ≡ 0 → is_blank b ≡ true) → IsRun bs first past → (i : ℕ) → i + 1 ≡ suc first → is_blank (get_or (b ∷ bs) i 0) ≡ true
+behind_before : (b : ℕ) (bs : List ℕ) (first past : ℕ) → (first ≡ 0 → is_blank b ≡ true) → IsTokenRun bs first past → (i : ℕ) → i + 1 ≡ suc first → is_blank (get_or (b ∷ bs) i 0) ≡ true
 behind_before b bs first past blank r zero e = blank (omega arith)
 behind_before b bs first past blank r (suc i) e = r.before i (omega arith)
 
 -- a run behind one more byte
-behind_byte : (b : ℕ) (bs : List ℕ) (first past : ℕ) → (first ≡ 0 → is_blank b ≡ true) → IsRun bs first past → IsRun (b ∷ bs) (suc first) (suc past)
+behind_byte : (b : ℕ) (bs : List ℕ) (first past : ℕ) → (first ≡ 0 → is_blank b ≡ true) → IsTokenRun bs first past → IsTokenRun (b ∷ bs) (suc first) (suc past)
 behind_byte b bs first past blank r = search (rules, behind_inside, behind_before)
 
 -- and without it
-without_byte : (b : ℕ) (bs : List ℕ) (first past : ℕ) → IsRun (b ∷ bs) (suc first) (suc past) → IsRun bs first past
+without_byte : (b : ℕ) (bs : List ℕ) (first past : ℕ) → IsTokenRun (b ∷ bs) (suc first) (suc past) → IsTokenRun bs first past
 without_byte b bs first past r = record {
   some = omega arith;
   within = omega arith;
@@ -33,11 +33,11 @@ without_byte b bs first past r = record {
 }
 
 -- a run that begins one byte earlier
-lengthened_inside : (b : ℕ) (bs : List ℕ) (past : ℕ) → is_blank b ≡ false → IsRun bs 0 past → (i : ℕ) → 0 ≤ i → i < suc past → is_blank (get_or (b ∷ bs) i 0) ≡ false
+lengthened_inside : (b : ℕ) (bs : List ℕ) (past : ℕ) → is_blank b ≡ false → IsTokenRun bs 0 past → (i : ℕ) → 0 ≤ i → i < suc past → is_blank (get_or (b ∷ bs) i 0) ≡ false
 lengthened_inside b bs past dark r zero l m = dark
 lengthened_inside b bs past dark r (suc i) l m = r.inside i (omega arith) (omega arith)
 
-lengthen_run : (b : ℕ) (bs : List ℕ) (first past : ℕ) → is_blank b ≡ false → first ≡ 0 → IsRun bs first past → IsRun (b ∷ bs) 0 (suc past)
+lengthen_run : (b : ℕ) (bs : List ℕ) (first past : ℕ) → is_blank b ≡ false → first ≡ 0 → IsTokenRun bs first past → IsTokenRun (b ∷ bs) 0 (suc past)
 lengthen_run b bs first past dark e given = grind arith
 
 begins : (bs : List ℕ) → begins_run bs ≡ true → is_blank (get_or bs 0 0) ≡ false
@@ -52,10 +52,10 @@ stops : (bs : List ℕ) → begins_run bs ≡ false → 0 < length bs → is_bla
 stops [] h l = absurd (omega arith)
 stops (b ∷ bs) h l = not-false (is_blank b) h
 
-no_first_run : {A : Type 0} (bs : List ℕ) (first past : ℕ) → begins_run bs ≡ false → IsRun bs first past → first ≡ 0 → A
+no_first_run : {A : Type 0} (bs : List ℕ) (first past : ℕ) → begins_run bs ≡ false → IsTokenRun bs first past → first ≡ 0 → A
 no_first_run bs first past ends given e = grind arith
 
-shorten_run : (b : ℕ) (bs : List ℕ) (past : ℕ) → begins_run bs ≡ true → IsRun (b ∷ bs) 0 (suc past) → IsRun bs 0 past
+shorten_run : (b : ℕ) (bs : List ℕ) (past : ℕ) → begins_run bs ≡ true → IsTokenRun (b ∷ bs) 0 (suc past) → IsTokenRun bs 0 past
 shorten_run b bs zero runs r = let s : 0 < length bs = begins_some bs runs in true_false (is_blank (get_or bs 0 0)) (r.behind (omega arith)) (begins bs runs)
 shorten_run b bs (suc past) runs r = record {
   some = omega arith;
@@ -82,7 +82,7 @@ module _ (at b : ℕ) (bs : List ℕ) where
   }
 
   -- a blank before bytes is in ends run
-  all_behind_blank : (tokens : List Token) → is_blank b ≡ true → AreRuns (at + 1) bs tokens → (first past : ℕ) → IsRun (b ∷ bs) first past → In tokens (token_of (at + first) (at + past))
+  all_behind_blank : (tokens : List Token) → is_blank b ≡ true → AreRuns (at + 1) bs tokens → (first past : ℕ) → IsTokenRun (b ∷ bs) first past → In tokens (token_of (at + first) (at + past))
   all_behind_blank tokens blank h zero past r = true_false (is_blank b) blank (r.inside 0 (omega arith) r.some)
   all_behind_blank tokens blank h (suc first) zero r = absurd (omega arith)
   all_behind_blank tokens blank h (suc first) (suc past) r =
@@ -96,7 +96,7 @@ module _ (at b : ℕ) (bs : List ℕ) where
   }
 
   -- a byte that is a run alone
-  one_run : is_blank b ≡ false → begins_run bs ≡ false → IsRun (b ∷ bs) 0 1
+  one_run : is_blank b ≡ false → begins_run bs ≡ false → IsTokenRun (b ∷ bs) 0 1
   one_run dark ends = search (rules, stops)
 
   only_one : (tokens : List Token) → is_blank b ≡ false → begins_run bs ≡ false → AreRuns (at + 1) bs tokens
@@ -106,7 +106,7 @@ module _ (at b : ℕ) (bs : List ℕ) where
       let r : IsRunAt (at + 1) bs token = h.only token i in further token r (no_first_run bs r.first r.past ends r.run)
 
   all_one : (tokens : List Token) → is_blank b ≡ false → begins_run bs ≡ false → AreRuns (at + 1) bs tokens
-      → (first past : ℕ) → IsRun (b ∷ bs) first past → In (token_of at (at + 1) ∷ tokens) (token_of (at + first) (at + past))
+      → (first past : ℕ) → IsTokenRun (b ∷ bs) first past → In (token_of at (at + 1) ∷ tokens) (token_of (at + first) (at + past))
   all_one tokens dark ends h zero (suc zero) r = inl (ap (λ n. token_of n (at + 1)) (omega arith))
   all_one tokens dark ends h zero (suc (suc past)) r = true_false (is_blank (get_or bs 0 0)) (stops bs ends (omega arith)) (r.inside 1 (omega arith) (omega arith))
   all_one tokens dark ends h (suc first) (suc past) r =
@@ -146,7 +146,7 @@ module _ (at b : ℕ) (bs : List ℕ) where
   later_longer t ts first past here (inr i) = inr (moved ts _ _ (at + suc (suc first)) (at + suc past) (omega arith) (omega arith) i)
 
   all_longer : (t : Token) (ts : List Token) → t.start ≡ at + 1 → is_blank b ≡ false → begins_run bs ≡ true → AreRuns (at + 1) bs (t ∷ ts)
-      → (first past : ℕ) → IsRun (b ∷ bs) first past → In (token_of at t.end ∷ ts) (token_of (at + first) (at + past))
+      → (first past : ℕ) → IsTokenRun (b ∷ bs) first past → In (token_of at t.end ∷ ts) (token_of (at + first) (at + past))
   all_longer t ts here dark runs h first zero r = absurd (omega arith)
   all_longer t ts here dark runs h zero (suc past) r = first_longer t ts past here h (h.all 0 past (shorten_run b bs past runs r))
   all_longer t ts here dark runs h (suc zero) (suc past) r = true_false (is_blank b) (r.before 0 (omega arith)) dark

@@ -7,7 +7,7 @@ use Rattle.tl_text.specs.declared.text_err.TextErr.TheVariants.{BadByte, Trailin
 use Rattle.tl_text.specs.LineValue.{LineValue}
 use Rattle.tl_text.specs.Tokens.{is_blank, tokens_at}
 
--- Physical lines: what stands between the line feeds (10). The last one is what stands behind the last line feed.
+-- Physical lines: what stands between the line feeds (10). The last one is what is after the last line feed.
 abbrev pub before_first : ℕ → List (List ℕ) → List (List ℕ)
 before_first b [] = (b ∷ []) ∷ []
 before_first b (line ∷ lines) = (b ∷ line) ∷ lines
@@ -78,7 +78,7 @@ abbrev pub closed : Option LineValue → List LineValue
 closed None = []
 closed (Some line) = counted line []
 
--- The logical lines of physical lines, the first of which has this number and starts at this place, behind a line that goes on if there is one.
+-- The logical lines of physical lines, the first of which has this number and starts at this place, after a line that goes on if there is one.
 -- In one physical line a bad byte comes before a token that ends in `\`.
 abbrev pub lines_from : ℕ → ℕ → Option LineValue → List (List ℕ) → Result (List LineValue) TextErr
 lines_from number at unfinished [] = Ok (closed unfinished)

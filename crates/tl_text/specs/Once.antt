@@ -1,4 +1,4 @@
--- Lists of names in which none stands twice.
+-- Lists of names in which none occurs twice.
 use Rattle.std.specs.Prelude.{ℕ, List}
 use Rattle.list_laws.specs.Apart.{AreApart}
 

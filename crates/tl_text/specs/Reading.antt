@@ -11,7 +11,7 @@ pub record Reading : Type 0 where
   pub done : List LineValue
   pub unfinished : Option LineValue
 
--- a line behind others; one without tokens doesn't count
+-- a line after others; one without tokens doesn't count
 abbrev pub with_line : List LineValue → LineValue → List LineValue
 with_line done line = if length line.tokens == 0 then done else done ++ line ∷ []
 

@@ -1,4 +1,4 @@
--- What each refusal of a text tells.
+-- What each refusal of a text says.
 use Rattle.std.specs.Prelude.{Option, Some, None, codes}
 use Rattle.tl_fault.specs.RefusalValue.{RefusalValue, refusal}
 use Rattle.tl_fault.specs.declared.refusal.Details.TheVariants.{Line}

@@ -9,8 +9,8 @@ abbrev pub is_blank : ℕ → Bool
 is_blank b = (b == 32) || (b == 9)
 
 -- The bytes from `start` to before `end` are a longest run without blanks: there is one at least, none of them is a blank,
--- and what stands directly before or behind them, if anything does, is a blank.
-pub record IsRun (bytes : List ℕ) (start end : ℕ) : Type 0 where
+-- and what stands directly before or after them, if anything does, is a blank.
+pub record IsTokenRun (bytes : List ℕ) (start end : ℕ) : Type 0 where
   pub some : start < end
   pub within : end ≤ length bytes
   pub inside : (i : ℕ) → start ≤ i → i < end → is_blank (slice_index bytes i) ≡ false
@@ -40,12 +40,12 @@ tokens_at at (b ∷ bs) =
 pub record IsRunAt (at : ℕ) (bytes : List ℕ) (token : Token) : Type 0 where
   pub first : ℕ
   pub past : ℕ
-  pub run : IsRun bytes first past
+  pub run : IsTokenRun bytes first past
   pub start : token.start ≡ at + first
   pub end : token.end ≡ at + past
 
 -- Tokens are exactly the runs of bytes that start at a place, each once, from left to right.
 pub record AreRuns (at : ℕ) (bytes : List ℕ) (tokens : List Token) : Type 0 where
   pub only : (token : Token) → In tokens token → IsRunAt at bytes token
-  pub all : (first past : ℕ) → IsRun bytes first past → In tokens (record { start = at + first; end = at + past })
+  pub all : (first past : ℕ) → IsTokenRun bytes first past → In tokens (record { start = at + first; end = at + past })
   pub ascending : IsAscending (map (λ token. token.start) tokens)

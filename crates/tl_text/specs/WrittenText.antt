@@ -2,7 +2,7 @@
 use Rattle.std.specs.Prelude.{ℕ, List, [], ◌∷◌, ◌++◌}
 use Rattle.std.specs.List.{flat_map}
 
--- words, each behind a blank (32)
+-- words, each after a blank (32)
 abbrev pub words_text : List (List ℕ) → List ℕ
 words_text words = flat_map (λ (w : List ℕ). 32 ∷ w) words
 

@@ -35,7 +35,7 @@ impl Model for NameIndex {
     ghost invariant = { λ n. AreOnce (n.names.keys) };
 }
 
-// The key of names, in their order, behind what a key was computed from.
+// The key of names, in their order, after what a key was computed from.
 fn key_behind(key: TextKey, names: &[Name]) -> TextKey
     ensures { result ≡ key_of_digest (fold with_bytes (behind_key key) names.now) }
 {
@@ -64,7 +64,7 @@ impl NameIndex {
         NameIndex::of_with(alloc, TextKey::of(b""), names)
     }
 
-    /// The same, with the key of the names behind what this key was computed from.
+    /// The same, with the key of the names after what this key was computed from.
     pub fn of_with(alloc: Global, key: TextKey, names: &[Name]) -> Result<NameIndex, AllocError>
         ensures { IfOk result (λ index. index ≡ with_all_names [] names.now) }
     {
@@ -163,7 +163,6 @@ impl NameIndex {
     pub fn copy(&self, alloc: Global) -> Result<NameIndex, AllocError>
         ensures { IfOk result (λ copy. copy ≡ self.now) }
     {
-        let names = self.fresh(alloc).with_names(alloc, self.names.as_slice())?;
-        Ok(names)
+        self.fresh(alloc).with_names(alloc, self.names.as_slice())
     }
 }

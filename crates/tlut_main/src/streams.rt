@@ -15,7 +15,7 @@ use tlut_cli::Outputs;
 // The null device.
 const NULL: &str = "/dev/null";
 
-// The open files behind stdout and stderr. `/dev/stdout` could be a file of its own.
+// The open files after stdout and stderr. `/dev/stdout` could be a file of its own.
 const OUTPUT: &str = "/proc/self/fd/1";
 
 const ERRORS: &str = "/proc/self/fd/2";

@@ -82,7 +82,7 @@ abbrev pub entries_at : List (List ℕ) → ℕ → ℕ → List SubcktValue →
 entries_at names parent k [] = []
 entries_at names parent k (s ∷ ss) = entry_of names parent k s ∷ entries_at names parent (suc k) ss
 
--- a row whose instance is still to be put behind the paths
+-- a row whose instance is still to be put after the paths
 pub record IsWaiting (library : LibraryValue) (made : List Path) (row : Instance) (model : ModelValue) : Type 0 where
   pub earlier : (p : ℕ) → row.parent ≡ Some p → p < length made
   pub number : slice_get library.models row.model ≡ Some model
@@ -139,7 +139,7 @@ pub record AreGatesAt (paths : List Path) (gates : List Gate) (places : List Pla
   pub count : length gates ≡ length places
   pub each : (k : ℕ) (g : Gate) (p : Place) → slice_get gates k ≡ Some g → slice_get places k ≡ Some p → IsGateAt paths g p
 
--- How gates are listed: row by row the commands of a kind, each behind those before it.
+-- How gates are listed: row by row the commands of a kind, each after those before it.
 
 -- gates and the next one, if the command is of the kind
 abbrev pub with_gate : (Body → Bool) → ℕ → ℕ → List Gate → Body → List Gate

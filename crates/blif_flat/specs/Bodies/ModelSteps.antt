@@ -189,7 +189,7 @@ pub record IsBehind (library : LibraryValue) (before : List ℕ) (number : ℕ) 
   pub at : slice_get library.models number ≡ Some model
   pub children : (s : SubcktValue) → In (subckts_of model.commands) s → IsAmong library before s.model
 
--- each model stands behind those that it places
+-- each model comes after those that it places
 pub record AreChildrenFirst (library : LibraryValue) (order : List ℕ) : Type 0 where
   pub each : (i number : ℕ) → slice_get order i ≡ Some number → IsBehind library (take i order) number
 

@@ -149,7 +149,7 @@ pub record AreAllNets (library : LibraryValue) (instances : List Instance) (n : 
   pub nets : IsNets n
   pub table : (main : ModelValue) → model_at library [] ≡ Some main → AreNetsAt library (net_places library main (paths_of instances)) (paths_of instances) (table_of n)
 
--- Where the slots of each instance start: behind those of the instances before it.
+-- Where the slots of each instance start: after those of the instances before it.
 
 -- all names of a model, each once
 abbrev pub distinct_names : ModelValue → List (List ℕ)

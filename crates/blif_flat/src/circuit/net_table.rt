@@ -193,7 +193,7 @@ fn links_in(placed: &Placed<'_, '_>, nets: &mut Nets)
     }
 }
 
-// Puts a cover in at its output.
+// Enters a cover at its output's net.
 fn set_cover(library: &Library, instances: &[Instance], nets: &mut Nets, gate: &Gate, k: u32)
     requires { IsNets nets.old }
     ensures cover { nets.new ≡ with_named nets.old gate.now.row (option_and_then cover_output (body_of library.now instances.now gate.now)) (FlatNet.Cover k) }

@@ -58,7 +58,7 @@ fn written_path(alloc: Global, path: Vec<u32>) -> Result<Vec<u8>, AllocError>
     Ok(text)
 }
 
-// A text behind the path of a row.
+// A text after the path of a row.
 fn written_under(
     alloc: Global,
     instances: &[Instance],

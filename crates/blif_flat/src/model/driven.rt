@@ -43,7 +43,6 @@ impl Driven {
         ensures added { IfOk result (λ added. added ≡ not (has_name self.old name.now)) }
         ensures ok { OnOk result (self.new ≡ with_name self.old name.now) }
     {
-        let added = self.names.add_new(alloc, name)?;
-        Ok(added)
+        self.names.add_new(alloc, name)
     }
 }

@@ -51,8 +51,7 @@ impl Ports {
     pub(crate) fn copy_inputs(&self, alloc: Global) -> Result<NameIndex, AllocError>
         ensures { IfOk result (λ inputs. inputs ≡ self.now.inputs) }
     {
-        let inputs = self.inputs.copy(alloc)?;
-        Ok(inputs)
+        self.inputs.copy(alloc)
     }
 
     /// Whether the name is an input.

@@ -28,8 +28,7 @@ fn listed_config(alloc: Global, draft: &WritableSource) -> Result<Vec<bool>, All
     ensures { IfOk result (λ config. IsConf draft.now.mapped.tables.pack (param_inits draft.now.mapped.source.params.list) config.items) }
 {
     let values = listed_values(alloc, &draft.mapped.source.params.list)?;
-    let config = draft.mapped.tables.pack.conf(alloc, &values)?;
-    Ok(config)
+    draft.mapped.tables.pack.conf(alloc, &values)
 }
 
 // Writes the specialised netlist, and then the header line.

@@ -11,7 +11,7 @@ writes_of (Upset address) m = 0
 writes_of Scrub m = 0
 writes_of Image m = 0
 
--- the outputs behind a cycle as a binary number, the first output the lowest digit
+-- the outputs after a cycle as a binary number, the first output the lowest digit
 abbrev pub output_of : EventValue → MachineValue → ℕ
 output_of (Set assigns) m = 0
 output_of (Cycle values) m = number m.sim.outputs

@@ -39,7 +39,7 @@ module _ (Come : List EventValue → List (List ℕ) → Stage → Type 0) (fron
     pub place : LosesPlace mid.bank new
 
 module _ (m : MachineValue) (events : List EventValue) (old : BankSeen) (before after : Option (List ℕ)) (new : BankSeen) where
-  -- a fault of writing in the header: a prefix of it stands, and nothing was sent
+  -- a fault of writing in the header: only a prefix of it is put, and nothing was sent
   pub record IsCutInHeader : Type 0 where
     pub cut : IsCutInFront (machine_header m) before after
     pub bank : new ≡ old
@@ -51,7 +51,7 @@ module _ (m : MachineValue) (events : List EventValue) (old : BankSeen) (before 
     pub place : LosesPlace old new
     pub bytes : after ≡ extended before (machine_header m)
 
-  -- how a job ends behind its header and the full load of its ports, seen from its bank
+  -- how a job ends after its header and the full load of its ports, seen from its bank
   abbrev pub RunEnd : Result Unit StepErr → Type 0
   RunEnd (Ok done) = IsAllPlayed (HasCome m old) (machine_header m) events before after new
   RunEnd (Err WriteFault) = IsCutInHeader ⊎ IsCutPlaying (HasCome m old) (machine_header m) events before after new
@@ -64,7 +64,7 @@ pub record IsPlayEnd (counts : PortCounts) (m : MachineValue) (events : List Eve
   pub ports : new.ports ≡ all_ports bank
   pub cause : result ≡ Err WriteFault → Rose old.put_faults new.put_faults
 
--- the files hold a job, whose source circuit is sound and mapped with the least depth, its machine stands at the start, and this is so of its playing
+-- the files hold a job, whose source circuit is sound and mapped with the least depth, its machine is at the start, and this is so of its playing
 pub record HasRun (files : Files) (words : RunWords) (old new : Outside) (result : Result Unit StepErr) : Type 0 where
   pub job : Job
   pub is_job : IsJob files words job
@@ -74,7 +74,7 @@ pub record HasRun (files : Files) (words : RunWords) (old new : Outside) (result
   pub kept : new.files ≡ old.files
   pub ends : IsPlayEnd words.ports machine job.events old new result
 
--- The ports that serve and stand by were called, whatever was written, and spares took the places of those that failed: so the list is that of the bank behind these calls.
+-- The ports that serve and stand by were called, whatever was written, and spares took the places of those that failed: so the list is that of the bank after these calls.
 pub record HaveServed (counts : PortCounts) (old new : List PortSeen) : Type 0 where
   pub bank : BankSeen
   pub becomes : Becomes (bank_of counts old) bank

@@ -41,7 +41,7 @@ module _ (source : Source) (g : Aig) (template : TemplateValue) where
     pub states : new.states ≡ old.states
     pub sent : Plays to (differences from to) old.bank new.bank (Ok tt)
 
-  -- The clock ticks: the tables under the configuration specialised from scratch for the parameters' values that were set last are played, and no other values fit them; the outputs and the states are those of the source circuit's cycle under these values.
+  -- The clock ticks: the LUTs are played under the configuration specialised from scratch for the parameters' values that were set last, and no other values fit them; the outputs and the states are those of the source circuit's cycle under these values.
   pub record ShowsCycle (values : List Bool) (old : ShownSource) (line : List ℕ) (new : ShownSource) : Type 0 where
     pub outputs : List Bool
     pub config : List Bool
@@ -53,7 +53,7 @@ module _ (source : Source) (g : Aig) (template : TemplateValue) where
     pub params : new.params ≡ old.params
     pub bank : new.bank ≡ old.bank
 
-  -- no bit stands upset, so there is nothing to set right
+  -- no bit is upset, so there is nothing to correct
   pub record ShowsScrub (old : ShownSource) (line : List ℕ) (new : ShownSource) : Type 0 where
     pub line_is : line ≡ scrub_line []
     pub same : new ≡ old
@@ -81,13 +81,13 @@ module _ (source : Source) (g : Aig) (template : TemplateValue) where
     pub load : Plays config (writes_from 0 config) ports first.bank (Ok tt)
 
   -- the machine that a script shows of the source circuit, and some events one after the other, with their lines
-  abbrev pub shown_machine : MealyMachine EventValue ShownSource (List ℕ)
-  shown_machine = record { IsStart = λ first. (ports : BankSeen) × IsShownFirst ports first; HasCycle = Shows }
+  abbrev pub shown_run_machine : MealyMachine EventValue ShownSource (List ℕ)
+  shown_run_machine = record { IsStart = λ first. (ports : BankSeen) × IsShownFirst ports first; HasCycle = Shows }
 
   abbrev pub ShowAll : ShownSource → List EventValue → List (List ℕ) → ShownSource → Type 0
-  ShowAll = Passes shown_machine
+  ShowAll = Passes shown_run_machine
 
--- the lines of a script without upsets, and the ports behind it
+-- the lines of a script without upsets, and the ports after it
 pub record ShowsSource (source : Source) (g : Aig) (template : TemplateValue) (events : List EventValue) (lines : List (List ℕ)) (ports last : BankSeen) : Type 0 where
   pub first : ShownSource
   pub is_first : IsShownFirst source g template ports first
@@ -95,7 +95,7 @@ pub record ShowsSource (source : Source) (g : Aig) (template : TemplateValue) (e
   pub all : ShowAll source g template first events lines end
   pub bank : last ≡ end.bank
 
--- A job that is done shows its source circuit, by the chosen template of this netlist, list, K and rule, which is mapped with the least depth: the header has the template's numbers, the changes are of the configurations of its tables, and the cycles are their play.
+-- A job that is done shows its source circuit, by the chosen template of this netlist, list, K and rule, which is mapped with the least depth: the header has the template's numbers, the changes are of the configurations of its LUTs, and the cycles are their play.
 pub record HasHeadline (files : Files) (run : RunWords) (old new : Outside) : Type 0 where
   pub job : Job
   pub is_job : IsJob files run job

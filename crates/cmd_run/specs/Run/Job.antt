@@ -37,7 +37,7 @@ run_seen words = record { source = source_seen words.source; script = words.scri
 abbrev pub scripted_of : RunWords → ScriptedWords
 scripted_of words = record { source = words.source; script = words.script; forms = Run }
 
--- the size of the tables is from 2 to the most leaves of a cut, and there are so many ports
+-- the size of the LUTs is from 2 to the most leaves of a cut, and there are so many ports
 pub record IsInRange (ports : ℕ) (words : RunWordsRead) : Type 0 where
   pub least : 2 ≤ words.source.k
   pub most : words.source.k ≤ MOST_LEAVES

@@ -31,7 +31,7 @@ EventsEnd old events before after new (Ok done) = IsAllPlayed (AreSteps old) [] 
 EventsEnd old events before after new (Err WriteFault) = IsCutPlaying (AreSteps old) [] events before after new
 EventsEnd old events before after new (Err PortFault) = IsLostInEvent (AreSteps old) [] events before after new
 
--- how events end, and how all do behind their header and the full load, seen from a machine, its bank and the output
+-- how events end, and how all do after their header and the full load, seen from a machine, its bank and the output
 module _ (m : MachineValue) (events : List Event) (old new : BankSeen) (before after : SinkSeen) (result : Result Unit StepErr) where
   abbrev pub PlaysEvents : Type 0
   PlaysEvents = EventsEnd (record { machine = m; bank = old }) (event_values events) before.bytes after.bytes new result

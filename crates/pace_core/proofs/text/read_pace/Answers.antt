@@ -1,4 +1,4 @@
-use Rattle.pace_core.proofs.Common.{List, sym, subst, event_values, PaceValue, pace_values, ArePaced}
+use Rattle.pace_core.proofs.Common.{List, sym, subst, event_values, PaceValue, pace_values, AreAsksAndTicks}
 use Rattle.pace_core.proofs.PaceTextLemmas.{script_paced, events_fit}
 use Rattle.pace_core.proofs.text.read_pace.Goals as goal
 
@@ -8,11 +8,11 @@ returns-clause-events c =
     record {
       read = read;
       is = c.in_ok-read.ensures.events;
-      are = subst (λ (es : List PaceValue). ArePaced read es) (sym c.in_ok-events.ensures) (script_paced c.args.names.now c.args.text.now read c.requires.forms c.in_ok-read.ensures.events);
+      are = subst (λ (es : List PaceValue). AreAsksAndTicks read es) (sym c.in_ok-events.ensures) (script_paced c.args.names.now c.args.text.now read c.requires.forms c.in_ok-read.ensures.events);
     }
 
 pub returns-clause-fit : goal.returns-clause-fit
 returns-clause-fit c = λ width wide.
     let read = event_values c.in_ok-read.read.items in
     events_fit c.args.names.now width read (pace_values c.in_ok-events.events.items) wide
-    (subst (λ (es : List PaceValue). ArePaced read es) (sym c.in_ok-events.ensures) (script_paced c.args.names.now c.args.text.now read c.requires.forms c.in_ok-read.ensures.events)) c.in_ok-read.ensures.fit
+    (subst (λ (es : List PaceValue). AreAsksAndTicks read es) (sym c.in_ok-events.ensures) (script_paced c.args.names.now c.args.text.now read c.requires.forms c.in_ok-read.ensures.events)) c.in_ok-read.ensures.fit
