@@ -26,10 +26,10 @@ from tlutflow.faults import Fault
 from tlutflow.netlist import Library
 from tlutflow.netlist import read_library as read_netlist
 from tlutflow.pack import Pack, read_pack
+from tlutflow.preparing.trials import RULES, Found, keep
+from tlutflow.preparing.trials import prepare as try_preparations
 from tlutflow.refusals import refusal_of
-from tlutflow.statistics import Statistics, statistics
-from tlutflow.trials import RULES, Found, keep
-from tlutflow.trials import prepare as try_preparations
+from tlutflow.reports.statistics import Statistics, statistics
 from tlutflow.values import given_of
 
 __all__ = ["Fault", "Library", "Mapping", "Pack", "build", "prepare", "read_netlist", "read_pack"]

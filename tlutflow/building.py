@@ -24,16 +24,16 @@ from tlutflow.commands import prepare as prepare_words
 from tlutflow.commands import verilog
 from tlutflow.commands.hdl import way_of, way_words
 from tlutflow.commands.show import view_words
-from tlutflow.comparison import BY_PARTS, WHOLE
 from tlutflow.devices.steps import DeviceSteps
 from tlutflow.faults import Fault
 from tlutflow.mappings import Sizes, sizes_by_abc, sizes_by_tlut
 from tlutflow.netlist import read_library
 from tlutflow.parameters import parameter_list, read_parameters
 from tlutflow.port_file import END, file_name, find_ports, keep_ports
-from tlutflow.trials import AIMS, RULE_NAMES, RULES, Found, keep, prepare
+from tlutflow.preparing.comparison import BY_PARTS, WHOLE
+from tlutflow.preparing.trials import AIMS, RULE_NAMES, RULES, Found, keep, prepare
 from tlutflow.refusals import refusal_of
-from tlutflow.script_writer import bit_script
+from tlutflow.runs.script_writer import bit_script
 from tlutflow.steps import Steps
 from tlutflow.text import logical_lines, read_text, write_text
 

@@ -5,7 +5,7 @@ from __future__ import annotations
 from dataclasses import dataclass
 
 from tlutflow import tools
-from tlutflow.recipe import Step, quoted
+from tlutflow.verilog.recipe import Step, quoted
 
 # How many inputs a LUT of each device has at most. An ECP5 joins two or four of four inputs by its multiplexers.
 WIDEST = {"ice40": 4, "ecp5": 6, "xilinx": 6}

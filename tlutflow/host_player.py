@@ -6,7 +6,7 @@ from collections.abc import Iterator
 
 from tlutflow.faults import Fault
 from tlutflow.host import Host
-from tlutflow.script import Event, bits_text
+from tlutflow.runs.script import Event, bits_text
 
 
 def played(host: Host, events: list[Event]) -> Iterator[str]:

@@ -9,8 +9,8 @@ from tlutflow import tools
 from tlutflow.fault_line import parse_fault
 from tlutflow.faults import Fault
 from tlutflow.netlist import Cover, Library, read_library
-from tlutflow.output import parse_header
 from tlutflow.refusals import refusal
+from tlutflow.runs.output import parse_header
 
 # The files of a mapping whose sizes were taken: its template and its pack.
 MAPPED = ("template.blif", "bits.ppc")

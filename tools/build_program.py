@@ -133,7 +133,7 @@ def main() -> int:
     if not shutil.which("rt"):
         print(f"tlut: {lacking()}", file=sys.stderr)
         return 1
-    print(f"tlut: proving the program; on a new machine with four processors this takes 15 to 90 minutes (log: {path})", file=sys.stderr)
+    print(f"tlut: proving the program; on a new machine with four processors this takes 20 to 90 minutes (log: {path})", file=sys.stderr)
     print("tlut: for a look before that, ./tlut --unproved ..; after an interrupt, the next call continues where this one stopped", file=sys.stderr)
     for number in SIGNALS:
         signal.signal(number, interrupt)

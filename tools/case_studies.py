@@ -32,8 +32,8 @@ from tlutflow.faults import Fault
 from tlutflow.mappings import Sizes, sizes_by_abc, sizes_by_tlut
 from tlutflow.netlist import read_library
 from tlutflow.parameters import read_parameters
-from tlutflow.plots import RATES, plot, ticks_of
-from tlutflow.trials import Task, prepare
+from tlutflow.preparing.trials import Task, prepare
+from tlutflow.reports.plots import RATES, plot, ticks_of
 from tlutflow.text import read_text, write_text
 
 PAGE = f"{TOP}/docs/case-studies.md"

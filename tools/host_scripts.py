@@ -25,7 +25,7 @@ sys.path.insert(0, shared.TOP)
 from pack_bytes import Pack, encode
 from tlutflow.host import Host, PacedHost
 from tlutflow.host_player import played
-from tlutflow.script import Event, parse_script
+from tlutflow.runs.script import Event, parse_script
 
 COUNT = 5_000
 SEED = 20_000

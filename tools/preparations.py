@@ -24,14 +24,14 @@ TOP = os.path.dirname(os.path.dirname(os.path.abspath(__file__)))
 sys.path.insert(0, TOP)
 
 from tlutflow import tools
-from tlutflow.design import parameters_of, ports_of
-from tlutflow.design_json import read_design
 from tlutflow.faults import Fault
-from tlutflow.flat import read_flat
 from tlutflow.parameters import parameter_list
-from tlutflow.trials import Found, Result, Task, Trial, Workshop, prepare
-from tlutflow.recipe import PREPARATION, Sources, recipe, script_text
+from tlutflow.preparing.flat import read_flat
+from tlutflow.preparing.trials import Found, Result, Task, Trial, Workshop, prepare
 from tlutflow.text import write_text
+from tlutflow.verilog.design import parameters_of, ports_of
+from tlutflow.verilog.design_json import read_design
+from tlutflow.verilog.recipe import PREPARATION, Sources, recipe, script_text
 from trial_designs import DESIGNS
 
 QUICK = "yosys"

@@ -15,7 +15,7 @@ from typing import Any, Iterator
 TOP = os.path.dirname(os.path.dirname(os.path.abspath(__file__)))
 sys.path.insert(0, TOP)
 
-from tlutflow.plots import FONT, GRID, line, number, text
+from tlutflow.reports.plots import FONT, GRID, line, number, text
 
 PICTURE = "docs/pictures/times.svg"
 WIDTH, HEIGHT = 760, 380

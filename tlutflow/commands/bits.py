@@ -9,7 +9,7 @@ from tlutflow.faults import Fault
 from tlutflow.host import Host
 from tlutflow.host_library import library
 from tlutflow.host_player import played
-from tlutflow.script import read_script
+from tlutflow.runs.script import read_script
 from tlutflow.text import physical_lines
 
 HELP = "a script on a pack, played by tlut and by the library for host programs"

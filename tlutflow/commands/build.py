@@ -7,14 +7,14 @@ from dataclasses import dataclass
 
 from tlutflow.building import Build, Built
 from tlutflow.circuit import Circuit, read_circuit
-from tlutflow.circuit_view import with_names
 from tlutflow.commands.hdl import add_device_words
 from tlutflow.commands.prepare import add_shared_words, check_limits, settle
 from tlutflow.commands.show import add_view_words, view_words
 from tlutflow.commands.verilog import add_source_words
 from tlutflow.faults import Fault
 from tlutflow.netlist import read_library
-from tlutflow.report_page import page
+from tlutflow.reports.circuit_view import with_names
+from tlutflow.reports.report_page import page
 from tlutflow.text import count, write_text
 
 HELP = "from a design to all files and a report, in one command"

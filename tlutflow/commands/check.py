@@ -9,14 +9,14 @@ from tlutflow import tools
 from tlutflow.abc_form import abc_text, with_functions
 from tlutflow.faults import Fault
 from tlutflow.netlist import Library, read_library
-from tlutflow.output import parse_output
 from tlutflow.pack import read_pack
 from tlutflow.parameters import interface_of, read_parameters
 from tlutflow.patience import patience
-from tlutflow.script import read_script
-from tlutflow.source_player import SourcePlayer
+from tlutflow.runs.output import parse_output
+from tlutflow.runs.script import read_script
+from tlutflow.runs.source_player import SourcePlayer
+from tlutflow.runs.waveform import check_end, pairs
 from tlutflow.text import count, read_input, write_text
-from tlutflow.waveform import check_end, pairs
 
 HELP = "a written netlist or a run against its source"
 DESCRIPTION = """With WRITTEN: uses ABC to show that a netlist which tlut wrote is equal to its source circuit: `cec`, or `dsec` if there are latches.

@@ -15,7 +15,7 @@ from tlutflow.mappings import Sizes, sizes_by_abc, sizes_by_tlut
 from tlutflow.netlist import read_library
 from tlutflow.parameters import read_parameters
 from tlutflow.patience import patience
-from tlutflow.statistics import grid
+from tlutflow.reports.statistics import grid
 from tlutflow.text import count, write_text
 
 HELP = "LUTs, depth and bits at each K, compared with ABC"

@@ -15,8 +15,8 @@ from tlutflow.faults import Fault
 from tlutflow.netlist import read_library
 from tlutflow.patience import patience
 from tlutflow.port_file import file_name
-from tlutflow.recipe import script_text
 from tlutflow.text import write_text
+from tlutflow.verilog.recipe import script_text
 
 HELP = "a netlist of `tlut spec`, to a device's LUTs and flip-flops, by Yosys and nextpnr"
 DESCRIPTION = """Turns each LUT of a netlist that `tlut spec` wrote into one LUT of a device, and places and routes it if nextpnr is installed.

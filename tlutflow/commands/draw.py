@@ -8,8 +8,8 @@ import tempfile
 
 from tlutflow import tools
 from tlutflow.circuit import Circuit, read_circuit
-from tlutflow.drawing import drawing
 from tlutflow.faults import Fault
+from tlutflow.reports.drawing import drawing
 from tlutflow.text import write_text
 
 HELP = "a picture of a mapped circuit"

@@ -8,18 +8,18 @@ import sys
 import tempfile
 
 from tlutflow import tools
-from tlutflow.bench import bench_text, events_text
 from tlutflow.circuit import Circuit, read_circuit
 from tlutflow.devices.families import FAMILIES, told
 from tlutflow.faults import Fault
-from tlutflow.hdl import PORTS, TARGETS, Device, Way, device_of, module_text
-from tlutflow.output import Output, parse_output
 from tlutflow.patience import patience
-from tlutflow.script import read_script
-from tlutflow.store import KINDS
+from tlutflow.runs.output import Output, parse_output
+from tlutflow.runs.script import read_script
+from tlutflow.runs.waveform import check_end
 from tlutflow.text import count, physical_lines, read_input, write_text
-from tlutflow.verilog_names import Names, module_name, names_of
-from tlutflow.waveform import check_end
+from tlutflow.verilog.bench import bench_text, events_text
+from tlutflow.verilog.hdl import PORTS, TARGETS, Device, Way, device_of, module_text
+from tlutflow.verilog.names import Names, module_name, names_of
+from tlutflow.verilog.store import KINDS
 
 HELP = "a mapped circuit in Verilog, with a port that changes its configuration"
 DESCRIPTION = """Writes a mapped circuit as Verilog whose configuration can be changed while it runs. LUTs whose bits are all constants are plain

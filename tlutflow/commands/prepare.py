@@ -13,11 +13,11 @@ from tlutflow.commands.hdl import add_family_word
 from tlutflow.devices.families import FAMILIES, Family, costs_text, told
 from tlutflow.faults import Fault
 from tlutflow.parameters import read_parameters
-from tlutflow.parts import PART_SIZE
 from tlutflow.port_file import keep_ports
-from tlutflow.trials import AIMS, OLD_AIMS, RULE_NAMES, RULES, Found, Report, Result, Task, Trial, keep, prepare
 from tlutflow.preparations import PREPARATIONS, Preparation, chosen, further
-from tlutflow.statistics import grid
+from tlutflow.preparing.parts import PART_SIZE
+from tlutflow.preparing.trials import AIMS, OLD_AIMS, RULE_NAMES, RULES, Found, Report, Result, Task, Trial, keep, prepare
+from tlutflow.reports.statistics import grid
 from tlutflow.text import count
 
 HELP = "the preparation of a netlist that measures best"

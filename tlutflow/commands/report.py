@@ -7,8 +7,8 @@ import json
 
 from tlutflow.circuit import Circuit, Lut, read_circuit
 from tlutflow.faults import Fault
-from tlutflow.formula import Formulas
-from tlutflow.statistics import as_json, statistics, text_of
+from tlutflow.reports.formula import Formulas
+from tlutflow.reports.statistics import as_json, statistics, text_of
 
 HELP = "what a mapped circuit has: LUTs, bits, parameters, the critical path"
 DESCRIPTION = """Prints of a mapped circuit: its LUTs by leaves and by depth; how many bits, and how many LUTs by all their bits, read no parameter (they

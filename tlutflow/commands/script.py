@@ -5,7 +5,7 @@ from __future__ import annotations
 import argparse
 
 from tlutflow.parameters import read_interface
-from tlutflow.script_writer import script_lines
+from tlutflow.runs.script_writer import script_lines
 from tlutflow.text import read_input
 
 HELP = "a script from events with values of buses"

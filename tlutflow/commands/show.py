@@ -7,11 +7,11 @@ import sys
 
 from tlutflow.bus import Bus
 from tlutflow.faults import Fault
-from tlutflow.output import Played, parse_output
 from tlutflow.parameters import Interface, read_interface
-from tlutflow.script import read_script
+from tlutflow.runs.output import Played, parse_output
+from tlutflow.runs.script import read_script
+from tlutflow.runs.waveform import check_end, pairs
 from tlutflow.text import read_input
-from tlutflow.waveform import check_end, pairs
 
 HELP = "the lines of a run with buses as numbers"
 DESCRIPTION = """Reads what `tlut run` or `tlut pace` printed on stdin, and prints it with the outputs of each cycle line as numbers by their

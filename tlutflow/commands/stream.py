@@ -4,17 +4,17 @@ from __future__ import annotations
 
 import argparse
 
-from tlutflow.bench import operations_of
 from tlutflow.buses import assigned
 from tlutflow.circuit import Circuit, bare_circuit, read_circuit
 from tlutflow.commands.hdl import add_device_words, way_of
 from tlutflow.faults import Fault
-from tlutflow.hdl import Device, device_of
-from tlutflow.output import parse_output
 from tlutflow.pack import read_pack
-from tlutflow.tables import Operation
+from tlutflow.runs.output import parse_output
 from tlutflow.text import read_input
-from tlutflow.verilog_names import names_of
+from tlutflow.verilog.bench import operations_of
+from tlutflow.verilog.hdl import Device, device_of
+from tlutflow.verilog.names import names_of
+from tlutflow.verilog.tables import Operation
 
 HELP = "the data to send to the configuration port of `flow hdl` for new values"
 DESCRIPTION = """Prints the data to send to the configuration port of the circuit that `flow hdl` wrote. Give it the options that `flow hdl` was given.

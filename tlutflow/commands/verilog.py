@@ -16,22 +16,22 @@ from tlutflow import tools
 from tlutflow.buses import buses_of
 from tlutflow.commands.hdl import add_family_word
 from tlutflow.commands.prepare import add_shared_words, check_limits, progress, settle, sizes, task_of
-from tlutflow.design import ATTRIBUTE, gates_about, obstacle, parameters_of, ports_of
-from tlutflow.design_checks import late_resets, refuse_high_impedance, refuse_ports, refuse_registers, register_buses, register_names, undriven
-from tlutflow.design_json import Design, read_design
 from tlutflow.faults import Fault
-from tlutflow.graphs import Bench
-from tlutflow.loops import refuse_loop
 from tlutflow.netlist import Library, read_library
 from tlutflow.parameters import data_inputs, parameter_list
-from tlutflow.part_trials import prepare_by_parts
-from tlutflow.parts import PART_SIZE
 from tlutflow.patience import patience
 from tlutflow.port_file import END, Ports, file_name, json_of_bus
 from tlutflow.preparations import Preparation
-from tlutflow.trials import RULE_NAMES, Found, keep, prepare
-from tlutflow.recipe import PREPARATION, READERS, Sources, Step, look, recipe, script_text
+from tlutflow.preparing.graphs import Bench
+from tlutflow.preparing.part_trials import prepare_by_parts
+from tlutflow.preparing.parts import PART_SIZE
+from tlutflow.preparing.trials import RULE_NAMES, Found, keep, prepare
 from tlutflow.text import count, write_text
+from tlutflow.verilog.design import ATTRIBUTE, gates_about, obstacle, parameters_of, ports_of
+from tlutflow.verilog.design_checks import late_resets, refuse_high_impedance, refuse_ports, refuse_registers, register_buses, register_names, undriven
+from tlutflow.verilog.design_json import Design, read_design
+from tlutflow.verilog.loops import refuse_loop
+from tlutflow.verilog.recipe import PREPARATION, READERS, Sources, Step, look, recipe, script_text
 
 HELP = "a netlist and its parameter list from a design in Verilog"
 DESCRIPTION = f"""Creates FOLDER/TOP.blif, FOLDER/TOP.par and FOLDER/TOP.ports.json from a design in Verilog (files .sv are read as SystemVerilog), by Yosys.

@@ -5,11 +5,11 @@ from __future__ import annotations
 import argparse
 import sys
 
-from tlutflow.output import parse_output
 from tlutflow.parameters import read_interface
-from tlutflow.script import read_script
+from tlutflow.runs.output import parse_output
+from tlutflow.runs.script import read_script
+from tlutflow.runs.waveform import check_end, dump_of
 from tlutflow.text import read_input
-from tlutflow.waveform import check_end, dump_of
 
 HELP = "a waveform of a run, for GTKWave"
 DESCRIPTION = """Reads what `tlut run` or `tlut pace` printed for SCRIPT on stdin, and prints a value change dump (VCD): the inputs, the parameters,

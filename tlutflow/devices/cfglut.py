@@ -15,10 +15,10 @@ from typing import Iterable
 from tlutflow.circuit import Circuit, Lut
 from tlutflow.devices.primitives import CHOICE, MODELS, lut6, lut6_2, pins
 from tlutflow.devices.rings import HALF, Layout, Unit, half_addresses, places_over, together
-from tlutflow.store import Store, check_writes
-from tlutflow.tables import Operation, chosen, vector
 from tlutflow.text import count
-from tlutflow.verilog_names import Names
+from tlutflow.verilog.names import Names
+from tlutflow.verilog.store import Store, check_writes
+from tlutflow.verilog.tables import Operation, chosen, vector
 
 ZERO = "1'b0"
 

@@ -10,17 +10,17 @@ from typing import Any, Optional
 
 from tlutflow import tools
 from tlutflow.bus import Bus
-from tlutflow.devices.cells import Cells
 from tlutflow.circuit import read_circuit
+from tlutflow.devices.cells import Cells
 from tlutflow.devices.families import Family
+from tlutflow.devices.registers import mapped, with_registers
 from tlutflow.mappings import MAPPED, sizes_by_tlut
 from tlutflow.netlist import read_library
 from tlutflow.parameters import data_inputs, read_parameters
 from tlutflow.port_file import read_ports_file
-from tlutflow.recipe import Sources, Step, quoted, reading
-from tlutflow.devices.registers import mapped, with_registers
+from tlutflow.preparing.trials import RULES
 from tlutflow.text import count, read_text, write_text
-from tlutflow.trials import RULES
+from tlutflow.verilog.recipe import Sources, Step, quoted, reading
 
 # How Yosys reads a source, its module, and its ports with their directions.
 Source = tuple[list[Step], str, dict[str, tuple[str, Bus]]]

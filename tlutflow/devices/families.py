@@ -6,8 +6,8 @@ from dataclasses import dataclass
 
 from tlutflow.circuit import Circuit
 from tlutflow.devices.rings import Layout
-from tlutflow.store import store_of
 from tlutflow.text import count
+from tlutflow.verilog.store import store_of
 
 
 @dataclass(frozen=True)

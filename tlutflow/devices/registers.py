@@ -7,9 +7,9 @@ from tlutflow.bus import Bus
 from tlutflow.devices.cells import Cells, counted, read_cells
 from tlutflow.devices.families import Family
 from tlutflow.faults import Fault
-from tlutflow.recipe import Step, quoted, script_text
 from tlutflow.text import write_text
-from tlutflow.verilog_names import free_name, identifier
+from tlutflow.verilog.names import free_name, identifier
+from tlutflow.verilog.recipe import Step, quoted, script_text
 
 HELD = "held_in_registers"
 

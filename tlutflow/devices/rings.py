@@ -13,7 +13,7 @@ from typing import Iterable, Optional
 
 from tlutflow.circuit import Circuit, Lut
 from tlutflow.devices.sites import FIXED_PAIR, REWRITABLE_PAIR, Node, pairs_of
-from tlutflow.store import Store
+from tlutflow.verilog.store import Store
 
 HALF = 32
 # How many CFGLUT5 a slice has; they share one clock and one enable.

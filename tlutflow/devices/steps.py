@@ -7,15 +7,15 @@ import os
 from typing import Any, Callable, Optional
 
 from tlutflow import tools
-from tlutflow.devices.cells import Cells
 from tlutflow.commands.hdl import way_of, way_words
 from tlutflow.commands.verilog import sources_of
+from tlutflow.devices.cells import Cells
 from tlutflow.devices.count import best_of, compared_text, count_of_circuit, count_of_registers, counts, is_measurable, source_of_netlist, source_of_verilog
 from tlutflow.devices.families import FAMILIES, costs_text, told
 from tlutflow.faults import Fault
 from tlutflow.parameters import read_parameters
+from tlutflow.preparing.trials import RULE_NAMES
 from tlutflow.steps import Steps
-from tlutflow.trials import RULE_NAMES
 
 # Runs another subcommand with a text on its standard input, within some seconds: its status and its outputs.
 Flow = Callable[[list[str], str, Optional[float]], tuple[int, str, str]]

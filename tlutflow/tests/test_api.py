@@ -1,6 +1,7 @@
 """The interface for other programs, and the completion in a shell."""
 
 import contextlib
+import glob
 import importlib.util
 import io
 import os
@@ -114,6 +115,13 @@ class Interface(InFolder):
             ran = subprocess.run([*words, "report", f"{DATA}/fir_t.blif", f"{DATA}/fir.ppc"], capture_output=True, text=True, cwd=made, env=environment, check=False)
             self.assertIn("64 LUTs at depth 5", ran.stdout, ran.stderr)
         self.assertEqual({"report.css", "report.js"}, set(os.listdir(f"{made}/tlutflow/page")))
+
+    def test_packages_are_listed(self):
+        """pip installs the packages that pyproject.toml lists: all but the tests."""
+        there = {os.path.relpath(os.path.dirname(path), TOP).replace("/", ".") for path in glob.glob(f"{TOP}/tlutflow/**/__init__.py", recursive=True)}
+        with open(f"{TOP}/pyproject.toml", encoding="utf-8") as file:
+            listed = re.findall(r'"([\w.]+)"', re.search(r"^packages = \[(.*\..*)\]$", file.read(), re.MULTILINE)[1])
+        self.assertEqual(listed, sorted(there - {"tlutflow.tests"}))
 
 
 class Completion(unittest.TestCase):

@@ -10,9 +10,9 @@ import unittest
 from html.parser import HTMLParser
 
 from tlutflow.building import DRAWN
-from tlutflow.circuit_view import Groups, view_of, with_names
 from tlutflow.faults import Fault
 from tlutflow.netlist import parse_library
+from tlutflow.reports.circuit_view import Groups, view_of, with_names
 from tlutflow.steps import Steps
 from tlutflow.tests.helpers import EXAMPLES, MUX, TOP, InFolder, example, flow, mapped, mux, needs
 from tlutflow.tools import ABC, BUILT, ICARUS, ICARUS_PLAYER, YOSYS, run

@@ -6,14 +6,14 @@ import os
 import unittest
 
 from tlutflow.circuit import circuit_of
-from tlutflow.drawing import drawing
 from tlutflow.faults import Fault
 from tlutflow.netlist import parse_library
-from tlutflow.output import parse_output
 from tlutflow.pack import parse_pack
 from tlutflow.parameters import read_interface
-from tlutflow.script import bits_text, read_script
-from tlutflow.statistics import statistics
+from tlutflow.reports.drawing import drawing
+from tlutflow.reports.statistics import statistics
+from tlutflow.runs.output import parse_output
+from tlutflow.runs.script import bits_text, read_script
 from tlutflow.tests.helpers import DATA, EXAMPLES, MUX_PACK, MUX_TEMPLATE, InFolder, cycle_of, example, flow, mapped, mux, needs
 from tlutflow.tools import DOT
 

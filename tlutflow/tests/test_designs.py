@@ -7,8 +7,8 @@ from tlutflow import tools
 from tlutflow.bus import Bus
 from tlutflow.changes import Random
 from tlutflow.netlist import read_library
-from tlutflow.output import parse_output
 from tlutflow.port_file import read_ports_file
+from tlutflow.runs.output import parse_output
 from tlutflow.tests.helpers import TOP, InFolder, flow, needs
 from tlutflow.tests.test_build import NEEDS_TLUT
 from tlutflow.text import read_text

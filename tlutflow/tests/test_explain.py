@@ -4,12 +4,12 @@ import re
 import unittest
 
 from tlutflow.explanations import BY_CODE, BY_WORD
-from tlutflow.loops import loop_of
 from tlutflow.netlist import parse_library
 from tlutflow.refusals import refusal
 from tlutflow.tests.helpers import EXAMPLES, MUX, TOP, InFolder, flow, needs
 from tlutflow.tests.test_build import NEEDS_TLUT
 from tlutflow.tools import ABC
+from tlutflow.verilog.loops import loop_of
 
 
 class Explanations(InFolder):

@@ -3,13 +3,13 @@
 import unittest
 
 from tlutflow.circuit import circuit_of
-from tlutflow.hdl import PORTS, TARGETS, Way, device_of, module_text
 from tlutflow.netlist import parse_library
 from tlutflow.pack import parse_pack
 from tlutflow.tests.helpers import DATA, EXAMPLES, MUX_PACK, MUX_TEMPLATE, InFolder, cycle_of, example, flow, mapped, mux, needs, yosys_share
-from tlutflow.tables import binary
 from tlutflow.tools import ICARUS, ICARUS_PLAYER, VERILATOR, YOSYS, find, run
-from tlutflow.verilog_names import names_of
+from tlutflow.verilog.hdl import PORTS, TARGETS, Way, device_of, module_text
+from tlutflow.verilog.names import names_of
+from tlutflow.verilog.tables import binary
 
 # The examples whose templates are in data/, with a script each and what `run` prints for it.
 RUNS = (("fir", "ten", "expected"), ("fir", "changing", "expected_changing"), ("matcher", "patterns", "expected"), ("coder", "keys", "expected"))

@@ -12,7 +12,7 @@ from tlutflow.host import Host, PacedHost
 from tlutflow.host_calls import FUNCTIONS, LIBRARY
 from tlutflow.host_player import played
 from tlutflow.pack import Pack, read_pack
-from tlutflow.script import parse_script
+from tlutflow.runs.script import parse_script
 from tlutflow.tests.helpers import DATA, MUX_PACK, MUX_PACK_1, TOP
 
 # `coder_version1` is `coder` in version 1 of the format, the others are in version 2.

@@ -5,11 +5,11 @@ import re
 import unittest
 
 from tlutflow.faults import Fault
-from tlutflow.formula import Formulas
-from tlutflow.output import parse_output
 from tlutflow.pack import Pack, parse_pack
 from tlutflow.parameters import read_interface
-from tlutflow.script import read_script
+from tlutflow.reports.formula import Formulas
+from tlutflow.runs.output import parse_output
+from tlutflow.runs.script import read_script
 from tlutflow.tests.helpers import DATA, EXAMPLES, MUX_PACK, MUX_PACK_1, example
 
 AND_1 = bytes.fromhex("54505043 0001 0002 0001 70 00 0001 71 00 00000001 00000002 00000004 00000001 00000006")

@@ -8,22 +8,22 @@ from dataclasses import replace
 from functools import partial
 from unittest import mock
 
-from tlutflow.combinational import compared_texts, logic_of, next_states
-from tlutflow.comparison import BY_PARTS, WHOLE
-from tlutflow.design import gates_about
-from tlutflow.design_json import read_design
 from tlutflow.faults import Undecided
-from tlutflow.flat import read_flat
-from tlutflow.graphs import Bench
 from tlutflow.netlist import Model, parse_library
-from tlutflow.part_trials import prepare_by_parts
-from tlutflow.parts import PART_SIZE, Divided, divided, put_together, size_of
 from tlutflow.preparations import PREPARATIONS, chosen, further
-from tlutflow.recipe import Sources, look, script_text
+from tlutflow.preparing.combinational import compared_texts, logic_of, next_states
+from tlutflow.preparing.comparison import BY_PARTS, WHOLE
+from tlutflow.preparing.flat import read_flat
+from tlutflow.preparing.graphs import Bench
+from tlutflow.preparing.part_trials import prepare_by_parts
+from tlutflow.preparing.parts import PART_SIZE, Divided, divided, put_together, size_of
+from tlutflow.preparing.trials import Task, prepare
 from tlutflow.tests.helpers import InFolder, example, flow, needs
 from tlutflow.text import read_text, write_text
 from tlutflow.tools import ABC, YOSYS, find, run
-from tlutflow.trials import Task, prepare
+from tlutflow.verilog.design import gates_about
+from tlutflow.verilog.design_json import read_design
+from tlutflow.verilog.recipe import Sources, look, script_text
 
 # Two clusters: y and z share m; w and the next state of s have gates of their own. f has parameters alone below it, one is a constant.
 SHARED = """.model top
@@ -184,7 +184,7 @@ class LeftOut(InFolder):
         task = replace(task, program=self.sizes(), jobs=1, rules=("tlut",))
         for compared in (WHOLE, BY_PARTS):
             late = Undecided("late") if compared == BY_PARTS else None
-            with mock.patch("tlutflow.comparison.compared_texts", side_effect=late or compared_texts):
+            with mock.patch("tlutflow.preparing.comparison.compared_texts", side_effect=late or compared_texts):
                 found = prepare(task, f"{self.folder}/{len(compared)}")
             self.assertEqual([(it.name, it.failure, it.compared) for it in found.trials], [("as read", "", WHOLE), ("dc2", "", compared), ("gstay", "", compared)])
             for trial in found.trials:

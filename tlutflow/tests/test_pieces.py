@@ -4,9 +4,9 @@ import unittest
 from typing import Any
 
 from tlutflow.faults import Fault
-from tlutflow.graphs import Bench, Graph, levels_of
-from tlutflow.pieces import Job, Jobs, Piece
 from tlutflow.preparations import MOST_ROUNDS, PREPARATIONS, Preparation, chosen
+from tlutflow.preparing.graphs import Bench, Graph, levels_of
+from tlutflow.preparing.pieces import Job, Jobs, Piece
 from tlutflow.tests.helpers import InFolder
 
 

@@ -7,12 +7,12 @@ import tempfile
 import unittest
 from dataclasses import replace
 
-from tlutflow.combinational import compared_texts, interface_difference, logic_of, netlist_text
 from tlutflow.faults import Fault
-from tlutflow.flat import flat_model
 from tlutflow.netlist import parse_library, read_library
-from tlutflow.trials import AIMS, Result, Task, prepare
 from tlutflow.preparations import PREPARATIONS, Preparation, chosen, further
+from tlutflow.preparing.combinational import compared_texts, interface_difference, logic_of, netlist_text
+from tlutflow.preparing.flat import flat_model
+from tlutflow.preparing.trials import AIMS, Result, Task, prepare
 from tlutflow.tests.helpers import EXAMPLES, MUX, TOP, InFolder, flow, needs
 from tlutflow.text import read_text
 from tlutflow.tools import ABC, BUILT, YOSYS

@@ -5,9 +5,9 @@ import unittest
 from tlutflow.fault_line import FaultLine, parse_fault
 from tlutflow.faults import Fault
 from tlutflow.netlist import FlatLatch, parse_library
-from tlutflow.output import parse_output
 from tlutflow.parameters import State, interface_of, parse_parameters
-from tlutflow.script import parse_script
+from tlutflow.runs.output import parse_output
+from tlutflow.runs.script import parse_script
 from tlutflow.tests.helpers import EXAMPLES, MUX, example
 from tlutflow.text import logical_lines
 
@@ -118,7 +118,7 @@ class Texts(unittest.TestCase):
 class AllExamples(unittest.TestCase):
     def test_scripts_and_lists_are_read(self):
         from tlutflow.parameters import read_interface
-        from tlutflow.script import read_script
+        from tlutflow.runs.script import read_script
 
         for netlist, params, script in (("fir", "fir", "changing"), ("matcher", "matcher", "patterns"), ("coder", "coder", "keys"), ("guard", "none", "four")):
             interface = read_interface(f"{EXAMPLES}/{netlist}/{netlist}.blif", f"{EXAMPLES}/{netlist}/{params}.par")

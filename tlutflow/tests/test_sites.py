@@ -6,15 +6,15 @@ import unittest
 from tlutflow.bus import Bus
 from tlutflow.devices.cells import counted, read_cells
 from tlutflow.devices.families import FAMILIES, XILINX
-from tlutflow.hdl import Way, device_of, module_text
 from tlutflow.devices.registers import HELD, held_text
 from tlutflow.devices.rings import Layout
 from tlutflow.devices.sites import FIXED_PAIR, REWRITABLE_PAIR, Node, pairs_of
-from tlutflow.store import store_of
 from tlutflow.tests.helpers import DATA, MUX, InFolder, flow, mapped, mux, needs
 from tlutflow.tests.test_build import NEEDS_TLUT
 from tlutflow.tools import ABC, ICARUS, ICARUS_PLAYER, YOSYS, find, run
-from tlutflow.verilog_names import names_of
+from tlutflow.verilog.hdl import Way, device_of, module_text
+from tlutflow.verilog.names import names_of
+from tlutflow.verilog.store import store_of
 
 EXAMPLES = ("fir", "matcher", "coder")
 # Two multiplexers of the same inputs and choice, each with the inputs of the other in the other order.

@@ -4,7 +4,7 @@ import unittest
 
 from tlutflow.aiger import parse_aiger
 from tlutflow.netlist import parse_library
-from tlutflow.source_player import SourcePlayer
+from tlutflow.runs.source_player import SourcePlayer
 from tlutflow.tests.helpers import EXAMPLES, MUX, InFolder, example, flow, needs
 from tlutflow.tools import ABC
 

@@ -3,9 +3,9 @@
 import unittest
 
 from tlutflow.pack import read_pack
-from tlutflow.store import store_of
 from tlutflow.tests.helpers import DATA, InFolder, flow, needs
 from tlutflow.tools import ICARUS, ICARUS_PLAYER, find, run
+from tlutflow.verilog.store import store_of
 
 FIR = f"{DATA}/fir.ppc"
 # Loads the chain of `coder_mapped` by a stream, and shows the cells.

@@ -5,7 +5,7 @@ import unittest
 from tlutflow.bus import parse_number
 from tlutflow.buses import buses_of
 from tlutflow.parameters import read_interface
-from tlutflow.script_writer import has_names
+from tlutflow.runs.script_writer import has_names
 from tlutflow.tests.helpers import EXAMPLES, MUX, InFolder, example, flow
 
 FIR = f"{EXAMPLES}/fir/fir.blif", f"{EXAMPLES}/fir/fir.par"

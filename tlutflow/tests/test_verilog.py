@@ -4,12 +4,12 @@ import json
 import os
 import unittest
 
-from tlutflow.design import Port, attribute_value, obstacle, parameters_of
-from tlutflow.design_json import bus_of
 from tlutflow.faults import Fault
 from tlutflow.netlist import parse_library
 from tlutflow.tests.helpers import EXAMPLES, InFolder, example, flow, needs
 from tlutflow.tools import YOSYS
+from tlutflow.verilog.design import Port, attribute_value, obstacle, parameters_of
+from tlutflow.verilog.design_json import bus_of
 
 MARKED = """module top (input clk, rst, (* tlut_param = 4'h9 *) input [4:1] k, input [3:0] x, output reg [3:0] y);
     reg [3:0] kept;

@@ -3,8 +3,8 @@
 import re
 import unittest
 
+from tlutflow.runs.waveform import code_of
 from tlutflow.tests.helpers import EXAMPLES, InFolder, example, flow
-from tlutflow.waveform import code_of
 
 FIR = f"{EXAMPLES}/fir/fir.blif", f"{EXAMPLES}/fir/fir.par"
 

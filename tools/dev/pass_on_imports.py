@@ -19,11 +19,12 @@ import sys
 from dataclasses import dataclass, field
 from typing import Callable, Iterator, NamedTuple
 
+import toolchain
+
 USE = re.compile(r"^(pub )?use (Rattle\.[\w.+\-]+?)\.\{(.*)\}$")
 ANY_USE = re.compile(r"^\s*(?:pub )?use (Rattle\.[\w.+\-]+)")
 MOD = re.compile(r"^(pub )?mod ")
 PUBLIC = re.compile(r"^(?:abbrev |unfoldable )?pub (?:data |record )?(\S+)")
-STANDARD = "/opt/rattle/rattle/std"
 NO_LEMMAS = {"Answers", "Invariants", "Given", "Goals", "Proof"}
 NO_WORDS = {"text_key"}  # crates whose definitions keep their own imports
 LEAST_GAIN = 2
@@ -90,10 +91,10 @@ def unfolded(lines: list[str]) -> set[str]:
     return {name for line in lines if line.lstrip().startswith("unfolding ") for name in re.split(r"[,\s]+", line.strip())[1:]}
 
 
-def unfoldable_names() -> set[str]:
+def unfoldable_names(standard: str) -> set[str]:
     """The unfoldable definitions of std and of this checkout: a proof imports them from their own file."""
     found: set[str] = set()
-    for root in (STANDARD, "."):
+    for root in (standard, "."):
         grep = ["grep", "-rhoE", r"^ *unfoldable (pub )?\S+", root, "--include=*.antt"]
         lines = subprocess.run(grep, capture_output=True, text=True).stdout.split("\n")
         found |= {line.split()[-1] for line in lines if line.strip()}
@@ -101,13 +102,13 @@ def unfoldable_names() -> set[str]:
 
 
 class Texts:
-    """All definitions and proofs, as they will be written."""
+    """All definitions and proofs, as they will be written. The folder is that of std."""
 
-    def __init__(self) -> None:
+    def __init__(self, standard: str) -> None:
         paths = glob.glob("*/specs/**/*.antt", recursive=True) + glob.glob("*/proofs/**/*.antt", recursive=True)
         self.files = {path: read(path) for path in paths}
         self.modules = {module_of(path): path for path in paths}
-        self.unfoldable = unfoldable_names()
+        self.unfoldable = unfoldable_names(standard)
 
     def total(self) -> int:
         """The number of lines."""
@@ -295,9 +296,11 @@ def main() -> int:
     parser = argparse.ArgumentParser(description=__doc__.splitlines()[0])
     parser.add_argument("checkout")
     parser.add_argument("crates", nargs="*", metavar="crate", help="all crates if none is named")
+    toolchain.add_word(parser)
     given = parser.parse_args()
+    standard = f"{toolchain.folder_of(parser, given.rt)}/rattle/std"
     os.chdir(f"{given.checkout}/crates")
-    texts = Texts()
+    texts = Texts(standard)
     print("unfoldable", len(texts.unfoldable), sorted(texts.unfoldable)[:30])
     before, gains = texts.total(), collections.Counter[str]()
     for crate in sorted({path.split("/")[0] for path in texts.files}):

@@ -12,10 +12,10 @@ import shutil
 import sys
 from types import ModuleType
 
-TOOL = "/opt/rattle/bin/rt"
+import toolchain
 
 
-def toolchain(path: str) -> ModuleType:
+def loaded(path: str) -> ModuleType:
     """The module of `rt`, which knows crates, stamps and what is built."""
     loader = importlib.machinery.SourceFileLoader("rt_tool", path)
     spec = importlib.util.spec_from_loader("rt_tool", loader)
@@ -31,10 +31,11 @@ def main() -> int:
     parser = argparse.ArgumentParser(description=__doc__.splitlines()[0])
     parser.add_argument("source", help="the checkout that has built libraries")
     parser.add_argument("target", nargs="?", default=".", help="the checkout that takes them")
-    parser.add_argument("--rt", default=shutil.which("rt") or TOOL, help="the toolchain's command")
+    toolchain.add_word(parser)
     given = parser.parse_args()
-    sys.path.insert(0, os.path.dirname(os.path.realpath(given.rt)))
-    rtlib = toolchain(TOOL if not given.rt.endswith(".py") and os.path.isfile(TOOL) else given.rt).rtlib
+    commands = f"{toolchain.folder_of(parser, given.rt)}/bin"
+    sys.path.insert(0, commands)
+    rtlib = loaded(f"{commands}/rt").rtlib
     built = {crate.name: crate for crate in rtlib.crates_below(os.path.abspath(given.source))}
     for crate in rtlib.crates_below(os.path.abspath(given.target)):
         other = built.get(crate.name)

@@ -18,8 +18,8 @@ from tlutflow.devices.count import source_of_verilog
 from tlutflow.devices.families import FAMILIES
 from tlutflow.devices.registers import HELD, mapped, with_registers
 from tlutflow.parameters import read_parameters
-from tlutflow.recipe import Sources
 from tlutflow.text import write_text
+from tlutflow.verilog.recipe import Sources
 
 DESIGNS = ("rules", "branches", "pulses")
 PART = ("--hx8k", "--package", "ct256", "--pcf-allow-unconstrained")

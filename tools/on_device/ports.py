@@ -12,9 +12,9 @@ from tlutflow.devices.count import source_of_verilog
 from tlutflow.devices.families import FAMILIES, Family
 from tlutflow.devices.registers import mapped, with_registers
 from tlutflow.parameters import read_parameters
-from tlutflow.recipe import Sources
-from tlutflow.store import store_of
 from tlutflow.text import write_text
+from tlutflow.verilog.recipe import Sources
+from tlutflow.verilog.store import store_of
 
 # The source of each design, and the initial values of its parameters that the source doesn't have.
 DESIGNS: dict[str, tuple[str, dict[str, int]]] = {

@@ -20,9 +20,9 @@ from tlutflow.devices.sites import FIXED_PAIR, Node, pairs_of
 from tlutflow.mappings import MAPPED, is_table, sizes_by_tlut, sizes_of
 from tlutflow.netlist import read_library
 from tlutflow.parameters import read_parameters
-from tlutflow.recipe import Sources
+from tlutflow.preparing.trials import RULES
 from tlutflow.text import read_text, write_text
-from tlutflow.trials import RULES
+from tlutflow.verilog.recipe import Sources
 
 DESIGNS = ("kernel", "rules", "branches", "lanes", "pulses", "rounds")
 # Icarus takes minutes for each K of this one, so it is played only as it is built.

@@ -15,7 +15,7 @@ from tlutflow.fault_line import parse_fault
 from tlutflow.faults import Fault
 from tlutflow.mappings import sizes_of
 from tlutflow.netlist import read_library
-from tlutflow.output import parse_header
+from tlutflow.runs.output import parse_header
 from tlutflow.text import read_text, write_text
 
 # A netlist that takes longer than this is run twice only.

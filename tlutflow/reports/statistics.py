@@ -9,7 +9,7 @@ from typing import Any, Iterable
 
 from tlutflow.bus import Bus
 from tlutflow.circuit import Circuit, Lut
-from tlutflow.formula import Formulas
+from tlutflow.reports.formula import Formulas
 from tlutflow.text import count
 
 KINDS = ("constant", "one parameter", "several parameters")

@@ -8,9 +8,9 @@ words of several bits, whose flip-flops have one enable.
 from __future__ import annotations
 
 from tlutflow.circuit import Circuit, Lut
-from tlutflow.store import Store, check_writes, regions_of
-from tlutflow.tables import Operation, binary, selected, vector
-from tlutflow.verilog_names import Names
+from tlutflow.verilog.names import Names
+from tlutflow.verilog.store import Store, check_writes, regions_of
+from tlutflow.verilog.tables import Operation, binary, selected, vector
 
 
 class FlipFlops:

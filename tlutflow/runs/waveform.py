@@ -12,10 +12,10 @@ from typing import Iterator, Optional
 from tlutflow.bus import Bus
 from tlutflow.buses import buses_of
 from tlutflow.faults import Fault
-from tlutflow.output import Output, Played
 from tlutflow.parameters import Interface
 from tlutflow.port_file import Ports
-from tlutflow.script import Event, is_line_of
+from tlutflow.runs.output import Output, Played
+from tlutflow.runs.script import Event, is_line_of
 
 SLOT = 10
 # The characters of a variable's short name.

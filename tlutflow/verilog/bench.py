@@ -10,15 +10,15 @@ from __future__ import annotations
 from string import Template
 from typing import Iterable
 
-from tlutflow.devices.cfglut import CfglutRandom
 from tlutflow.circuit import Circuit
-from tlutflow.flip_flops import Chain, Random
-from tlutflow.hdl import Device
-from tlutflow.output import Output, Played
-from tlutflow.script import Event
-from tlutflow.tables import Operation
-from tlutflow.verilog_names import Names, Port, identifier
-from tlutflow.waveform import pairs
+from tlutflow.devices.cfglut import CfglutRandom
+from tlutflow.runs.output import Output, Played
+from tlutflow.runs.script import Event
+from tlutflow.runs.waveform import pairs
+from tlutflow.verilog.flip_flops import Chain, Random
+from tlutflow.verilog.hdl import Device
+from tlutflow.verilog.names import Names, Port, identifier
+from tlutflow.verilog.tables import Operation
 
 BENCH = Template(
     """// Plays the file of events that +events=FILE names, or ${module}.events, on $module, and prints the lines of the run. It uses the

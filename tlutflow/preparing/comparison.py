@@ -5,9 +5,9 @@ from __future__ import annotations
 from dataclasses import dataclass
 
 from tlutflow import tools
-from tlutflow.combinational import compared_texts
 from tlutflow.faults import Fault, Undecided
 from tlutflow.netlist import Model
+from tlutflow.preparing.combinational import compared_texts
 from tlutflow.text import write_text
 
 WHOLE = "ABC cec"

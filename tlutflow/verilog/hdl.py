@@ -8,12 +8,12 @@ from __future__ import annotations
 from dataclasses import dataclass
 from typing import Union
 
-from tlutflow.devices.cfglut import CfglutChain, CfglutRandom
 from tlutflow.circuit import Circuit
+from tlutflow.devices.cfglut import CfglutChain, CfglutRandom
 from tlutflow.faults import Fault
-from tlutflow.flip_flops import Chain, Random, Words
-from tlutflow.store import store_of
-from tlutflow.verilog_names import Names
+from tlutflow.verilog.flip_flops import Chain, Random, Words
+from tlutflow.verilog.names import Names
+from tlutflow.verilog.store import store_of
 
 TARGETS = ("generic", "xilinx")
 PORTS = ("chain", "random")

@@ -11,11 +11,11 @@ from tlutflow.building import Built
 from tlutflow.buses import buses_of
 from tlutflow.changes import EXHAUSTIVE, spread
 from tlutflow.circuit import Circuit
-from tlutflow.circuit_view import view_of
 from tlutflow.devices.count import COLUMNS as DEVICE_COLUMNS
-from tlutflow.plots import RATES, plot, ticks_of
-from tlutflow.trials import RULE_NAMES
-from tlutflow.statistics import KINDS, Statistics, kind, statistics
+from tlutflow.preparing.trials import RULE_NAMES
+from tlutflow.reports.circuit_view import view_of
+from tlutflow.reports.plots import RATES, plot, ticks_of
+from tlutflow.reports.statistics import KINDS, Statistics, kind, statistics
 from tlutflow.text import count
 
 SECTIONS = [

@@ -12,8 +12,8 @@ from dataclasses import dataclass
 
 from tlutflow import tools
 from tlutflow.faults import Fault
-from tlutflow.pieces import Job, Piece
 from tlutflow.preparations import GENLIB, MOST_ROUNDS, Preparation, cost_of
+from tlutflow.preparing.pieces import Job, Piece
 from tlutflow.text import read_text, write_text
 
 # Commands that read a graph depth first, so that the order of its nodes in a file doesn't matter to them.

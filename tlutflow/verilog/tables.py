@@ -5,7 +5,7 @@ from __future__ import annotations
 from dataclasses import dataclass
 
 from tlutflow.circuit import Lut
-from tlutflow.verilog_names import Names
+from tlutflow.verilog.names import Names
 
 # How many digits a number has at most.
 LONGEST = 4096

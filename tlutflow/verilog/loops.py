@@ -2,9 +2,9 @@
 
 from __future__ import annotations
 
-from tlutflow.design_json import Design
 from tlutflow.faults import Fault
 from tlutflow.netlist import Model
+from tlutflow.verilog.design_json import Design
 
 
 def loop_of(model: Model) -> list[str]:

@@ -9,8 +9,8 @@ from __future__ import annotations
 from dataclasses import dataclass
 from typing import Iterable, Iterator, Optional
 
-from tlutflow.combinational import Logic, free_mark, logic_text, model_text
 from tlutflow.netlist import Cover, Model, parse_library
+from tlutflow.preparing.combinational import Logic, free_mark, logic_text, model_text
 
 # Logic of more two-input gates than this is divided, into parts of at most as many.
 PART_SIZE = 20_000

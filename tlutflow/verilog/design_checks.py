@@ -6,8 +6,8 @@ import re
 from typing import Any, Iterable
 
 from tlutflow.bus import Bus
-from tlutflow.design_json import Cell, Design
 from tlutflow.faults import Fault
+from tlutflow.verilog.design_json import Cell, Design
 
 # Registers as Yosys's inner cells: the first letter behind the kind is the edge of the clock.
 REGISTER = re.compile(r"\$_(?:DFFE?|S?DFFC?E?|ALDFFE?|DFFSRE?)_([NP])\w*_")

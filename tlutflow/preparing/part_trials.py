@@ -6,14 +6,14 @@ import os
 from dataclasses import dataclass
 from typing import Optional
 
-from tlutflow.combinational import logic_of
-from tlutflow.comparison import Comparer
 from tlutflow.faults import Fault
-from tlutflow.flat import read_flat
-from tlutflow.graphs import Bench
-from tlutflow.parts import Divided, Part, divided, put_together
-from tlutflow.pieces import Job, Jobs, Piece
 from tlutflow.preparations import Preparation
+from tlutflow.preparing.combinational import logic_of
+from tlutflow.preparing.comparison import Comparer
+from tlutflow.preparing.flat import read_flat
+from tlutflow.preparing.graphs import Bench
+from tlutflow.preparing.parts import Divided, Part, divided, put_together
+from tlutflow.preparing.pieces import Job, Jobs, Piece
 from tlutflow.text import count, write_text
 
 # About how long a comparison takes, as `cost` of a preparation.

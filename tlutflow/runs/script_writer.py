@@ -9,7 +9,7 @@ from tlutflow.bus import Bus
 from tlutflow.buses import assigned
 from tlutflow.faults import Fault
 from tlutflow.parameters import Interface, read_interface
-from tlutflow.script import PACED_WORDS, WORDS, bits_text
+from tlutflow.runs.script import PACED_WORDS, WORDS, bits_text
 from tlutflow.text import Line, count, logical_lines, read_text, write_text
 
 

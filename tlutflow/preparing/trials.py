@@ -13,19 +13,19 @@ from tlutflow import tools
 from tlutflow.abc_form import model_lines
 from tlutflow.changes import median_rewritten
 from tlutflow.circuit import read_circuit
-from tlutflow.combinational import Logic, interface_difference, logic_of, logic_text, netlist_text
-from tlutflow.comparison import WHOLE, Comparer
 from tlutflow.devices.families import Family
 from tlutflow.faults import Fault
-from tlutflow.flat import read_flat
-from tlutflow.graphs import Bench
 from tlutflow.mappings import MAPPED, Sizes, sizes_by_abc, sizes_by_tlut
 from tlutflow.netlist import Model
 from tlutflow.parameters import read_parameters
-from tlutflow.part_trials import PartsBench
-from tlutflow.parts import PART_SIZE, divided, size_of
-from tlutflow.pieces import Job, Jobs, Piece
 from tlutflow.preparations import PREPARATIONS, Preparation
+from tlutflow.preparing.combinational import Logic, interface_difference, logic_of, logic_text, netlist_text
+from tlutflow.preparing.comparison import WHOLE, Comparer
+from tlutflow.preparing.flat import read_flat
+from tlutflow.preparing.graphs import Bench
+from tlutflow.preparing.part_trials import PartsBench
+from tlutflow.preparing.parts import PART_SIZE, divided, size_of
+from tlutflow.preparing.pieces import Job, Jobs, Piece
 from tlutflow.text import read_text, write_text
 
 # What is looked for first, then next where that is the same, by the names of a result's fields.

@@ -6,10 +6,10 @@ from dataclasses import dataclass
 from typing import Optional
 
 from tlutflow.bus import Bus
-from tlutflow.design_json import Cell, Design
 from tlutflow.faults import Fault
 from tlutflow.netlist import Library, gate_inputs
 from tlutflow.text import count
+from tlutflow.verilog.design_json import Cell, Design
 
 # Cells whose gates grow with the product of their operands' widths, and what the names of those begin with that read a memory.
 PRODUCTS = ("$mul", "$div", "$mod", "$divfloor", "$modfloor", "$pow")
