@@ -15,7 +15,6 @@ from __future__ import annotations
 
 import argparse
 import os
-import tempfile
 from dataclasses import dataclass, replace
 from functools import cached_property
 from typing import Any, Optional
@@ -26,6 +25,7 @@ from tlutflow.faults import Fault
 from tlutflow.netlist import Library
 from tlutflow.netlist import read_library as read_netlist
 from tlutflow.pack import Pack, read_pack
+from tlutflow.plain_names import temporary_folder
 from tlutflow.preparing.trials import RULES, Found, keep
 from tlutflow.preparing.trials import prepare as try_preparations
 from tlutflow.refusals import refusal_of
@@ -77,7 +77,7 @@ def prepare(netlist: str, parameters: str, k: int, aim: str = "depth", out: Opti
     from tlutflow.commands.prepare import task_of
 
     given = arguments("prepare", {**options, "netlist": netlist, "params": parameters, "k": k, "aim": aim, "tlut": program})
-    with tempfile.TemporaryDirectory(prefix="flow-") as folder:
+    with temporary_folder() as folder:
         found = try_preparations(replace(task_of(given, netlist, parameters), beside=given.beside), folder)
         if out:
             keep(found.best, out)

@@ -9,7 +9,6 @@ import argparse
 import os
 import shlex
 import sys
-import tempfile
 from concurrent.futures import ThreadPoolExecutor
 from dataclasses import asdict, dataclass, field, replace
 from typing import Any, Callable, Optional
@@ -29,6 +28,7 @@ from tlutflow.faults import Fault
 from tlutflow.mappings import Sizes, sizes_by_abc, sizes_by_tlut
 from tlutflow.netlist import read_library
 from tlutflow.parameters import parameter_list, read_parameters
+from tlutflow.plain_names import temporary_folder, work_folder
 from tlutflow.port_file import END, file_name, find_ports, keep_ports
 from tlutflow.preparing.comparison import BY_PARTS, WHOLE
 from tlutflow.preparing.trials import AIMS, RULE_NAMES, RULES, Found, keep, prepare
@@ -158,7 +158,7 @@ class Build:
 
     def from_verilog(self) -> dict[str, Any]:
         """The netlist of a design in Verilog."""
-        with tempfile.TemporaryDirectory(prefix="flow-") as room:
+        with work_folder() as room:
             made = verilog.make(self.given, room, beside=True)
             copy(f"{room}/netlist.blif", self.path(".blif"))
             write_text(self.path(".par"), parameter_list(made.parameters))
@@ -172,7 +172,7 @@ class Build:
         if given.abc:
             raise Fault("--abc is for designs in Verilog; --try NAME=COMMANDS --only NAME prepares a netlist in one way")
         found = None
-        with tempfile.TemporaryDirectory(prefix="flow-") as room:
+        with temporary_folder() as room:
             if given.quick:
                 copy(netlist, self.path(".blif"))
             else:
@@ -205,7 +205,7 @@ class Build:
     def measured(self, ks: list[int]) -> dict[str, dict[str, list[str]]]:
         """The sizes at each K."""
         abc = tools.find(tools.ABC)
-        with tempfile.TemporaryDirectory(prefix="flow-") as room:
+        with temporary_folder() as room:
             write_text(f"{room}/none.par", "")
             write_text(f"{room}/source.blif", abc_text(read_library(self.path(".blif")), {}))
             calls: dict[str, Callable[[int, str], Sizes]] = {
@@ -340,7 +340,7 @@ class Build:
             kinds = {"a value": list(buses_of(nets).values()), "a bit": [Bus(net, (net,)) for net in nets]}
 
             def work() -> dict[str, list[int]]:
-                with tempfile.TemporaryDirectory(prefix="flow-") as room:
+                with temporary_folder() as room:
                     return {kind: rewritten(self.program, os.path.abspath(self.path(".ppc")), changes_of(nets, buses), room) for kind, buses in kinds.items()}
 
             self.built.changes = self.steps.make("changes", [nets], [self.path(".ppc"), self.binary], [], work)

@@ -74,6 +74,11 @@ def parser() -> argparse.ArgumentParser:
     return words
 
 
+def printable(text: str) -> str:
+    """A text in one line without control characters, which names of files may have."""
+    return "".join(it if it.isprintable() or "\ud800" <= it <= "\udfff" else it.encode("unicode_escape").decode() for it in text)
+
+
 def main(words: Optional[list[str]] = None) -> int:
     """Runs a call, and returns its status."""
     for stream in (sys.stdout, sys.stderr):
@@ -85,7 +90,7 @@ def main(words: Optional[list[str]] = None) -> int:
         sys.stdout.flush()
         return status
     except Fault as fault:
-        print(f"{given.prog}: {fault}", file=sys.stderr)
+        print(f"{given.prog}: {printable(str(fault))}", file=sys.stderr)
     except BrokenPipeError:
         # Whoever read the output is gone; nothing more is put, at the end of Python neither.
         os.dup2(os.open(os.devnull, os.O_WRONLY), sys.stdout.fileno())

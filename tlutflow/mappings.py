@@ -47,8 +47,9 @@ def sizes_by_tlut(program: str, size: int, netlist: str, parameters: str, folder
 
 
 def sizes_by_abc(abc: str, size: int, netlist: str, words: str, folder: str) -> Sizes:
-    """The sizes after mapping a netlist by ABC's `if` with these arguments."""
-    commands = f"read_blif {netlist}; strash; if -K {size}{words}; write_blif abc.blif"
+    """The sizes after mapping a netlist by ABC's `if` with these arguments. The netlist's path is relative to the folder, or absolute."""
+    name = os.path.relpath(os.path.join(folder, netlist), folder)
+    commands = f"read_blif {name}; strash; if -K {size}{words}; write_blif abc.blif"
     ran = tools.run([abc, "-q", commands], folder)
     made = f"{folder}/abc.blif"
     if not os.path.exists(made):

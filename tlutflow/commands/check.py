@@ -3,7 +3,6 @@
 from __future__ import annotations
 
 import argparse
-import tempfile
 
 from tlutflow import tools
 from tlutflow.abc_form import abc_text, with_functions
@@ -12,6 +11,7 @@ from tlutflow.netlist import Library, read_library
 from tlutflow.pack import read_pack
 from tlutflow.parameters import interface_of, read_parameters
 from tlutflow.patience import patience
+from tlutflow.plain_names import temporary_folder
 from tlutflow.runs.output import parse_output
 from tlutflow.runs.script import read_script
 from tlutflow.runs.source_player import SourcePlayer
@@ -122,7 +122,7 @@ def run(given: argparse.Namespace) -> int:
     source, left, right = texts(given)
     latches = source.flat_latches()
     method = "dsec" if latches else "cec"
-    with tempfile.TemporaryDirectory(prefix="flow-") as folder:
+    with temporary_folder() as folder:
         write_text(f"{folder}/source.blif", left)
         write_text(f"{folder}/written.blif", right)
         with patience(given.prog, f"ABC {method}"):

@@ -4,7 +4,6 @@ from __future__ import annotations
 
 import argparse
 import os
-import tempfile
 from concurrent.futures import ThreadPoolExecutor
 from typing import Callable
 
@@ -15,6 +14,7 @@ from tlutflow.mappings import Sizes, sizes_by_abc, sizes_by_tlut
 from tlutflow.netlist import read_library
 from tlutflow.parameters import read_parameters
 from tlutflow.patience import patience
+from tlutflow.plain_names import temporary_folder
 from tlutflow.reports.statistics import grid
 from tlutflow.text import count, write_text
 
@@ -73,7 +73,7 @@ def run(given: argparse.Namespace) -> int:
     if not os.path.exists(given.netlist):
         raise Fault(f"{given.netlist}: no such file")
     parameters = len(read_parameters(given.params))
-    with tempfile.TemporaryDirectory(prefix="flow-") as folder:
+    with temporary_folder() as folder:
         found = sizes(given, program, abc, folder)
     heads = [["", *(cell for title in ("tunable", "compact", "inputs", "if", "if -a") for cell in (title, "", ""))], ["K", *["tables", "depth", "bits"] * 5]]
     print(f"{os.path.basename(given.netlist)}, {count(parameters, 'parameter')}")

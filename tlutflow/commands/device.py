@@ -6,17 +6,21 @@ import argparse
 import os
 import re
 import shlex
+import sys
 
 from tlutflow import tools
+from tlutflow.build_files import copy
 from tlutflow.circuit import is_template
 from tlutflow.commands.hdl import make_folder
 from tlutflow.device import PART, PLACERS, WIDEST, device_recipe
 from tlutflow.faults import Fault
 from tlutflow.netlist import read_library
 from tlutflow.patience import patience
+from tlutflow.plain_names import PlainNames, work_folder
 from tlutflow.port_file import file_name
 from tlutflow.text import write_text
-from tlutflow.verilog.recipe import script_text
+from tlutflow.verilog.recipe import UnquotableName, script_text
+from tlutflow.yosys import run_yosys
 
 HELP = "a netlist of `tlut spec`, to a device's LUTs and flip-flops, by Yosys and nextpnr"
 DESCRIPTION = """Turns each LUT of a netlist that `tlut spec` wrote into one LUT of a device, and places and routes it if nextpnr is installed.
@@ -81,21 +85,35 @@ def place(given: argparse.Namespace, base: str) -> None:
     print(f"{base}{placer.end}: {', '.join(parts)}")
 
 
+def write_script(given: argparse.Namespace, base: str) -> None:
+    """Writes the script with the names that were given, for those who want to run or change it. A script can't hold every name."""
+    try:
+        write_text(f"{base}.ys", script_text(device_recipe(given.netlist, given.target, base)))
+    except UnquotableName as why:
+        print(f"{given.prog}: {base}.ys isn't written: {why}", file=sys.stderr)
+
+
+def synthesise(given: argparse.Namespace, base: str) -> str:
+    """Runs Yosys under plain names, keeps its files, and returns what it printed."""
+    with work_folder() as room:
+        names, made = PlainNames(f"{room}/names"), f"{room}/made"
+        with patience(given.prog, "Yosys"), names.told():
+            told = run_yosys(device_recipe(names.path(given.netlist), given.target, made), room, "a device's netlist", is_silent=False)
+        for end in (".json", ".edif"):
+            if os.path.exists(made + end):
+                copy(made + end, base + end)
+    return told
+
+
 def run(given: argparse.Namespace) -> int:
     name = file_name(check(given.netlist, given.target))
     base = os.path.normpath(f"{given.out}/{name}")
-    steps = device_recipe(given.netlist, given.target, base)
     if given.recipe:
-        print(script_text(steps), end="")
+        print(script_text(device_recipe(given.netlist, given.target, base)), end="")
         return 0
-    yosys = tools.need(tools.YOSYS, "a device's netlist")
+    tools.need(tools.YOSYS, "a device's netlist")
     make_folder(given.out)
-    write_text(f"{base}.ys", script_text(steps))
-    with patience(given.prog, "Yosys"):
-        ran = tools.run([yosys, "-s", f"{base}.ys"])
-    if ran.returncode:
-        told = [line for line in (ran.stdout + ran.stderr).splitlines() if "ERROR" in line]
-        raise Fault(f"Yosys: {told[-1] if told else f'it ended with status {ran.returncode}'}")
-    print(f"{base}.json: {cells_of(ran.stdout)}")
+    write_script(given, base)
+    print(f"{base}.json: {cells_of(synthesise(given, base))}")
     place(given, base)
     return 0

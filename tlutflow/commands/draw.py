@@ -4,11 +4,11 @@ from __future__ import annotations
 
 import argparse
 import os
-import tempfile
 
 from tlutflow import tools
 from tlutflow.circuit import Circuit, read_circuit
 from tlutflow.faults import Fault
+from tlutflow.plain_names import temporary_folder
 from tlutflow.reports.drawing import drawing
 from tlutflow.text import write_text
 
@@ -52,7 +52,7 @@ def ends_of(circuit: Circuit, names: list[str]) -> list[str]:
 def paint(text: str, path: str) -> None:
     """Creates a picture from a drawing."""
     dot = tools.need(tools.DOT, f"a picture {os.path.splitext(path)[1]}")
-    with tempfile.TemporaryDirectory(prefix="flow-") as folder:
+    with temporary_folder() as folder:
         write_text(f"{folder}/drawing.dot", text)
         ran = tools.run([dot, f"-T{os.path.splitext(path)[1][1:]}", f"{folder}/drawing.dot", "-o", os.path.abspath(path)])
     if ran.returncode:

@@ -5,13 +5,13 @@ from __future__ import annotations
 import argparse
 import os
 import sys
-import tempfile
 
 from tlutflow import tools
 from tlutflow.circuit import Circuit, read_circuit
 from tlutflow.devices.families import FAMILIES, told
 from tlutflow.faults import Fault
 from tlutflow.patience import patience
+from tlutflow.plain_names import PlainNames, temporary_folder, work_folder
 from tlutflow.runs.output import Output, parse_output
 from tlutflow.runs.script import read_script
 from tlutflow.runs.waveform import check_end
@@ -137,16 +137,18 @@ def write_files(given: argparse.Namespace, circuit: Circuit, folder: str) -> tup
 def simulate(base: str, netlist: list[str]) -> list[str]:
     """The lines that the bench prints."""
     compiler, player = tools.need(tools.ICARUS, "a simulation"), tools.need(tools.ICARUS_PLAYER, "a simulation")
-    # Without the macro Yosys's cells of the iCE40 have values for ports that Icarus can't read. Those of the ECP5 include files beside them.
-    beside = [f"-I{os.path.dirname(path) or '.'}" for path in netlist]
-    files = ["-DNO_ICE40_DEFAULT_ASSIGNMENTS", *beside, *netlist] if netlist else ["-DINSIDE", f"{base}.v"]
-    with tempfile.TemporaryDirectory(prefix="flow-") as folder:
+    with work_folder() as folder:
+        names, variables = PlainNames(f"{folder}/names"), {**os.environ, "TMPDIR": folder}
+        read = [names.path(it) for it in netlist or [f"{base}.v"]]
+        # Without the macro Yosys's cells of the iCE40 have values for ports that Icarus can't read. Those of the ECP5 include files beside them.
+        beside = [f"-I{os.path.dirname(path) or '.'}" for path in read]
+        files = ["-DNO_ICE40_DEFAULT_ASSIGNMENTS", *beside, *read] if netlist else ["-DINSIDE", *read]
         made = f"{folder}/bench.vvp"
-        ran = tools.run([compiler, "-g2012" if netlist else "-g2005", "-o", made, *files, f"{base}_bench.v"])
+        ran = tools.run([compiler, "-g2012" if netlist else "-g2005", "-o", made, *files, names.path(f"{base}_bench.v")], variables=variables)
         if ran.returncode:
-            told = ran.stderr.strip().splitlines()
+            told = names.shown(ran.stderr).strip().splitlines()
             raise Fault(f"Icarus Verilog: {next((line for line in told if 'error' in line), (told or ['it failed'])[0])}")
-        ran = tools.run([player, made, f"+events={base}.events"])
+        ran = tools.run([player, made, f"+events={names.path(f'{base}.events')}"], variables=variables)
     if ran.returncode:
         raise Fault(f"Icarus Verilog: {(ran.stderr.strip().splitlines() or ['it failed'])[0]}")
     return [line for line in physical_lines(ran.stdout) if line]
@@ -197,7 +199,7 @@ def run(given: argparse.Namespace) -> int:
         make_folder(given.out)
         play(given, circuit, given.out)
     elif given.simulate:
-        with tempfile.TemporaryDirectory(prefix="flow-") as folder:
+        with temporary_folder() as folder:
             play(given, circuit, folder)
     elif given.script:
         raise Fault("--script needs --out, or --simulate")

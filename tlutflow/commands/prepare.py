@@ -5,7 +5,6 @@ from __future__ import annotations
 import argparse
 import os
 import sys
-import tempfile
 from dataclasses import replace
 from typing import Optional
 
@@ -13,6 +12,7 @@ from tlutflow.commands.hdl import add_family_word
 from tlutflow.devices.families import FAMILIES, Family, costs_text, told
 from tlutflow.faults import Fault
 from tlutflow.parameters import read_parameters
+from tlutflow.plain_names import temporary_folder
 from tlutflow.port_file import keep_ports
 from tlutflow.preparations import PREPARATIONS, Preparation, chosen, further
 from tlutflow.preparing.parts import PART_SIZE
@@ -166,7 +166,7 @@ def run(given: argparse.Namespace) -> int:
     task = task_of(given, given.netlist, given.params)
     named = count(len(read_parameters(given.params)), "parameter")
     out = given.out or default_file(given.netlist)
-    with tempfile.TemporaryDirectory(prefix="flow-") as folder:
+    with temporary_folder() as folder:
         found = prepare(replace(task, beside=given.beside), folder, progress(given.prog))
         keep(found.best, out)
     keep_ports(given.netlist, out)

@@ -8,7 +8,6 @@ import os
 import re
 import shutil
 import sys
-import tempfile
 from dataclasses import dataclass, replace
 from typing import Optional
 
@@ -20,6 +19,7 @@ from tlutflow.faults import Fault
 from tlutflow.netlist import Library, read_library
 from tlutflow.parameters import data_inputs, parameter_list
 from tlutflow.patience import patience
+from tlutflow.plain_names import PlainNames, work_folder
 from tlutflow.port_file import END, Ports, file_name, json_of_bus
 from tlutflow.preparations import Preparation
 from tlutflow.preparing.graphs import Bench
@@ -32,6 +32,7 @@ from tlutflow.verilog.design_checks import late_resets, refuse_high_impedance, r
 from tlutflow.verilog.design_json import Design, read_design
 from tlutflow.verilog.loops import refuse_loop
 from tlutflow.verilog.recipe import PREPARATION, READERS, Sources, Step, look, recipe, script_text
+from tlutflow.yosys import run_yosys
 
 HELP = "a netlist and its parameter list from a design in Verilog"
 DESCRIPTION = f"""Creates FOLDER/TOP.blif, FOLDER/TOP.par and FOLDER/TOP.ports.json from a design in Verilog (files .sv are read as SystemVerilog), by Yosys.
@@ -80,7 +81,7 @@ def add_source_words(parser: argparse.ArgumentParser) -> None:
 def sources_of(given: argparse.Namespace) -> Sources:
     """What Yosys reads."""
     top = given.top[1:] if given.top.startswith("\\") else given.top
-    words = {"--top": [top], "-D": given.define, "-I": given.include, "--set": given.set}
+    words = {"--top": [top], "-D": given.define, "--set": given.set}
     for option, values in words.items():
         for value in values:
             if not WORD.fullmatch(value):
@@ -100,15 +101,10 @@ def preparation_of(given: argparse.Namespace) -> str:
     return ";".join(filter(None, commands))
 
 
-def yosys(steps: list[Step], folder: str, prog: str) -> None:
+def yosys(steps: list[Step], folder: str, prog: str, names: PlainNames) -> None:
     """Runs Yosys, and says so if it takes long."""
-    program, script = tools.need(tools.YOSYS, "making a netlist from Verilog"), f"{folder}/recipe.ys"
-    write_text(script, script_text(steps))
-    with patience(prog, "Yosys"):
-        ran = tools.run([program, "-q", "-s", script])
-    if ran.returncode:
-        told = [line for line in (ran.stdout + ran.stderr).splitlines() if "ERROR" in line]
-        raise Fault(f"Yosys: {told[-1] if told else f'it ended with status {ran.returncode}'}")
+    with patience(prog, "Yosys"), names.told():
+        run_yosys(steps, folder, "making a netlist from Verilog")
 
 
 @dataclass(frozen=True)
@@ -125,9 +121,10 @@ class Synthesised:
 
 def synthesise(given: argparse.Namespace, folder: str) -> Synthesised:
     """Runs Yosys, which leaves its files in a folder. What the netlist has otherwise than the design is also printed."""
-    sources, paths = sources_of(given), [f"{folder}/{name}" for name in ("design.json", "netlist.blif", "registers.json", "ports.json")]
-    yosys(look(sources, paths[0]), folder, given.prog)
-    design = read_design(paths[0], sources.top)
+    names = PlainNames(f"{folder}/names")
+    sources, paths = names.sources(sources_of(given)), [f"{folder}/{name}" for name in ("design.json", "netlist.blif", "registers.json", "ports.json")]
+    yosys(look(sources, paths[0]), folder, given.prog, names)
+    design = read_design(paths[0], sources.top, names.shown)
     refuse_ports(design, sources.top)
     refuse_high_impedance(design)
     told = undriven(design)
@@ -135,8 +132,9 @@ def synthesise(given: argparse.Namespace, folder: str) -> Synthesised:
     is_large = gates_about(design) > PART_SIZE
     gates = f"{folder}/gates.blif" if is_large or not is_quick(given) else None
     sources = replace(sources, by_modules=sources.by_modules or is_large)
-    yosys(recipe(sources, "" if is_large else preparation_of(given), paths[1], paths[2], paths[3], gates), folder, given.prog)
-    before, after, library = read_design(paths[2], sources.top), read_design(paths[3], sources.top), read_library(paths[1])
+    yosys(recipe(sources, "" if is_large else preparation_of(given), paths[1], paths[2], paths[3], gates), folder, given.prog, names)
+    before, after = (read_design(it, sources.top, names.shown) for it in paths[2:])
+    library = read_library(paths[1])
     refuse_registers(before)
     reason = obstacle(library)
     if reason:
@@ -251,7 +249,7 @@ def run(given: argparse.Namespace) -> int:
         steps = recipe(sources, preparation_of(given), files[0], f"{base}.registers.json", f"{base}.json")
         print(script_text(steps), end="")
         return 0
-    with tempfile.TemporaryDirectory(prefix="flow-") as folder:
+    with work_folder() as folder:
         made = make(given, folder)
         try:
             os.makedirs(given.out, exist_ok=True)

@@ -5,7 +5,6 @@ from __future__ import annotations
 
 import json
 import os
-import tempfile
 from typing import Any, Optional
 
 from tlutflow import tools
@@ -17,6 +16,7 @@ from tlutflow.devices.registers import mapped, with_registers
 from tlutflow.mappings import MAPPED, sizes_by_tlut
 from tlutflow.netlist import read_library
 from tlutflow.parameters import data_inputs, read_parameters
+from tlutflow.plain_names import PlainNames, temporary_folder, work_folder
 from tlutflow.port_file import read_ports_file
 from tlutflow.preparing.trials import RULES
 from tlutflow.text import count, read_text, write_text
@@ -32,7 +32,7 @@ COLUMNS = ["LUTs", "LUT sites, paired", "carries", "flip-flops", "CFGLUT5", "LUT
 def counts(program: str, family: Family, netlist: str, parameters: str, ks: list[int]) -> Counts:
     """What the device counts of a netlist; mappings that exceed a limit are left out."""
     found: Counts = {}
-    with tempfile.TemporaryDirectory(prefix="flow-") as room:
+    with temporary_folder() as room:
         for k in ks:
             found[str(k)] = {}
             for rule, words in RULES.items():
@@ -56,19 +56,19 @@ def source_of_verilog(sources: Sources, ports_file: str) -> Source:
     return reading(sources), sources.top, {name: (way, ports.buses[name]) for name, way in directions.items()}
 
 
-def source_of_netlist(netlist: str) -> Source:
-    """The same of a netlist in BLIF, each of whose nets is a port of its own."""
+def source_of_netlist(netlist: str, link: str) -> Source:
+    """The same of a netlist in BLIF, each of whose nets is a port of its own. `link` is its name for Yosys."""
     library = read_library(netlist)
     inputs = [*data_inputs(library), *library.clock_nets()]
     ports = {net: ("input", Bus(net, (net,))) for net in inputs}
     ports.update((net, ("output", Bus(net, (net,)))) for net in library.main.outputs)
-    return [Step(f"read_blif {quoted(netlist)}", "the netlist")], library.main.name, ports
+    return [Step(f"read_blif {quoted(link)}", "the netlist")], library.main.name, ports
 
 
 def count_of_circuit(family: Family, path: str, made: str) -> list[int]:
     """What Yosys counts of the mapped circuit in a file, whose netlist goes to another one."""
-    with tempfile.TemporaryDirectory(prefix="flow-") as room:
-        found = mapped(path, os.path.basename(path)[: -len(".v")], family, f"{room}/mapped")
+    with work_folder() as room:
+        found = mapped(PlainNames(f"{room}/names").path(path), os.path.basename(path)[: -len(".v")], family, f"{room}/mapped")
         write_text(made, read_text(f"{room}/mapped.v"))
     return found.row()
 
@@ -76,7 +76,7 @@ def count_of_circuit(family: Family, path: str, made: str) -> list[int]:
 def count_of_registers(source: Source, parameters: str, family: Family) -> list[list[Any]]:
     """What Yosys counts of a source with its parameters in registers, by each command."""
     steps, top, ports = source
-    with tempfile.TemporaryDirectory(prefix="flow-") as room:
+    with work_folder() as room:
         found = with_registers(steps, top, ports, read_parameters(parameters), family, room)
     return [[command, it.row()] for command, it in zip(family.commands, found)]
 

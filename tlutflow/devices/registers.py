@@ -2,14 +2,15 @@
 
 from __future__ import annotations
 
-from tlutflow import tools
+import os
+
 from tlutflow.bus import Bus
 from tlutflow.devices.cells import Cells, counted, read_cells
 from tlutflow.devices.families import Family
-from tlutflow.faults import Fault
 from tlutflow.text import write_text
 from tlutflow.verilog.names import free_name, identifier
-from tlutflow.verilog.recipe import Step, quoted, script_text
+from tlutflow.verilog.recipe import Step, quoted
+from tlutflow.yosys import run_yosys
 
 HELD = "held_in_registers"
 
@@ -49,11 +50,7 @@ def synthesised(steps: list[Step], top: str, family: Family, command: str, base:
         Step(f"write_json {quoted(base + '.json')}", "the cells to be counted"),
         Step(f"write_verilog -noattr {quoted(base + '.v')}", "the netlist for a simulation"),
     ]
-    write_text(f"{base}.ys", script_text([*steps, *last]))
-    ran = tools.run([tools.need(tools.YOSYS, "a device's count"), "-q", "-s", f"{base}.ys"])
-    if ran.returncode:
-        told = [line for line in (ran.stdout + ran.stderr).splitlines() if "ERROR" in line]
-        raise Fault(f"Yosys: {told[-1] if told else f'it ended with status {ran.returncode}'}")
+    run_yosys([*steps, *last], os.path.dirname(base), "a device's count")
     return counted(read_cells(f"{base}.json", top), family.target == "xilinx")
 
 

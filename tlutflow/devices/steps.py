@@ -14,6 +14,7 @@ from tlutflow.devices.count import best_of, compared_text, count_of_circuit, cou
 from tlutflow.devices.families import FAMILIES, costs_text, told
 from tlutflow.faults import Fault
 from tlutflow.parameters import read_parameters
+from tlutflow.plain_names import PlainNames, work_folder
 from tlutflow.preparing.trials import RULE_NAMES
 from tlutflow.steps import Steps
 
@@ -53,15 +54,22 @@ class DeviceSteps:
         if not is_measurable(source):
             return found
         path, made, parameters = f"{self.base}_mapped.v", f"{self.base}_device.v", f"{self.base}.par"
-        read = source_of_verilog(sources_of(given), source) if is_verilog else source_of_netlist(source)
         by = [family.name, family.commands, tools.versions(self.program).get("Yosys", "")]
         ours = self.steps.make("count", by, [path], [made], lambda: count_of_circuit(family, path, made))
         # The values at the start change no count.
         words = [*by, list(read_parameters(parameters)), given.set, given.define, given.include]
-        theirs = self.steps.make("registers", words, given.files, [], lambda: count_of_registers(read, parameters, family))
+        theirs = self.steps.make("registers", words, given.files, [], lambda: self.registers(source, is_verilog))
         found["rows"] = [["mapped", ours], *theirs]
         found["text"] = compared_text(family, Cells(*ours), [Cells(*row) for _, row in theirs])
         return found
+
+    def registers(self, source: str, is_verilog: bool) -> list[list[Any]]:
+        """What Yosys counts of the source with its parameters in registers."""
+        with work_folder() as room:
+            names = PlainNames(f"{room}/names")
+            with names.told():
+                read = source_of_verilog(names.sources(sources_of(self.given)), source) if is_verilog else source_of_netlist(source, names.path(source))
+                return count_of_registers(read, f"{self.base}.par", self.family)
 
     def played(self, flow: Flow, script: str, output: str) -> list[list[str]]:
         """Whether the synthesised netlist plays the run of a script, as tlut reads it."""

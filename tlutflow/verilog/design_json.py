@@ -4,7 +4,7 @@ from __future__ import annotations
 
 import json
 from dataclasses import dataclass
-from typing import Any, Iterator, Optional
+from typing import Any, Callable, Iterator, Optional
 
 from tlutflow.bus import Bus
 from tlutflow.faults import Fault
@@ -95,9 +95,13 @@ def cell_of(name: str, given: dict[str, Any]) -> Cell:
     return Cell(name, given["type"], given["connections"], outputs, source_place(given.get("attributes", {})))
 
 
-def read_design(path: str, top: str) -> Design:
-    """The top module of a file."""
-    modules = json.loads(read_text(path))["modules"]
+def read_design(path: str, top: str, shown: Callable[[str], str] = str) -> Design:
+    """The top module of a file. `shown` makes places in the source of those that Yosys wrote."""
+
+    def with_places(entry: dict[str, Any]) -> dict[str, Any]:
+        return {**entry, "src": shown(entry["src"])} if isinstance(entry.get("src"), str) else entry
+
+    modules = json.loads(read_text(path), object_hook=with_places)["modules"]
     name = top if top in modules else next((it for it, module in modules.items() if int(module.get("attributes", {}).get("top", "0"), 2)), "")
     if not name:
         raise Fault(f"--top {top}: the modules are {', '.join(modules) or 'none'}")

@@ -2,8 +2,11 @@
 
 from __future__ import annotations
 
+import re
 from dataclasses import dataclass, field
 from typing import Optional
+
+from tlutflow.faults import Fault
 
 # How Yosys's ABC prepares the logic: a choice among structures, then gates that are chosen for little delay.
 PREPARATION = "strash;dch;map,-B,0.9;topo"
@@ -14,6 +17,9 @@ READERS = {
     "systemverilog": ("systemverilog", "read_systemverilog"),
     "synlig": ("synlig-sv", "read_systemverilog"),
 }
+# What every script can hold as one argument that nothing expands, and what Yosys's can hold in quotes.
+PLAIN = re.compile(r"(?![+~-])[A-Za-z0-9_./+=@,:%-]+")
+QUOTABLE = re.compile(r"""(?![+~])[^"\\*?\[\]{}\x00-\x1f\x7f]+""")
 
 
 @dataclass(frozen=True)
@@ -27,7 +33,8 @@ class Step:
 @dataclass(frozen=True)
 class Sources:
     """A design's files, its top module, the options of its reader: macros, include folders, values of module parameters; files of cells, of
-    which only those that the design has are read; and whether each module is synthesised alone."""
+    which only those that the design has are read; whether each module is synthesised alone; and for each file that is a copy the folder in
+    which files that it includes are looked for first."""
 
     files: list[str]
     top: str
@@ -37,24 +44,47 @@ class Sources:
     reader: str = "verilog"
     cells: list[str] = field(default_factory=list)
     by_modules: bool = False
+    beside: dict[str, str] = field(default_factory=dict)
+
+
+class UnquotableName(Fault):
+    """A script of Yosys can't hold a name."""
+
+
+def is_plain(path: str) -> bool:
+    """Whether every script can hold a path as one argument that nothing expands."""
+    return PLAIN.fullmatch(path) is not None
 
 
 def quoted(path: str) -> str:
-    """A file name as an argument in a Yosys script."""
+    """A file name as an argument in a Yosys script. A fault if the script can't hold it."""
+    if not QUOTABLE.fullmatch(path):
+        raise UnquotableName(f"{path}: a script of Yosys can't hold this name; a link with a plain name can be in one")
     return f'"{path}"'
+
+
+def included(sources: Sources, files: list[str]) -> str:
+    """The options for the folders in which what these files include is looked for."""
+    folders = [*(sources.beside[it] for it in files if it in sources.beside), *sources.includes]
+    for folder in folders:
+        if re.search(r"[\s;\"#]", folder):
+            raise UnquotableName(f"-I {folder}: a script of Yosys can't hold this name; a link with a plain name can be in one")
+    return "".join(f" -I{it}" for it in folders)
 
 
 def reading(sources: Sources) -> list[Step]:
     """The steps that read a design."""
     plugin, command = READERS[sources.reader]
-    words = "".join([*(f" -D{it}" for it in sources.defines), *(f" -I{it}" for it in sources.includes)])
+    words = "".join(f" -D{it}" for it in sources.defines)
     steps = [Step(f"plugin -i {plugin}", "the reader of SystemVerilog")] if plugin else []
     if plugin:
         top = f" --top {sources.top}" if plugin == "slang" else ""
-        steps.append(Step(f"{command}{top}{words} {' '.join(map(quoted, [*sources.files, *sources.cells]))}", "the design"))
+        files = [*sources.files, *sources.cells]
+        steps.append(Step(f"{command}{top}{words}{included(sources, files)} {' '.join(map(quoted, files))}", "the design"))
     else:
-        steps += [Step(f"{command}{' -sv' if file.endswith('.sv') else ''}{words} {quoted(file)}", "the design") for file in sources.files]
-        steps += [Step(f"read_verilog -defer{words} {quoted(file)}", "cells: only those that the design has are looked at") for file in sources.cells]
+        ways = {file: f"{words}{included(sources, [file])} {quoted(file)}" for file in (*sources.files, *sources.cells)}
+        steps += [Step(f"{command}{' -sv' if file.endswith('.sv') else ''}{ways[file]}", "the design") for file in sources.files]
+        steps += [Step(f"read_verilog -defer{ways[file]}", "cells: only those that the design has are looked at") for file in sources.cells]
     steps += [Step(f"chparam -set {name} {value} {sources.top}", "a module parameter's value") for name, value in sources.settings]
     return steps
 
