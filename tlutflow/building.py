@@ -36,6 +36,7 @@ from tlutflow.refusals import refusal_of
 from tlutflow.runs.script_writer import bit_script
 from tlutflow.steps import Steps
 from tlutflow.text import logical_lines, read_text, write_text
+from tlutflow.verilog.names import module_name
 
 RUN = "import sys; from tlutflow.main import main; sys.exit(main(sys.argv[1:]))"
 # A static picture of more LUTs is of no use; the page has one that can be moved.
@@ -67,12 +68,13 @@ class Build:
     def __init__(self, given: argparse.Namespace):
         self.given, self.folder, self.script = given, given.out, given.script
         self.is_verilog = given.files[0].endswith((".v", ".sv", ".vh"))
-        self.name = file_name(given.top) if self.is_verilog else os.path.splitext(os.path.basename(given.files[0]))[0]
+        self.name = file_name(verilog.sources_of(given).top) if self.is_verilog else os.path.splitext(os.path.basename(given.files[0]))[0]
+        self.module = f"{self.folder}/{module_name(None, self.name)}"
         make_folder(self.folder)
         self.steps = Steps(self.folder, given.prog, given.again)
         self.program = tools.tlut(given.tlut)
         self.binary = program_file(self.program)
-        self.device = DeviceSteps(given, self.steps, self.program, self.binary, self.path("")) if given.device else None
+        self.device = DeviceSteps(given, self.steps, self.program, self.binary, self.path(""), self.module) if given.device else None
         self.built = Built(self.name, given.k, aim=given.aim, versions=tools.versions(self.program))
 
     def path(self, end: str) -> str:
@@ -103,7 +105,7 @@ class Build:
 
     def listed(self) -> list[tuple[str, str]]:
         """The files with what they are."""
-        module = f"{self.folder}/{self.name}_mapped"
+        module = self.module
         return [
             (self.path(".blif"), "the prepared netlist"),
             (self.path(".par"), "the parameters, with their initial values"),
@@ -279,11 +281,11 @@ class Build:
 
     def hardware(self) -> tuple[list[list[str]], list[str]]:
         """The run of the script, and the circuit in Verilog, which also plays it if Icarus Verilog is installed."""
-        files, script, module = [self.path("_t.blif"), self.path(".ppc")], self.script, f"{self.folder}/{self.name}_mapped"
+        files, script, module = [self.path("_t.blif"), self.path(".ppc")], self.script, self.module
         if script and any(line.tokens[0] == "upset" for line in logical_lines(read_text(script))):
             # An upset may be of any bit, so each one is to be writable.
             self.given.bits = "all"
-        words = ["hdl", *files, *way_words(way_of(self.given)), "--module", f"{self.name}_mapped", "--out", self.folder]
+        words = ["hdl", *files, *way_words(way_of(self.given)), "--module", os.path.basename(module), "--out", self.folder]
         if not script:
             self.steps.make("verilog", words, files, [f"{module}.v", f"{module}_bench.v"], lambda: self.must(words))
             return [], [shlex.join(["flow", *words])]

@@ -23,10 +23,10 @@ Flow = Callable[[list[str], str, Optional[float]], tuple[int, str, str]]
 
 
 class DeviceSteps:
-    """The steps of a build, its arguments, and what the names of its files begin with."""
+    """The steps of a build, its arguments, what the names of its files begin with, and the same of the mapped circuit in Verilog."""
 
-    def __init__(self, given: argparse.Namespace, steps: Steps, program: str, binary: str, base: str):
-        self.given, self.steps, self.program, self.binary, self.base = given, steps, program, binary, base
+    def __init__(self, given: argparse.Namespace, steps: Steps, program: str, binary: str, base: str, module: str):
+        self.given, self.steps, self.program, self.binary, self.base, self.module = given, steps, program, binary, base, module
         self.family = FAMILIES[given.device]
         self.found: dict[str, Any] = {"name": self.family.name, "unit": self.family.unit}
 
@@ -53,7 +53,7 @@ class DeviceSteps:
         found["told"] = told(family, what)
         if not is_measurable(source):
             return found
-        path, made, parameters = f"{self.base}_mapped.v", f"{self.base}_device.v", f"{self.base}.par"
+        path, made, parameters = f"{self.module}.v", f"{self.base}_device.v", f"{self.base}.par"
         by = [family.name, family.commands, tools.versions(self.program).get("Yosys", "")]
         ours = self.steps.make("count", by, [path], [made], lambda: count_of_circuit(family, path, made))
         # The values at the start change no count.
@@ -77,7 +77,7 @@ class DeviceSteps:
         if not (os.path.exists(made) and self.family.models and tools.find(tools.ICARUS) and "rows" in self.found):
             return []
         given, what = self.given, "the netlist that Yosys synthesised for the device plays the script as the run did"
-        words = ["hdl", f"{self.base}_t.blif", f"{self.base}.ppc", *way_words(way_of(given)), "--module", f"{os.path.basename(self.base)}_mapped"]
+        words = ["hdl", f"{self.base}_t.blif", f"{self.base}.ppc", *way_words(way_of(given)), "--module", os.path.basename(self.module)]
         words += ["--script", script, "--simulate", "--netlist", made, "--netlist", tools.yosys_file(self.family.models)]
 
         def work() -> list[str]:
