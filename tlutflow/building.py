@@ -10,56 +10,40 @@ import os
 import shlex
 import sys
 from concurrent.futures import ThreadPoolExecutor
-from dataclasses import asdict, dataclass, field, replace
+from dataclasses import replace
 from typing import Any, Callable, Optional
 
 from tlutflow import tools
 from tlutflow.abc_form import abc_text
 from tlutflow.build_files import copy, make_folder, program_file
+from tlutflow.built import Built, told_of
 from tlutflow.bus import Bus
 from tlutflow.buses import buses_of
 from tlutflow.changes import changes_of, rewritten
 from tlutflow.commands import prepare as prepare_words
 from tlutflow.commands import verilog
+from tlutflow.commands.check import Pair, compare
 from tlutflow.commands.hdl import way_of, way_words
 from tlutflow.commands.show import view_words
 from tlutflow.devices.steps import DeviceSteps
-from tlutflow.faults import Fault
+from tlutflow.faults import Fault, Undecided
 from tlutflow.mappings import Sizes, sizes_by_abc, sizes_by_tlut
 from tlutflow.netlist import read_library
 from tlutflow.parameters import parameter_list, read_parameters
 from tlutflow.plain_names import temporary_folder, work_folder
 from tlutflow.port_file import END, file_name, find_ports, keep_ports
 from tlutflow.preparing.comparison import BY_PARTS, WHOLE
-from tlutflow.preparing.trials import AIMS, RULE_NAMES, RULES, Found, keep, prepare
+from tlutflow.preparing.trials import AIMS, RULE_NAMES, RULES, keep, prepare
 from tlutflow.refusals import refusal_of
 from tlutflow.runs.script_writer import bit_script
 from tlutflow.steps import Steps
 from tlutflow.text import logical_lines, read_text, write_text
+from tlutflow.verilog.hdl import Way
 from tlutflow.verilog.names import module_name
 
 RUN = "import sys; from tlutflow.main import main; sys.exit(main(sys.argv[1:]))"
 # A static picture of more LUTs is of no use; the page has one that can be moved.
 DRAWN = 300
-
-
-@dataclass
-class Built:
-    """What the page shows, by its parts, and the files that are there."""
-
-    name: str
-    k: int
-    rule: str = ""
-    aim: str = ""
-    preparation: dict[str, Any] = field(default_factory=dict)
-    sizes: dict[str, dict[str, list[str]]] = field(default_factory=dict)
-    checks: list[list[str]] = field(default_factory=list)
-    changes: dict[str, list[int]] = field(default_factory=dict)
-    shown: str = ""
-    device: dict[str, Any] = field(default_factory=dict)
-    commands: list[str] = field(default_factory=list)
-    versions: dict[str, str] = field(default_factory=dict)
-    files: list[list[str]] = field(default_factory=list)
 
 
 class Build:
@@ -75,6 +59,7 @@ class Build:
         self.program = tools.tlut(given.tlut)
         self.binary = program_file(self.program)
         self.device = DeviceSteps(given, self.steps, self.program, self.binary, self.path(""), self.module) if given.device else None
+        self.way = way_of(given)
         self.built = Built(self.name, given.k, aim=given.aim, versions=tools.versions(self.program))
 
     def path(self, end: str) -> str:
@@ -89,6 +74,7 @@ class Build:
         self.built.k = self.given.k
         if self.given.script:
             self.script = bit_script(self.given.script, self.path(".blif"), self.path(".par"), self.path("_run.scr"))
+            self.way = self.way_of_script(self.script)
         self.sizes()
         self.map()
         self.built.commands += self.specialised()
@@ -216,7 +202,7 @@ class Build:
                 "inputs": lambda k, at: sizes_by_tlut(self.program, k, self.path(".blif"), f"{room}/none.par", at, "--compact"),
             }
             for words in ("if", "if -a") if abc else ():
-                calls[words] = by_abc(str(abc), f"{room}/source.blif", words)
+                calls[words] = by_abc(str(abc), f"{room}/source.blif", words, self.given.seconds)
             jobs = [(k, name) for k in ks for name in calls]
 
             def one(job: tuple[int, str]) -> list[str]:
@@ -274,18 +260,15 @@ class Build:
         checks, commands = self.hardware()
         if self.device is not None:
             source = self.path(END) if self.is_verilog else self.given.files[0]
-            self.built.device = self.device.count(source, self.is_verilog, self.built.rule)
+            self.built.device = self.device.count(source, self.is_verilog, self.built.rule, self.way)
             if self.script:
-                checks += self.device.played(self.flow, self.script, read_text(self.path("_run.txt")))
+                checks += self.device.played(self.flow, self.script, read_text(self.path("_run.txt")), self.way)
         return checks, commands
 
     def hardware(self) -> tuple[list[list[str]], list[str]]:
         """The run of the script, and the circuit in Verilog, which also plays it if Icarus Verilog is installed."""
         files, script, module = [self.path("_t.blif"), self.path(".ppc")], self.script, self.module
-        if script and any(line.tokens[0] == "upset" for line in logical_lines(read_text(script))):
-            # An upset may be of any bit, so each one is to be writable.
-            self.given.bits = "all"
-        words = ["hdl", *files, *way_words(way_of(self.given)), "--module", os.path.basename(module), "--out", self.folder]
+        words = ["hdl", *files, *way_words(self.way), "--module", os.path.basename(module), "--out", self.folder]
         if not script:
             self.steps.make("verilog", words, files, [f"{module}.v", f"{module}_bench.v"], lambda: self.must(words))
             return [], [shlex.join(["flow", *words])]
@@ -304,6 +287,14 @@ class Build:
         shown = [*made, f"{self.shown(run)} > {self.path('_run.txt')}", f"{shlex.join(['flow', *words])} < {self.path('_run.txt')}"]
         return [check], [*shown, f"{shlex.join(['flow', *wave])} < {self.path('_run.txt')} > {self.path('.vcd')}"]
 
+    def way_of_script(self, script: str) -> Way:
+        """How bits are changed in a run: an upset may be of any bit, so each one is writable then."""
+        if self.way.bits == "all" or not any(line.tokens[0] == "upset" for line in logical_lines(read_text(script))):
+            return self.way
+        if self.given.bits:
+            self.steps.say(f"--bits {self.given.bits} becomes --bits all, since the script has upsets, which may be of any bit")
+        return replace(self.way, bits="all")
+
     def simulated(self, words: list[str], printed: str) -> list[str]:
         """Creates the Verilog, and says what the simulation showed."""
         what, by = "the Verilog plays the script as the run did", "Icarus Verilog"
@@ -312,7 +303,7 @@ class Build:
             return [what, by, "Icarus Verilog isn't there", "missing"]
         try:
             status, told, fault = self.flow(words, printed, self.given.seconds)
-        except Fault as stopped:
+        except Undecided as stopped:
             self.must([it for it in words if it != "--simulate"], printed)
             return [what, by, str(stopped), "open"]
         if status:
@@ -350,18 +341,18 @@ class Build:
 
     def compared_mapping(self) -> tuple[list[list[str]], list[str]]:
         """The mapped netlist against the prepared one, by ABC."""
-        words = ["check", self.path(".blif"), self.path("_t.blif"), "--pack", self.path(".ppc")]
-        return self.comparison("check of the mapping", "the mapped netlist with its pack is the prepared netlist, for all values of the parameters", words)
+        pair = Pair(self.path(".blif"), self.path("_t.blif"), pack=self.path(".ppc"))
+        return self.comparison("check of the mapping", "the mapped netlist with its pack is the prepared netlist, for all values of the parameters", pair)
 
     def compared_values(self) -> tuple[list[list[str]], list[str]]:
         """The netlist for the initial values against the prepared one, by ABC."""
-        words = ["check", self.path(".blif"), self.path("_spec.blif"), "--params", self.path(".par")]
-        return self.comparison("check of the specialised netlist", "the netlist for the initial values is the prepared netlist with these values", words)
+        pair = Pair(self.path(".blif"), self.path("_spec.blif"), params=self.path(".par"))
+        return self.comparison("check of the specialised netlist", "the netlist for the initial values is the prepared netlist with these values", pair)
 
-    def comparison(self, name: str, what: str, words: list[str]) -> tuple[list[list[str]], list[str]]:
+    def comparison(self, name: str, what: str, pair: Pair) -> tuple[list[list[str]], list[str]]:
         """A comparison by ABC, as a step."""
-        check = self.steps.make(name, [words, self.given.seconds, self.built.versions.get("ABC", "")], words[1:3] + words[4:], [], lambda: self.compared(what, words))
-        return [check], [shlex.join(["flow", *words])]
+        check = self.steps.make(name, [pair.words, self.given.seconds, self.built.versions.get("ABC", "")], pair.files, [], lambda: self.compared(what, pair))
+        return [check], [shlex.join(["flow", *pair.words])]
 
     def prepared(self) -> tuple[list[list[str]], list[str]]:
         """What showed that the prepared netlist is the source, without a call."""
@@ -375,27 +366,16 @@ class Build:
             return [what, f"{compared}, flip-flop by flip-flop" if compared == WHOLE else compared, "equal", "ok"]
         return [what, "nobody", "one preparation was used, without a comparison" if self.is_verilog else "it is the same file", "open" if self.is_verilog else "ok"]
 
-    def compared(self, what: str, words: list[str]) -> list[str]:
+    def compared(self, what: str, pair: Pair) -> list[str]:
         """What a comparison says; a difference is a fault."""
         if tools.find(tools.ABC) is None:
             return [what, "ABC", "ABC isn't there", "missing"]
-        status, told, fault = self.flow([*words, "--seconds", str(self.given.seconds)])
-        if status and not any(part in fault for part in ("didn't decide", "was stopped after")):
-            raise Fault(fault.split(": ", 1)[-1])
-        return [what, "ABC", fault.split(": ", 1)[-1], "open"] if status else [what, "ABC", told.strip(), "ok"]
+        try:
+            return [what, "ABC", compare(pair, self.given.seconds), "ok"]
+        except Undecided as why:
+            return [what, "ABC", str(why), "open"]
 
 
-def by_abc(abc: str, source: str, words: str) -> Callable[[int, str], Sizes]:
+def by_abc(abc: str, source: str, words: str, seconds: float) -> Callable[[int, str], Sizes]:
     """The commands by which ABC maps a netlist, with arguments of its mapper."""
-    return lambda k, folder: sizes_by_abc(abc, k, source, words[2:], folder)
-
-
-def told_of(found: Optional[Found], summary: str) -> dict[str, Any]:
-    """What the page shows of the choice of a preparation."""
-    if found is None:
-        return {"summary": summary}
-    by_abc = found.best_by_abc()
-    rows = [{**asdict(it), "front": it in found.front, "file": ""} for it in found.results]
-    failures = [[it.name, it.failure] for it in found.failures] + [[it.name, it.parts_left_out] for it in found.trials if it.parts_left_out]
-    abc = [by_abc[0], by_abc[1], *by_abc[2].cells()] if by_abc else []
-    return {"summary": summary, "best": {**asdict(found.best), "file": ""}, "rows": rows, "failures": failures, "abc": abc, "tried": len(found.trials), "compared": found.best_trial.compared}
+    return lambda k, folder: sizes_by_abc(abc, k, source, words[2:], folder, seconds)

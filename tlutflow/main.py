@@ -11,6 +11,7 @@ from typing import Any, NoReturn, Optional
 
 from tlutflow.commands import bits, build, check, compare, complete, device, draw, explain, hdl, params, prepare, report, script, show, stream, verilog, wave
 from tlutflow.faults import Fault
+from tlutflow.processes import stoppable
 
 COMMANDS: list[ModuleType] = [build, verilog, prepare, params, script, show, report, draw, wave, hdl, stream, device, check, compare, bits, explain, complete]
 
@@ -86,7 +87,8 @@ def main(words: Optional[list[str]] = None) -> int:
             stream.reconfigure(encoding="utf-8", errors="surrogateescape")
     given = parser().parse_args(words)
     try:
-        status = int(given.run(given))
+        with stoppable():
+            status = int(given.run(given))
         sys.stdout.flush()
         return status
     except Fault as fault:

@@ -7,13 +7,17 @@ from dataclasses import dataclass
 
 from tlutflow import tools
 from tlutflow.fault_line import parse_fault
-from tlutflow.faults import Fault
+from tlutflow.faults import Fault, Undecided
 from tlutflow.netlist import Cover, Library, read_library
 from tlutflow.refusals import refusal
 from tlutflow.runs.output import parse_header
+from tlutflow.text import logical_lines, read_text
 
 # The files of a mapping whose sizes were taken: its template and its pack.
 MAPPED = ("template.blif", "bits.ppc")
+# What stands for the sizes by a program that takes too long, and the processor time that ABC may take if nothing else is said.
+TIMEOUT = "timeout"
+SECONDS = 600.0
 
 
 @dataclass(frozen=True)
@@ -46,18 +50,27 @@ def sizes_by_tlut(program: str, size: int, netlist: str, parameters: str, folder
     raise refusal(told, dict(zip(files, (netlist, parameters))))
 
 
-def sizes_by_abc(abc: str, size: int, netlist: str, words: str, folder: str) -> Sizes:
+def sizes_by_abc(abc: str, size: int, netlist: str, words: str, folder: str, seconds: float = SECONDS) -> Sizes:
     """The sizes after mapping a netlist by ABC's `if` with these arguments. The netlist's path is relative to the folder, or absolute."""
-    name = os.path.relpath(os.path.join(folder, netlist), folder)
+    name, made = os.path.relpath(os.path.join(folder, netlist), folder), f"{folder}/abc.blif"
     commands = f"read_blif {name}; strash; if -K {size}{words}; write_blif abc.blif"
-    ran = tools.run([abc, "-q", commands], folder)
-    made = f"{folder}/abc.blif"
-    if not os.path.exists(made):
-        told = (ran.stdout + ran.stderr).strip().splitlines() or ["it said nothing"]
-        raise Fault(f"ABC didn't map the netlist: {told[0]}")
-    found = sizes_of(read_library(made))
+    try:
+        ran = tools.run_abc(abc, commands, folder, seconds)
+    except Undecided:
+        return Sizes(refusal=TIMEOUT)
+    if ran.status or not os.path.exists(made):
+        raise tools.abc_failure(ran)
+    found = sizes_of(whole_library(made))
     os.remove(made)
     return found
+
+
+def whole_library(path: str) -> Library:
+    """A netlist that another program wrote. A fault if its end is missing."""
+    last = [line.tokens for line in logical_lines(read_text(path))][-1:]
+    if last != [[".end"]]:
+        raise Fault(f"{path}: its last line isn't .end, so it wasn't written to its end")
+    return read_library(path)
 
 
 def is_table(cover: Cover) -> bool:

@@ -2,7 +2,6 @@
 
 from __future__ import annotations
 
-import contextlib
 import math
 import os
 import re
@@ -17,6 +16,7 @@ from dataclasses import dataclass
 from typing import IO, Optional
 
 from tlutflow.faults import Fault, Undecided
+from tlutflow.processes import PROGRAMS, end, kill
 
 TOP = os.path.dirname(os.path.dirname(os.path.realpath(__file__)))
 YOSYS = ("yosys",)
@@ -45,6 +45,8 @@ VERSIONS = (("Yosys", YOSYS, ["-V"]), ("ABC", ABC, ["-q", "version"]), ("Graphvi
 # Runs a command with a limit in seconds, and how it ends where the limit is reached: by SIGXCPU or by SIGKILL.
 LIMITED = ["sh", "-c", 'ulimit -t "$1" || exit 1; shift; exec "$@"', "sh"]
 STOPPED = (-24, -9)
+# Seconds after which a program isn't waited for that is to print its version.
+LONGEST_VERSION = 20.0
 # Where the wrapper has the program, in the repository and where it is installed.
 BUILT = ("crates/tlut/out/tlut", "program/tlut")
 
@@ -54,7 +56,7 @@ def find(names: tuple[str, ...]) -> Optional[str]:
     for name in names:
         path = shutil.which(name)
         if path:
-            return path
+            return os.path.abspath(path)
     return None
 
 
@@ -74,31 +76,26 @@ def run(
     variables: Optional[dict[str, str]] = None,
 ) -> subprocess.CompletedProcess[str]:
     """Runs a program to its end with a text on its standard input, and returns its status and what it printed on its outputs, as text.
-    With a limit in seconds, what the program has called is stopped with it."""
-    pipe, alone = subprocess.PIPE, seconds is not None
-    try:
-        process = subprocess.Popen(
-            words, cwd=folder, stdin=pipe, stdout=pipe, stderr=pipe, text=True, errors="surrogateescape", env=variables, start_new_session=alone
-        )
-    except OSError as error:
-        raise Fault(f"{words[0]}: {error.strerror or error}") from None
+    After a limit in seconds it is stopped with what it has called, and nothing is known."""
+    pipe = subprocess.PIPE
+    how = {"cwd": folder, "stdin": pipe, "stdout": pipe, "stderr": pipe, "text": True, "errors": "surrogateescape", "env": variables}
+    process = PROGRAMS.start(words, seconds is not None, **how)
     with process:
         try:
             told, said = process.communicate(given, seconds)
         except BaseException as ended:
-            stop(process, alone)
+            end(process)
             if isinstance(ended, subprocess.TimeoutExpired):
-                raise Fault(f"{os.path.basename(words[0])} was stopped after {seconds:g} seconds") from None
+                raise Undecided(late(words, seconds or 0)) from None
             raise
+        finally:
+            PROGRAMS.ended(process)
     return subprocess.CompletedProcess(words, process.returncode, told, said)
 
 
-def stop(process: subprocess.Popen[str], is_group: bool) -> None:
-    """Kills a program, and those that it has called if they are its group."""
-    with contextlib.suppress(ProcessLookupError, PermissionError):
-        if is_group:
-            os.killpg(process.pid, signal.SIGKILL)
-        process.kill()
+def late(words: list[str], seconds: float) -> str:
+    """What is said of a program that takes longer than a limit."""
+    return f"{os.path.basename(words[0])} was stopped after {seconds:g} seconds"
 
 
 @dataclass(frozen=True)
@@ -119,7 +116,7 @@ def run_abc(abc: str, commands: str, folder: str, seconds: float) -> AbcRun:
         words = [*LIMITED, str(limit_of(seconds)), abc, "-q", commands]
         status, processor = measured(words, folder, 60 + 20 * seconds, out, err)
         told = "".join(text_of(file) for file in (out, err))
-    if status in STOPPED:
+    if status in STOPPED and processor > limit_of(seconds) - 1:
         raise Undecided(stopped(seconds))
     return AbcRun(status, told, processor, time.monotonic() - begun)
 
@@ -143,28 +140,28 @@ def stopped(seconds: float) -> str:
 
 def measured(words: list[str], folder: str, seconds: float, out: IO[bytes], err: IO[bytes]) -> tuple[int, float]:
     """Runs a program to its end, its outputs into files, and returns its status and the processor time that it took."""
-    late = threading.Event()
-    try:
-        process = subprocess.Popen(words, cwd=folder, stdin=subprocess.DEVNULL, stdout=out, stderr=err)
-    except OSError as error:
-        raise Fault(f"{words[0]}: {error.strerror or error}") from None
+    is_late = threading.Event()
+    process = PROGRAMS.start(words, True, cwd=folder, stdin=subprocess.DEVNULL, stdout=out, stderr=err)
 
     def stop() -> None:
-        late.set()
-        process.kill()
+        is_late.set()
+        kill(process, signal.SIGKILL)
 
     timer = threading.Timer(seconds, stop)
+    timer.daemon = True
     timer.start()
     try:
         _, status, usage = os.wait4(process.pid, 0)
+        process.returncode = os.waitstatus_to_exitcode(status)
     except BaseException:
-        process.kill()
+        kill(process, signal.SIGKILL)
+        process.wait()
         raise
     finally:
         timer.cancel()
-    process.returncode = os.waitstatus_to_exitcode(status)
-    if late.is_set():
-        raise Undecided(f"{os.path.basename(words[0])} was stopped after {seconds:g} seconds")
+        PROGRAMS.ended(process)
+    if is_late.is_set():
+        raise Undecided(late(words, seconds))
     return process.returncode, usage.ru_utime + usage.ru_stime
 
 
@@ -202,6 +199,9 @@ def versions(program: str) -> dict[str, str]:
 
 def first_line(words: list[str]) -> str:
     """The first line that a program prints. The program without its wrapper has no version, and prints its usage."""
-    ran = run(words)
+    try:
+        ran = run(words, seconds=LONGEST_VERSION)
+    except Fault:
+        return "unknown"
     lines = [line.strip() for line in (ran.stdout + ran.stderr).splitlines() if line.strip()]
     return lines[0] if lines and not lines[0].startswith("tlut: usage:") else "unknown"

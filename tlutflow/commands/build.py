@@ -5,7 +5,8 @@ from __future__ import annotations
 import argparse
 from dataclasses import dataclass
 
-from tlutflow.building import Build, Built
+from tlutflow.building import Build
+from tlutflow.built import Built
 from tlutflow.circuit import Circuit, read_circuit
 from tlutflow.commands.hdl import add_device_words
 from tlutflow.commands.prepare import add_shared_words, check_limits, settle

@@ -3,10 +3,12 @@
 from __future__ import annotations
 
 import argparse
+from dataclasses import dataclass
+from typing import Optional
 
 from tlutflow import tools
 from tlutflow.abc_form import abc_text, with_functions
-from tlutflow.faults import Fault
+from tlutflow.faults import Fault, Undecided
 from tlutflow.netlist import Library, read_library
 from tlutflow.pack import read_pack
 from tlutflow.parameters import interface_of, read_parameters
@@ -46,6 +48,27 @@ def add_words(parser: argparse.ArgumentParser) -> None:
     parser.add_argument("--seconds", type=float, default=600, help="processor time that ABC may take (default: 600)")
 
 
+@dataclass(frozen=True)
+class Pair:
+    """What is compared: a source and a written netlist, and the parameter list of `spec` or the pack of `map`."""
+
+    source: str
+    written: str
+    params: Optional[str] = None
+    pack: Optional[str] = None
+
+    @property
+    def files(self) -> list[str]:
+        """The files that are read."""
+        return [self.source, self.written, *filter(None, (self.params, self.pack))]
+
+    @property
+    def words(self) -> list[str]:
+        """The call of `flow` that compares them."""
+        options = {"--params": self.params, "--pack": self.pack}
+        return ["check", self.source, self.written, *(word for option, file in options.items() if file for word in (option, file))]
+
+
 def fixed_inputs(source: Library, there: list[str], values: dict[str, int]) -> dict[str, int]:
     """The inputs of the source that the other netlist doesn't have, with their values. A clock net that is gone is 0."""
     fixed = {}
@@ -57,7 +80,7 @@ def fixed_inputs(source: Library, there: list[str], values: dict[str, int]) -> d
     return fixed
 
 
-def texts(given: argparse.Namespace) -> tuple[Library, str, str]:
+def texts(given: Pair) -> tuple[Library, str, str]:
     """The source, its text for ABC, and that of the written netlist."""
     source, written = read_library(given.source), read_library(given.written)
     values = read_parameters(given.params) if given.params else {}
@@ -80,11 +103,31 @@ def verdict(told: str) -> str:
     return "open"
 
 
-def extent(given: argparse.Namespace) -> str:
+def extent(given: Pair) -> str:
     """For which values of the parameters the netlists were compared."""
     if given.pack:
         return f" under all values of {count(len(read_pack(given.pack).parameters), 'parameter')}"
     return " under the listed values" if given.params else ""
+
+
+def compare(given: Pair, seconds: float) -> str:
+    """Compares two netlists by ABC, and says that they are equal. A fault if they differ or ABC fails, and Undecided if it decides nothing."""
+    abc = tools.need(tools.ABC, "a comparison of netlists")
+    source, left, right = texts(given)
+    method = "dsec" if source.flat_latches() else "cec"
+    with temporary_folder() as folder:
+        write_text(f"{folder}/source.blif", left)
+        write_text(f"{folder}/written.blif", right)
+        ran = tools.run_abc(abc, f"{method} source.blif written.blif", folder, seconds)
+    if ran.status:
+        raise tools.abc_failure(ran)
+    told = [line.strip() for line in ran.told.splitlines() if line.strip()] or ["it printed nothing"]
+    outcome = verdict("\n".join(told))
+    if outcome == "different":
+        raise Fault(f"{given.written} differs from {given.source} (ABC {method}): {told[-1]}")
+    if outcome == "open":
+        raise Undecided(f"ABC {method} didn't decide it: {told[-1]}")
+    return f"equal{extent(given)} (ABC {method})"
 
 
 def check_run(given: argparse.Namespace) -> int:
@@ -118,20 +161,6 @@ def run(given: argparse.Namespace) -> int:
         return check_run(given)
     if not given.written:
         raise Fault("give WRITTEN, or --script with the output of a run on stdin")
-    abc = tools.need(tools.ABC, "a comparison of netlists")
-    source, left, right = texts(given)
-    latches = source.flat_latches()
-    method = "dsec" if latches else "cec"
-    with temporary_folder() as folder:
-        write_text(f"{folder}/source.blif", left)
-        write_text(f"{folder}/written.blif", right)
-        with patience(given.prog, f"ABC {method}"):
-            ran = tools.run_abc(abc, f"{method} source.blif written.blif", folder, given.seconds)
-    told = [line.strip() for line in ran.told.splitlines() if line.strip()]
-    outcome = verdict("\n".join(told))
-    if outcome == "equal":
-        print(f"equal{extent(given)} (ABC {method})")
-        return 0
-    if outcome == "different":
-        raise Fault(f"{given.written} differs from {given.source} (ABC {method}): {told[-1]}")
-    raise Fault(f"ABC {method} didn't decide it: {told[-1] if told else 'it said nothing'}")
+    with patience(given.prog, "ABC"):
+        print(compare(Pair(given.source, given.written, given.params, given.pack), given.seconds))
+    return 0

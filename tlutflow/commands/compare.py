@@ -10,7 +10,7 @@ from typing import Callable
 from tlutflow import tools
 from tlutflow.abc_form import abc_text
 from tlutflow.faults import Fault
-from tlutflow.mappings import Sizes, sizes_by_abc, sizes_by_tlut
+from tlutflow.mappings import SECONDS, Sizes, sizes_by_abc, sizes_by_tlut
 from tlutflow.netlist import read_library
 from tlutflow.parameters import read_parameters
 from tlutflow.patience import patience
@@ -27,7 +27,7 @@ DESCRIPTION = """Maps a netlist at each K, and prints the sizes in one table:
   if, if -a   by ABC's mapper with the parameters as inputs, for depth and for area, over the same graph
 
 A LUT of m inputs has 2^m bits. If tlut refuses the netlist for a limit, its code is printed, for example L4:
-too many cuts of a node, which is no limit of tlut --compact."""
+too many cuts of a node, which is no limit of tlut --compact. If ABC takes longer than --seconds, that is printed as timeout."""
 EXAMPLE = """example:
   flow compare fir.blif fir.par --k 4 --k 6"""
 
@@ -36,6 +36,7 @@ def add_words(parser: argparse.ArgumentParser) -> None:
     parser.add_argument("netlist", metavar="NETLIST", help="the netlist, in BLIF or AIGER")
     parser.add_argument("params", metavar="PARAMS", help="its parameter list")
     parser.add_argument("--k", metavar="K", type=int, choices=range(2, 7), action="append", help="LUT inputs, 2 to 6; repeatable (default: all)")
+    parser.add_argument("--seconds", type=float, default=SECONDS, help="processor time that ABC may take for one size (default: 600)")
     parser.add_argument("-j", dest="jobs", metavar="N", type=int, default=0, help="how many run at a time (default: one for each processor)")
     parser.add_argument("--tlut", metavar="PATH", help="the program (default: that of the variable TLUT, or the one next to this one)")
 
@@ -44,7 +45,7 @@ def columns(given: argparse.Namespace, program: str, abc: str, folder: str) -> l
     """The calls whose sizes are the columns, each with K and a folder of its own."""
     calls = [(given.params, ()), (given.params, ("--compact",)), (f"{folder}/none.par", ())]
     by_tlut = [lambda k, room, it=it: sizes_by_tlut(program, k, given.netlist, it[0], room, *it[1]) for it in calls]
-    return [*by_tlut, *(lambda k, room, it=it: sizes_by_abc(abc, k, f"{folder}/source.blif", it, room) for it in ("", " -a"))]
+    return [*by_tlut, *(lambda k, room, it=it: sizes_by_abc(abc, k, f"{folder}/source.blif", it, room, given.seconds) for it in ("", " -a"))]
 
 
 def sizes(given: argparse.Namespace, program: str, abc: str, folder: str) -> dict[int, list[Sizes]]:
@@ -67,8 +68,8 @@ def sizes(given: argparse.Namespace, program: str, abc: str, folder: str) -> dic
 
 
 def run(given: argparse.Namespace) -> int:
-    if given.jobs < 0:
-        raise Fault("-j is at least 1")
+    if given.seconds <= 0 or given.jobs < 0:
+        raise Fault("--seconds is more than 0, and -j at least 1")
     program, abc = tools.tlut(given.tlut), tools.need(tools.ABC, "a comparison with ABC")
     if not os.path.exists(given.netlist):
         raise Fault(f"{given.netlist}: no such file")

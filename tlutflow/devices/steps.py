@@ -7,16 +7,17 @@ import os
 from typing import Any, Callable, Optional
 
 from tlutflow import tools
-from tlutflow.commands.hdl import way_of, way_words
+from tlutflow.commands.hdl import way_words
 from tlutflow.commands.verilog import sources_of
 from tlutflow.devices.cells import Cells
 from tlutflow.devices.count import best_of, compared_text, count_of_circuit, count_of_registers, counts, is_measurable, source_of_netlist, source_of_verilog
 from tlutflow.devices.families import FAMILIES, costs_text, told
-from tlutflow.faults import Fault
+from tlutflow.faults import Fault, Undecided
 from tlutflow.parameters import read_parameters
 from tlutflow.plain_names import PlainNames, work_folder
 from tlutflow.preparing.trials import RULE_NAMES
 from tlutflow.steps import Steps
+from tlutflow.verilog.hdl import Way
 
 # Runs another subcommand with a text on its standard input, within some seconds: its status and its outputs.
 Flow = Callable[[list[str], str, Optional[float]], tuple[int, str, str]]
@@ -45,11 +46,11 @@ class DeviceSteps:
         self.found["costs"] = costs_text(family, {int(k): min(cells[0] for cells in at.values()) for k, at in found.items() if at})
         return rule
 
-    def count(self, source: str, is_verilog: bool, rule: str) -> dict[str, Any]:
+    def count(self, source: str, is_verilog: bool, rule: str, way: Way) -> dict[str, Any]:
         """What was chosen, and what Yosys counts of the circuit and of its source with its parameters in registers. `source` is the netlist,
         or the file of the ports of a design in Verilog."""
         given, family, found = self.given, self.family, self.found
-        what = f"K {given.k}, {RULE_NAMES[rule]}, {' '.join(way_words(way_of(given)))} ({found['costs']})"
+        what = f"K {given.k}, {RULE_NAMES[rule]}, {' '.join(way_words(way))} ({found['costs']})"
         found["told"] = told(family, what)
         if not is_measurable(source):
             return found
@@ -71,19 +72,19 @@ class DeviceSteps:
                 read = source_of_verilog(names.sources(sources_of(self.given)), source) if is_verilog else source_of_netlist(source, names.path(source))
                 return count_of_registers(read, f"{self.base}.par", self.family)
 
-    def played(self, flow: Flow, script: str, output: str) -> list[list[str]]:
+    def played(self, flow: Flow, script: str, output: str, way: Way) -> list[list[str]]:
         """Whether the synthesised netlist plays the run of a script, as tlut reads it."""
         made = f"{self.base}_device.v"
         if not (os.path.exists(made) and self.family.models and tools.find(tools.ICARUS) and "rows" in self.found):
             return []
         given, what = self.given, "the netlist that Yosys synthesised for the device plays the script as the run did"
-        words = ["hdl", f"{self.base}_t.blif", f"{self.base}.ppc", *way_words(way_of(given)), "--module", os.path.basename(self.module)]
+        words = ["hdl", f"{self.base}_t.blif", f"{self.base}.ppc", *way_words(way), "--module", os.path.basename(self.module)]
         words += ["--script", script, "--simulate", "--netlist", made, "--netlist", tools.yosys_file(self.family.models)]
 
         def work() -> list[str]:
             try:
                 status, shown, fault = flow(words, output, given.seconds)
-            except Fault as stopped:
+            except Undecided as stopped:
                 return [what, "Icarus Verilog", str(stopped), "open"]
             if status:
                 raise Fault(fault.split(": ", 1)[-1])

@@ -145,7 +145,7 @@ class Found:
 
     def best_by_abc(self) -> Optional[tuple[str, str, Sizes]]:
         """The best that ABC's mapper makes of all preparations, with the preparation and ABC's words."""
-        found = [(trial.name, words, it) for trial in self.trials for words, it in trial.by_abc.items()]
+        found = [(trial.name, words, it) for trial in self.trials for words, it in trial.by_abc.items() if not it.refusal]
 
         def key(it: tuple[str, str, Sizes]) -> tuple[int, int]:
             """What is compared. ABC has no tunable bits, so `changes` is as `depth` here."""
@@ -261,7 +261,7 @@ class Workshop:
             return {}
         logic = logic_of(made)
         write_text(f"{room}/inputs.blif", logic_text(made, logic.inputs, logic.roots))
-        return {words: sizes_by_abc(self.abc, self.task.k, "inputs.blif", words[2:], room) for words in ("if", "if -a")}
+        return {words: sizes_by_abc(self.abc, self.task.k, "inputs.blif", words[2:], room, self.task.seconds) for words in ("if", "if -a")}
 
     def finish(self, name: str, prepared: Prepared) -> Trial:
         """Checks and maps what a preparation made."""

@@ -7,7 +7,7 @@ from html import escape
 from typing import Any, Iterable, Optional
 
 from tlutflow.build_files import page_text
-from tlutflow.building import Built
+from tlutflow.built import Built
 from tlutflow.buses import buses_of
 from tlutflow.changes import EXHAUSTIVE, spread
 from tlutflow.circuit import Circuit
