@@ -8,7 +8,7 @@ from tlutflow.bus import Bus
 from tlutflow.devices.cells import Cells, counted, read_cells
 from tlutflow.devices.families import Family
 from tlutflow.text import write_text
-from tlutflow.verilog.names import free_name, identifier
+from tlutflow.verilog.names import exact_identifier, free_name
 from tlutflow.verilog.recipe import Step, quoted
 from tlutflow.yosys import run_yosys
 
@@ -23,12 +23,12 @@ def held_text(top: str, ports: dict[str, tuple[str, Bus]], parameters: dict[str,
     names = {word: free_name(f"cfg_{word}", ports) for word in ("clk", "we", "in", "kept")}
     total = sum(bus.width for _, bus in kept)
     start = "".join(str(parameters[net]) for _, bus in reversed(kept) for net in reversed(bus.nets))
-    wires = [f".{identifier(name)}({identifier(name)})" for name in own]
+    wires = [f".{exact_identifier(name)}({exact_identifier(name)})" for name in own]
     first = 0
     for name, bus in kept:
-        wires.append(f".{identifier(name)}({names['kept']}[{first + bus.width - 1}:{first}])")
+        wires.append(f".{exact_identifier(name)}({names['kept']}[{first + bus.width - 1}:{first}])")
         first += bus.width
-    heads = [f"{direction} {bus.span} {identifier(name)}" for name, (direction, bus) in own.items()]
+    heads = [f"{direction} {bus.span} {exact_identifier(name)}" for name, (direction, bus) in own.items()]
     shifted = f"{{{names['in']}, {names['kept']}[{total - 1}:1]}}" if total > 1 else names["in"]
     chain = [
         f"reg [{total - 1}:0] {names['kept']} = {total}'b{start};",
@@ -37,7 +37,7 @@ def held_text(top: str, ports: dict[str, tuple[str, Bus]], parameters: dict[str,
     lines = [
         f"module {HELD} ({', '.join([*heads, *(f'input {names[it]}' for it in ('clk', 'we', 'in'))])});",
         *(chain if kept else []),
-        f"{identifier(top)} circuit ({', '.join(wires)});",
+        f"{exact_identifier(top)} circuit ({', '.join(wires)});",
         "endmodule",
     ]
     return "\n".join(lines) + "\n"

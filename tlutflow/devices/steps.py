@@ -18,9 +18,14 @@ from tlutflow.plain_names import PlainNames, work_folder
 from tlutflow.preparing.trials import RULE_NAMES
 from tlutflow.steps import Steps
 from tlutflow.verilog.hdl import Way
+from tlutflow.verilog.names import UnwritableName
 
 # Runs another subcommand with a text on its standard input, within some seconds: its status and its outputs.
 Flow = Callable[[list[str], str, Optional[float]], tuple[int, str, str]]
+
+
+# What stands for the comparison if the source can't be counted.
+NO_SOURCE = "the source has names that Verilog can't hold, so Yosys counts nothing of it"
 
 
 class DeviceSteps:
@@ -61,16 +66,19 @@ class DeviceSteps:
         words = [*by, list(read_parameters(parameters)), given.set, given.define, given.include]
         theirs = self.steps.make("registers", words, given.files, [], lambda: self.registers(source, is_verilog))
         found["rows"] = [["mapped", ours], *theirs]
-        found["text"] = compared_text(family, Cells(*ours), [Cells(*row) for _, row in theirs])
+        found["text"] = compared_text(family, Cells(*ours), [Cells(*row) for _, row in theirs]) if theirs else NO_SOURCE
         return found
 
     def registers(self, source: str, is_verilog: bool) -> list[list[Any]]:
-        """What Yosys counts of the source with its parameters in registers."""
+        """What Yosys counts of the source with its parameters in registers; nothing if it has names that no Verilog can hold."""
         with work_folder() as room:
             names = PlainNames(f"{room}/names")
             with names.told():
                 read = source_of_verilog(names.sources(sources_of(self.given)), source) if is_verilog else source_of_netlist(source, names.path(source))
-                return count_of_registers(read, f"{self.base}.par", self.family)
+                try:
+                    return count_of_registers(read, f"{self.base}.par", self.family)
+                except UnwritableName:
+                    return []
 
     def played(self, flow: Flow, script: str, output: str, way: Way) -> list[list[str]]:
         """Whether the synthesised netlist plays the run of a script, as tlut reads it."""

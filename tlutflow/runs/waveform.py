@@ -18,6 +18,8 @@ from tlutflow.runs.output import Output, Played
 from tlutflow.runs.script import Event, is_line_of
 
 SLOT = 10
+# What ends, begins or declares something in a dump.
+KEYWORDS = {f"${it}" for it in "comment date dumpall dumpoff dumpon dumpvars end enddefinitions scope timescale upscope var version".split()}
 # The characters of a variable's short name.
 FIRST, LAST = 33, 126
 
@@ -85,8 +87,9 @@ def code_of(number: int) -> str:
 
 
 def word_of(name: str) -> str:
-    """A name as one token of printable characters."""
-    return "".join(it if 32 < ord(it) < 127 else "_" for it in name)
+    """A name as one token of printable characters, which isn't a keyword of the dump."""
+    word = "".join(it if 32 < ord(it) < 127 else "_" for it in name)
+    return f"\\{word}" if word in KEYWORDS else word
 
 
 def declaration(signal: Signal) -> str:

@@ -9,6 +9,12 @@ from typing import Iterable, Optional
 from tlutflow.bus import Bus
 from tlutflow.circuit import Circuit
 from tlutflow.faults import Fault
+from tlutflow.text import ENCODING
+
+
+class UnwritableName(Fault):
+    """Verilog can't hold a name as it is."""
+
 
 SIMPLE = re.compile(r"[A-Za-z_][A-Za-z0-9_]*")
 KEYWORDS = set(
@@ -32,13 +38,30 @@ CONFIG = (
 BEGINNINGS = ("row", "end", "token", "between")
 
 
+# What no escaped identifier can hold: Verilog has printable characters only, and its readers take some of them for a directive, a string,
+# a comment or an attribute. A `%` before two digits is what stands for such a character.
+CODED = re.compile(r"""[^!-~]|[`"]|(?<=[/*])[/*]|^\*|(?<=\()\*|\*(?=\))|%(?=[0-9A-F]{2})""")
+
+
 def identifier(name: str) -> str:
-    """A name as an identifier, escaped if necessary."""
+    """A name as an identifier, escaped if necessary. What Verilog can't hold is `%` and the hexadecimal digits of its bytes. So no two names
+    have the same identifier."""
     if SIMPLE.fullmatch(name) and name not in KEYWORDS:
         return name
-    if not all(32 < ord(it) < 127 for it in name):
-        raise Fault(f"the name {name!r} can't be written in Verilog, which allows printable characters only")
-    return f"\\{name} "
+    return f"\\{CODED.sub(coded, name)} "
+
+
+def coded(found: re.Match[str]) -> str:
+    """The bytes of some characters in hexadecimal digits."""
+    return "".join(f"%{byte:02X}" for byte in found[0].encode(**ENCODING))
+
+
+def exact_identifier(name: str) -> str:
+    """A name as an identifier for Yosys that is that very name."""
+    made = identifier(name)
+    if made not in (name, f"\\{name} "):
+        raise UnwritableName(f"the name {name!r} can't be written in Verilog, which allows printable characters only")
+    return made
 
 
 def module_name(given: Optional[str], circuit: str) -> str:
