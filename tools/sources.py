@@ -131,10 +131,19 @@ def note(name: str, sources: str, read: list[str], begun: int) -> None:
     put(f"{TOP}/{out_of(name)}/sources", f"{listed}\0".encode("utf-8", "surrogateescape"), begun)
 
 
+def is_program(path: str) -> bool:
+    """Whether a file can be run as a program or a script. A shell runs any other one, an empty one too, as commands of its own."""
+    try:
+        with open(path, "rb") as file:
+            return os.access(path, os.X_OK) and file.read(4).startswith((b"\x7fELF", b"#!"))
+    except OSError:
+        return False
+
+
 def is_current(name: str) -> bool:
     """Whether a program was made from the sources as they are. A program that another command built has no record: times decide, once."""
     folder = f"{TOP}/{out_of(name)}"
-    if not os.access(f"{folder}/{name}", os.X_OK):
+    if not is_program(f"{folder}/{name}"):
         return False
     begun = tick(folder) if os.access(folder, os.W_OK) else None
     crates = below(read_lines()[1], [name])

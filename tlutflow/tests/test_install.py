@@ -44,6 +44,13 @@ class Install(Checkout):
             ran = self.call(f"{self.prefix}/bin/tlut", *words)
             self.assertEqual((ran.returncode, ran.stderr.count("\n")), (2, 1), words)
 
+    def test_an_empty_program_isnt_run(self):
+        self.install()
+        with open(f"{self.prefix}/lib/tlut/program/tlut", "wb"):
+            pass
+        ran = self.call(f"{self.prefix}/bin/tlut", "x")
+        self.assertEqual((ran.returncode, ran.stdout, ran.stderr.count("is missing or empty")), (1, "", 1))
+
     def test_pages_and_completion(self):
         self.install()
         pages = {

@@ -13,6 +13,18 @@ class Wrapper(Checkout):
             ran = self.call(f"{self.top}/tlut", *words)
             self.assertEqual((ran.returncode, ran.stdout, ran.stderr), (7, "".join(f"<{word}>" for word in words), "fault"))
 
+    def test_an_empty_program_is_none(self):
+        """One that was emptied in place is built again, which the toolchain that stands here refuses."""
+        os.makedirs(f"{self.folder}/bin")
+        path = self.put_rt("#!/bin/sh\nexit 1\n")
+        self.assertEqual(self.call(f"{self.top}/tlut", "x", PATH=path).returncode, 7)
+        with open(f"{self.top}/crates/tlut/out/tlut", "wb"):
+            pass
+        for _ in range(2):
+            ran = self.call(f"{self.top}/tlut", "x", PATH=path)
+            self.assertEqual((ran.returncode, ran.stdout), (1, ""))
+            self.assertIn("tlut: ", ran.stderr)
+
     def test_the_limit_of_a_file_is_a_fault_of_writing(self):
         """The program inherits that the signal at the limit is ignored, also where the words are wrong."""
         self.put_program("tlut", "#!/bin/sh\nulimit -f 0\nprintf x > grown || exit 6\n")
