@@ -283,9 +283,10 @@ class Build:
         check = self.steps.make("verilog", [words, printed, self.given.seconds], [*files, script], writes, lambda: self.simulated(words, printed))
         wave = ["wave", *ports, script]
         self.steps.make("waveform", [printed], [*ports, script], [self.path(".vcd")], lambda: write_text(self.path(".vcd"), self.must(wave, printed)))
-        made = [] if script == self.given.script else [f"{shlex.join(['flow', 'script', *ports])} < {self.given.script} > {script}"]
-        shown = [*made, f"{self.shown(run)} > {self.path('_run.txt')}", f"{shlex.join(['flow', *words])} < {self.path('_run.txt')}"]
-        return [check], [*shown, f"{shlex.join(['flow', *wave])} < {self.path('_run.txt')} > {self.path('.vcd')}"]
+        text, dump = shlex.quote(self.path("_run.txt")), shlex.quote(self.path(".vcd"))
+        made = [] if script == self.given.script else [f"{shlex.join(['flow', 'script', *ports])} < {shlex.quote(self.given.script)} > {shlex.quote(script)}"]
+        shown = [*made, f"{self.shown(run)} > {text}", f"{shlex.join(['flow', *words])} < {text}"]
+        return [check], [*shown, f"{shlex.join(['flow', *wave])} < {text} > {dump}"]
 
     def way_of_script(self, script: str) -> Way:
         """How bits are changed in a run: an upset may be of any bit, so each one is writable then."""

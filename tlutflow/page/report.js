@@ -203,8 +203,10 @@
     if (place >= 0) { show(cone([place])); select(place); document.getElementById("picture").scrollIntoView(); }
   });
 
-  const wanted = decodeURIComponent(location.hash.slice(1));
-  const first = outputs.findIndex(it => "cone=" + it.name === wanted);
+  // A name may have a % that codes nothing, in an address that somebody wrote.
+  const decoded = text => { try { return decodeURIComponent(text); } catch { return text; } };
+  const hash = location.hash.slice(1), wanted = decoded(hash);
+  const first = outputs.findIndex(it => [wanted, hash].includes("cone=" + it.name));
   choice.value = first >= 0 ? "o" + first : wanted === "all" ? "all" : luts(everything()) > MANY && CIRCUIT.path.length ? "path" : "all";
   draw(chosen(choice.value));
 })();

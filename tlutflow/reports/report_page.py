@@ -5,6 +5,7 @@ from __future__ import annotations
 import json
 from html import escape
 from typing import Any, Iterable, Optional
+from urllib.parse import quote
 
 from tlutflow.build_files import page_text
 from tlutflow.built import Built
@@ -32,6 +33,8 @@ SECTIONS = [
     ("files", "Files and commands"),
 ]
 COLUMNS = [("tlut", "tlut"), ("compact", "tlut --compact"), ("inputs", "parameters as inputs"), ("if", "ABC if"), ("if -a", "ABC if -a")]
+# How bytes of a file's name are kept that are no UTF-8.
+UNDECODED = "surrogateescape"
 # So many rows of preparations are shown at once.
 FIRST = 12
 
@@ -237,7 +240,7 @@ def checks_part(built: Built) -> str:
 
 def files_part(built: Built) -> str:
     """The files, the commands and the versions."""
-    rows = [([f'<a href="{escape(name)}"><code>{escape(name)}</code></a>', escape(what)], "") for name, what in built.files]
+    rows = [([f'<a href="{quote(name, errors=UNDECODED)}"><code>{escape(name)}</code></a>', escape(what)], "") for name, what in built.files]
     commands = escape("\n".join(built.commands))
     versions = table(["program", "version"], [([escape(name), escape(it)], "") for name, it in built.versions.items()], (0, 1))
     return table(["file", "contents"], rows, (0, 1)) + f"<p>The commands that create them one by one:</p><pre>{commands}</pre>{versions}"
