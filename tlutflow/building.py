@@ -151,7 +151,7 @@ class Build:
             copy(f"{room}/netlist.blif", self.path(".blif"))
             write_text(self.path(".par"), parameter_list(made.parameters))
             write_text(self.path(END), made.ports_text)
-            return {**told_of(made.found, made.summary), **({"compared": BY_PARTS} if made.is_by_parts else {}), "told": made.told}
+            return {**told_of(made.found, made.summary), **({"compared": BY_PARTS} if made.is_by_parts else {}), **made.quick_sums, "told": made.told}
 
     def from_netlist(self) -> dict[str, Any]:
         """A netlist that was given, prepared unless that was refused."""
@@ -363,6 +363,8 @@ class Build:
         """What showed that the prepared netlist is the source."""
         what = "the prepared netlist is the one that preparations started from"
         compared = self.built.preparation.get("compared")
+        if self.built.preparation.get("sums"):
+            return ["the prepared netlist, whose sums are tables, is the design", str(compared), "its sums are equal, and the whole under the drawn values", "ok"]
         if compared:
             return [what, f"{compared}, flip-flop by flip-flop" if compared == WHOLE else compared, "equal", "ok"]
         return [what, "nobody", "one preparation was used, without a comparison" if self.is_verilog else "it is the same file", "open" if self.is_verilog else "ok"]

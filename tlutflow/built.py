@@ -35,4 +35,10 @@ def told_of(found: Optional[Found], summary: str) -> dict[str, Any]:
     rows = [{**asdict(it), "front": it in found.front, "file": ""} for it in found.results]
     failures = [[it.name, it.failure] for it in found.failures] + [[it.name, it.parts_left_out] for it in found.trials if it.parts_left_out]
     abc = [by_abc[0], by_abc[1], *by_abc[2].cells()] if by_abc else []
-    return {"summary": summary, "best": {**asdict(found.best), "file": ""}, "rows": rows, "failures": failures, "abc": abc, "tried": len(found.trials), "compared": found.best_trial.compared}
+    return {"summary": summary, "best": {**asdict(found.best), "file": ""}, "rows": rows, "failures": failures, "abc": abc, "tried": len(found.trials), "compared": found.best_trial.compared, **sums_of(found)}
+
+
+def sums_of(found: Found) -> dict[str, Any]:
+    """What the sums of the best preparation became, if they are tables."""
+    sums = found.best_trial.sums
+    return {"sums": sums.told} if sums else {}

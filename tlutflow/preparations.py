@@ -8,6 +8,7 @@ from __future__ import annotations
 
 from dataclasses import dataclass
 
+from tlutflow.arithmetic.variants import STYLES
 from tlutflow.faults import Fault
 
 # The gates that ABC's `map` may use. An inverter is almost free; a gate's delay is how many AND nodes it has on its way. Without the buffer
@@ -33,12 +34,13 @@ MOST_ROUNDS = 12
 class Preparation:
     """A preparation: its name, its steps, and what is repeated before `last` as long as the graph gets fewer levels. A step is a sequence of
     commands that starts from an AND-inverter graph and leaves one; the first step starts from a netlist. Preparations share the steps with
-    which they begin."""
+    which they begin. With `sums` it starts from a netlist whose sums with parameters are tables in this style, and without steps it is that."""
 
     name: str
     steps: tuple[str, ...]
     repeated: str = ""
     last: str = ""
+    sums: str = ""
 
     @property
     def commands(self) -> str:
@@ -53,6 +55,8 @@ class Preparation:
     @property
     def shown(self) -> str:
         """All commands in one line."""
+        if self.sums:
+            return f"{STYLES[self.sums].title}{'; ' * bool(self.steps)}{self.commands}"
         return self.commands + (f"; until the depth stays: {self.repeated}; then {self.last}" if self.repeated else "")
 
 
@@ -67,6 +71,8 @@ SOP = "if -g -K 6; strash"
 CHOICE_SOP = f"dch; {SOP}"
 SOP_4 = "if -g -K 4; strash"
 QUICK = "dch; map -B 0.9; topo; strash"
+# XORs, XNORs and multiplexers in a normal form, so that one that is built twice from different gates is one node.
+NORMAL = "&get -n; &st -m; &st; &put; strash"
 RESYN2 = "balance; rewrite; refactor; balance; rewrite; rewrite -z; balance; refactor -z; rewrite -z; balance"
 RESUB = (
     "balance -l; resub -K 6 -l; rewrite -l; resub -K 6 -N 2 -l; refactor -l; resub -K 8 -l; balance -l; resub -K 8 -N 2 -l; rewrite -l; "
@@ -95,6 +101,15 @@ PREPARATIONS = [
     Preparation("syn4", (START, "&get -n; &syn4; &put; strash")),
     Preparation("rs", (START, RESUB)),
     Preparation("rsg", (START, RESUB, SOP, SOP, CHOICE)),
+    Preparation("st", (START, NORMAL)),
+    Preparation("stmap", (START, NORMAL, QUICK)),
+    Preparation("stg", (START, NORMAL, SOP, SOP, CHOICE)),
+]
+# Those of a design in Verilog that has sums with parameters.
+SUM_PREPARATIONS = [
+    *(Preparation(style, (), sums=style) for style in STYLES),
+    *(Preparation(f"{style}_map", (START, QUICK), sums=style) for style in STYLES),
+    *(Preparation(f"{style}_st", (START, NORMAL), sums=style) for style in STYLES),
 ]
 
 

@@ -9,10 +9,12 @@ from typing import Optional
 from tlutflow import tools
 from tlutflow.abc_form import abc_text, with_functions
 from tlutflow.faults import Fault, Undecided
-from tlutflow.netlist import Library, read_library
+from tlutflow.netlist import Library, parse_library, read_library
 from tlutflow.pack import read_pack
 from tlutflow.parameters import interface_of, read_parameters
 from tlutflow.patience import patience
+from tlutflow.preparing.combinational import logic_of, logic_text
+from tlutflow.preparing.flat import flat_model
 from tlutflow.plain_names import temporary_folder
 from tlutflow.runs.output import parse_output
 from tlutflow.runs.script import read_script
@@ -21,7 +23,8 @@ from tlutflow.runs.waveform import check_end, pairs
 from tlutflow.text import count, read_input, write_text
 
 HELP = "a written netlist or a run against its source"
-DESCRIPTION = """With WRITTEN: uses ABC to show that a netlist which tlut wrote is equal to its source circuit: `cec`, or `dsec` if there are latches.
+DESCRIPTION = """With WRITTEN: uses ABC to show that a netlist which tlut wrote is equal to its source circuit: `cec`, latch by
+latch, or `dsec` if there are latches and that decides nothing.
 
   --params PARAMS   WRITTEN is what `tlut spec` wrote for this list: its parameters are constants in the source
   --pack PACK       WRITTEN is the template that `tlut map` wrote with this pack: each bit gets its function of the parameters, which
@@ -111,10 +114,29 @@ def extent(given: Pair) -> str:
 
 
 def compare(given: Pair, seconds: float) -> str:
-    """Compares two netlists by ABC, and says that they are equal. A fault if they differ or ABC fails, and Undecided if it decides nothing."""
+    """Compares two netlists by ABC, and says that they are equal. A fault if they differ or ABC fails, and Undecided if it decides nothing. With
+    latches their logic is compared first, each latch with the one at its place: where that is equal, so are the netlists."""
     abc = tools.need(tools.ABC, "a comparison of netlists")
     source, left, right = texts(given)
+    logic = logic_texts(left, right) if source.flat_latches() else None
+    if logic is not None:
+        try:
+            outcome, _ = verdict_of(abc, "cec", *logic, seconds)
+        except Undecided:
+            outcome = "open"
+        if outcome == "equal":
+            return f"equal{extent(given)} (ABC cec, latch by latch)"
     method = "dsec" if source.flat_latches() else "cec"
+    outcome, told = verdict_of(abc, method, left, right, seconds)
+    if outcome == "different":
+        raise Fault(f"{given.written} differs from {given.source} (ABC {method}): {told}")
+    if outcome == "open":
+        raise Undecided(f"ABC {method} didn't decide it: {told}")
+    return f"equal{extent(given)} (ABC {method})"
+
+
+def verdict_of(abc: str, method: str, left: str, right: str, seconds: float) -> tuple[str, str]:
+    """What a command of ABC says of two netlists, and its last line."""
     with temporary_folder() as folder:
         write_text(f"{folder}/source.blif", left)
         write_text(f"{folder}/written.blif", right)
@@ -122,12 +144,19 @@ def compare(given: Pair, seconds: float) -> str:
     if ran.status:
         raise tools.abc_failure(ran)
     told = [line.strip() for line in ran.told.splitlines() if line.strip()] or ["it printed nothing"]
-    outcome = verdict("\n".join(told))
-    if outcome == "different":
-        raise Fault(f"{given.written} differs from {given.source} (ABC {method}): {told[-1]}")
-    if outcome == "open":
-        raise Undecided(f"ABC {method} didn't decide it: {told[-1]}")
-    return f"equal{extent(given)} (ABC {method})"
+    return verdict("\n".join(told)), told[-1]
+
+
+def logic_texts(left: str, right: str) -> Optional[tuple[str, str]]:
+    """The outputs and next states of two netlists as functions of inputs and states, latches in their order; None if they haven't as many, or these
+    start otherwise."""
+    source, written = (flat_model(parse_library(text, name)) for text, name in ((left, "the source"), (right, "the written netlist")))
+    inputs = [it for it in logic_of(source).inputs if it not in {latch.state for latch in source.latches}]
+    missing = set(inputs) - {*written.all_inputs()}
+    if missing or [it.start for it in source.latches] != [it.start for it in written.latches] or source.outputs != written.outputs:
+        return None
+    one, other = (logic_text(it, [*inputs, *(latch.state for latch in it.latches)], [*it.outputs, *(latch.source for latch in it.latches)]) for it in (source, written))
+    return one, other
 
 
 def check_run(given: argparse.Namespace) -> int:

@@ -14,7 +14,7 @@ from tlutflow.faults import Fault
 from tlutflow.parameters import read_parameters
 from tlutflow.plain_names import temporary_folder
 from tlutflow.port_file import keep_ports
-from tlutflow.preparations import PREPARATIONS, Preparation, chosen, further
+from tlutflow.preparations import PREPARATIONS, SUM_PREPARATIONS, Preparation, chosen, further
 from tlutflow.preparing.parts import PART_SIZE
 from tlutflow.preparing.trials import AIMS, OLD_AIMS, RULE_NAMES, RULES, Found, Report, Result, Task, Trial, keep, prepare
 from tlutflow.reports.statistics import grid
@@ -155,7 +155,8 @@ def task_of(given: argparse.Namespace, netlist: str, params: str) -> Task:
 
 def preparations_of(given: argparse.Namespace) -> list[Preparation]:
     """The preparations that words name."""
-    return chosen(given.only, [*PREPARATIONS, *further(given.further, PREPARATIONS)])
+    known = [*PREPARATIONS, *SUM_PREPARATIONS]
+    return chosen(given.only, [*known, *further(given.further, known)])
 
 
 def run(given: argparse.Namespace) -> int:

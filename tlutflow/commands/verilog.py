@@ -8,10 +8,13 @@ import os
 import re
 import shutil
 import sys
+from concurrent.futures import ThreadPoolExecutor
 from dataclasses import dataclass, replace
 from typing import Optional
 
 from tlutflow import tools
+from tlutflow.arithmetic.netlists import sum_netlist, word_source
+from tlutflow.arithmetic.variants import STYLES
 from tlutflow.buses import buses_of
 from tlutflow.commands.hdl import add_family_word
 from tlutflow.commands.prepare import add_shared_words, check_limits, progress, settle, sizes, task_of
@@ -22,9 +25,11 @@ from tlutflow.patience import patience
 from tlutflow.plain_names import PlainNames, work_folder
 from tlutflow.port_file import END, Ports, file_name, json_of_bus
 from tlutflow.preparations import Preparation
+from tlutflow.preparing.combinational import model_text
 from tlutflow.preparing.graphs import Bench
 from tlutflow.preparing.part_trials import prepare_by_parts
 from tlutflow.preparing.parts import PART_SIZE
+from tlutflow.preparing.starts import SumStart
 from tlutflow.preparing.trials import RULE_NAMES, Found, keep, prepare
 from tlutflow.text import count, write_text
 from tlutflow.verilog.design import ATTRIBUTE, gates_about, obstacle, parameters_of, ports_of
@@ -52,6 +57,8 @@ EXAMPLE = """examples:
   flow verilog top.v part.v --top top --set WIDTH=8 -D FAST -I include
   flow verilog fir.v --top fir --recipe          # the script for Yosys, with reasons"""
 
+# The cell that a product is in Yosys, and the style of tables that is taken without measuring.
+PRODUCT, QUICK_STYLE = "$mul", "tables"
 WORD = re.compile(r"[^\s;\"#]+")
 
 
@@ -109,14 +116,15 @@ def yosys(steps: list[Step], folder: str, prog: str, names: PlainNames) -> None:
 
 @dataclass(frozen=True)
 class Synthesised:
-    """What Yosys made: the netlist, the design, its ports, lines on what the netlist has otherwise than the design, and whether it is large.
-    Then the netlist isn't prepared yet."""
+    """What Yosys made: the netlist, the design, its ports, lines on what the netlist has otherwise than the design, whether it is large, so that the
+    netlist isn't prepared yet, and the kinds of cells that its source has."""
 
     library: Library
     design: Design
     ports: Ports
     told: list[str]
     is_large: bool
+    kinds: frozenset[str]
 
 
 def synthesise(given: argparse.Namespace, folder: str) -> Synthesised:
@@ -130,7 +138,8 @@ def synthesise(given: argparse.Namespace, folder: str) -> Synthesised:
     told = undriven(design)
     tell(given, told)
     is_large = gates_about(design) > PART_SIZE
-    gates = f"{folder}/gates.blif" if is_large or not is_quick(given) else None
+    has_products = given.abc is None and PRODUCT in {cell.kind for cell in design.cells}
+    gates = f"{folder}/gates.blif" if is_large or has_products or not is_quick(given) else None
     sources = replace(sources, by_modules=sources.by_modules or is_large)
     yosys(recipe(sources, "" if is_large else preparation_of(given), paths[1], paths[2], paths[3], gates), folder, given.prog, names)
     before, after = (read_design(it, sources.top, names.shown) for it in paths[2:])
@@ -144,7 +153,7 @@ def synthesise(given: argparse.Namespace, folder: str) -> Synthesised:
     tell(given, late_resets(before))
     registers = register_names(before, after, [latch.state for latch in library.main.latches])
     buses = [*(net.bus for name, net in after.nets.items() if name in after.ports), *register_buses(before, registers)]
-    return Synthesised(library, after, Ports({bus.name: bus for bus in buses}, registers), told, is_large)
+    return Synthesised(library, after, Ports({bus.name: bus for bus in buses}, registers), told, is_large, frozenset(cell.kind for cell in design.cells))
 
 
 def is_quick(given: argparse.Namespace) -> bool:
@@ -152,14 +161,45 @@ def is_quick(given: argparse.Namespace) -> bool:
     return given.quick or given.abc is not None
 
 
-def choose(given: argparse.Namespace, folder: str, is_large: bool, beside: bool = False) -> Found:
-    """Replaces the recipe's netlist with the preparation that measures best. Preparations start from the gates of the recipe,
-    and the netlist of its own preparation is a further one; of a large design there is none."""
+def choose(given: argparse.Namespace, folder: str, made: Synthesised, parameters: dict[str, int], beside: bool = False) -> Found:
+    """Replaces the recipe's netlist with the preparation that measures best. Preparations start from the gates of the recipe, or from netlists
+    whose sums with parameters are tables; and the netlist of the recipe's own preparation is a further one, but of a large design there is none."""
     task = task_of(given, f"{folder}/gates.blif", f"{folder}/list.par")
-    ready = {} if is_large else {"yosys": f"{folder}/netlist.blif"}
-    found = prepare(replace(task, ready=ready, beside=beside, title=f"the gates of {given.top}"), f"{folder}/trials", progress(given.prog))
+    ready = {} if made.is_large else {"yosys": f"{folder}/netlist.blif"}
+    styles = dict.fromkeys(it.sums for it in task.preparations if it.sums)
+    sums = with_tables(given, folder, made, parameters, list(styles), list(task.ks) or [task.k])
+    if given.only and not sums and all(it.sums for it in task.preparations):
+        raise Fault(f"--only {given.only[0]}: no sum of {given.top} has a parameter")
+    task = replace(task, ready=ready, beside=beside, title=f"the gates of {given.top}", sums=sums)
+    found = prepare(task, f"{folder}/trials", progress(given.prog))
     keep(found.best, f"{folder}/netlist.blif")
     return found
+
+
+def with_tables(given: argparse.Namespace, folder: str, made: Synthesised, parameters: dict[str, int], styles: list[str], ks: list[int]) -> tuple[SumStart, ...]:
+    """The netlists of a design whose sums with parameters are tables, in these styles and for LUTs of these sizes; none if it has no such sums. One
+    that can't be made, or isn't shown to be the design, is left out, and stderr says why."""
+    if not styles or not parameters:
+        return ()
+    names = PlainNames(f"{folder}/names")
+    ports = [port.bus.name for port in ports_of(made.design) if set(port.bus.nets) <= set(parameters)]
+    source = word_source(names.sources(sources_of(given)), ports, folder, lambda steps: yosys(steps, folder, given.prog, names))
+
+    def start(job: tuple[str, int]) -> Optional[SumStart]:
+        style, k = job
+        room = f"{folder}/{style}{k}"
+        os.makedirs(room)
+        try:
+            found = sum_netlist(source, STYLES[style].style(k), room, lambda steps: yosys(steps, room, given.prog, names))
+        except Fault as fault:
+            tell(given, [f"{style} at K {k} is left out: {fault}"])
+            return None
+        return SumStart(style, k, found.model, found.told, found.shown) if found else None
+
+    with ThreadPoolExecutor(given.jobs or os.cpu_count() or 1) as pool:
+        found = [it for it in pool.map(start, [(style, k) for k in ks for style in styles]) if it is not None]
+    # Two styles can make the same netlist, as where there are no sums of data alone.
+    return tuple({(it.k, model_text(it.model, it.model.covers)): it for it in reversed(found)}.values())[::-1]
 
 
 def prepare_quickly(given: argparse.Namespace, parameters: list[str], folder: str) -> list[str]:
@@ -174,7 +214,7 @@ def prepare_quickly(given: argparse.Namespace, parameters: list[str], folder: st
 @dataclass(frozen=True)
 class Made:
     """A netlist that was made: its parameters, its ports, the text of these, its summary, what was found for its preparation, lines on what
-    it has otherwise than the design, and whether it was prepared and compared part by part."""
+    it has otherwise than the design, whether it was prepared and compared part by part, and without measuring its netlist with tables."""
 
     parameters: dict[str, int]
     ports: Ports
@@ -183,25 +223,46 @@ class Made:
     found: Optional[Found]
     told: list[str]
     is_by_parts: bool = False
+    tables: Optional[SumStart] = None
+
+    @property
+    def quick_sums(self) -> dict[str, str]:
+        """What is told of sums that became tables without measuring."""
+        return {"sums": self.tables.told, "compared": self.tables.shown} if self.tables else {}
 
 
 def make(given: argparse.Namespace, folder: str, beside: bool = False) -> Made:
     """Creates the netlist in a folder, as netlist.blif."""
     made = synthesise(given, folder)
-    ports, told, found = made.ports, made.told, None
+    ports, told, found, tables = made.ports, made.told, None, None
     parameters = parameters_of(ports_of(made.design), given.param, made.library.clock_nets())
     check_limits(given)
     if not is_quick(given):
         write_text(f"{folder}/list.par", parameter_list(parameters))
-        found = choose(given, folder, made.is_large, beside)
+        found = choose(given, folder, made, parameters, beside)
         if found.best.name != "yosys":
             ports = replace(ports, registers=names_of_gates(folder, sources_of(given).top))
-    elif made.is_large:
+    else:
+        tables = quick_tables(given, folder, made, parameters)
+    if tables is not None:
+        ports = replace(ports, registers=names_of_gates(folder, sources_of(given).top))
+    elif found is None and made.is_large:
         lines = prepare_quickly(given, list(parameters), folder)
         tell(given, lines)
         told = [*told, *lines]
     text = ports_text(made.design, ports, sources_of(given).top)
-    return Made(parameters, ports, text, summary(made.library, parameters, ports), found, told, made.is_large and not found)
+    return Made(parameters, ports, text, summary(made.library, parameters, ports), found, told, made.is_large and not found and not tables, tables)
+
+
+def quick_tables(given: argparse.Namespace, folder: str, made: Synthesised, parameters: dict[str, int]) -> Optional[SumStart]:
+    """Replaces the netlist of a design that has products by one whose sums with parameters are tables, without measuring; None if there are none."""
+    if not os.path.exists(f"{folder}/gates.blif") or PRODUCT not in made.kinds:
+        return None
+    found = with_tables(given, folder, made, parameters, [QUICK_STYLE], [given.k])
+    if not found:
+        return None
+    write_text(f"{folder}/netlist.blif", model_text(found[0].model, found[0].model.covers))
+    return found[0]
 
 
 def names_of_gates(folder: str, top: str) -> list[str]:
@@ -264,4 +325,7 @@ def run(given: argparse.Namespace) -> int:
     if made.found:
         best = f"{made.found.best.name}, the best of {len(made.found.trials)} for {given.aim} at K {made.found.best.k}"
         print(f"preparation {best}: {sizes(made.found.best)} with {RULE_NAMES[made.found.best.rule]}")
+    tables = made.tables or (made.found.best_trial.sums if made.found else None)
+    if tables:
+        print(f"sums with parameters are tables ({tables.told}); shown by {tables.shown}")
     return 0

@@ -19,13 +19,14 @@ from tlutflow.mappings import MAPPED, Sizes, sizes_by_abc, sizes_by_tlut
 from tlutflow.netlist import Model
 from tlutflow.parameters import read_parameters
 from tlutflow.preparations import PREPARATIONS, Preparation
-from tlutflow.preparing.combinational import Logic, interface_difference, logic_of, logic_text, netlist_text
+from tlutflow.preparing.combinational import interface_difference, logic_of, logic_text, model_text, netlist_text
 from tlutflow.preparing.comparison import WHOLE, Comparer
 from tlutflow.preparing.flat import read_flat
 from tlutflow.preparing.graphs import Bench
 from tlutflow.preparing.part_trials import PartsBench
 from tlutflow.preparing.parts import PART_SIZE, divided, size_of
 from tlutflow.preparing.pieces import Job, Jobs, Piece
+from tlutflow.preparing.starts import Start, SumStart, starts_with
 from tlutflow.text import read_text, write_text
 
 # What is looked for first, then next where that is the same, by the names of a result's fields.
@@ -73,6 +74,8 @@ class Task:
     title: str = ""
     # Logic of more gates is prepared in parts of at most so many.
     part_size: int = PART_SIZE
+    # The netlists of the design whose sums are tables.
+    sums: tuple[SumStart, ...] = ()
 
 
 @dataclass(frozen=True)
@@ -105,7 +108,7 @@ class Result:
 @dataclass(frozen=True)
 class Trial:
     """What came of a preparation: its results by rules, what ABC's mapper makes of it, or why it was left out. How it was compared with the
-    source, and which of its parts stay as they were read."""
+    source, which of its parts stay as they were read, and the netlist with tables that it started from."""
 
     name: str
     results: list[Result]
@@ -113,6 +116,7 @@ class Trial:
     failure: str = ""
     compared: str = WHOLE
     parts_left_out: str = ""
+    sums: Optional[SumStart] = None
 
 
 @dataclass(frozen=True)
@@ -156,26 +160,15 @@ class Found:
 
 
 @dataclass(frozen=True)
-class Start:
-    """Logic that preparations start from, and what the names of their trials begin with."""
-
-    name: str
-    logic: Logic
-
-    def text(self) -> str:
-        """The logic in BLIF."""
-        return logic_text(self.logic.model, self.logic.inputs, self.logic.roots)
-
-
-@dataclass(frozen=True)
 class Prepared:
     """A netlist that is to be tried, the seconds by the clock that ABC took for it, whether its parts were compared with the source, and
-    which of them stay as they were read."""
+    which of them stay as they were read. With the netlist with tables that it comes from, it is compared with that one."""
 
     text: str
     seconds: float
     are_parts_equal: bool = False
     parts_left_out: str = ""
+    sums: Optional[SumStart] = None
 
 
 Report = Callable[[int, int, Trial, Optional[Result]], None]
@@ -207,42 +200,49 @@ class Workshop:
 
     def prepared(self, name: str, start: Start, preparation: Preparation) -> Job[Prepared]:
         """Makes the netlist of a preparation from some logic, of large logic part by part."""
+        if not preparation.steps:
+            text = yield Piece(("netlist", name), lambda: model_text(start.logic.model, start.logic.model.covers), MEASURING)
+            return Prepared(text, 0, sums=start.sums)
         if size_of(start.logic.model.covers) > self.task.part_size:
             return (yield from self.prepared_by_parts(name, start, preparation))
-        source = yield Piece(("source", start.name), lambda: self.bench.source(start.text()), preparation.cost)
+        source = yield Piece(("source", start.key), lambda: self.bench.source(start.text()), preparation.cost)
         graph = yield from self.bench.prepared(source, preparation)
         text = yield Piece(("netlist", name), lambda: netlist_text(start.logic, self.bench.text(graph), preparation.name), MEASURING)
-        return Prepared(text, graph.seconds)
+        return Prepared(text, graph.seconds, sums=start.sums)
 
     def prepared_by_parts(self, name: str, start: Start, preparation: Preparation) -> Job[Prepared]:
         """Makes the netlist of a preparation from the parts of some logic."""
-        shop: PartsBench = yield Piece(("divided", start.name), lambda: self.parts_of(start), preparation.cost)
+        shop: PartsBench = yield Piece(("divided", start.key), lambda: self.parts_of(start), preparation.cost)
         made = []
         for place in range(len(shop.whole.parts)):
             made.append((yield from shop.prepared(place, preparation)))
         text = yield Piece(("netlist", name), lambda: shop.netlist(made), MEASURING)
-        return Prepared(text, sum(it.seconds for it in made), True, shop.left_out(made))
+        return Prepared(text, sum(it.seconds for it in made), True, shop.left_out(made), start.sums)
 
     def parts_of(self, start: Start) -> PartsBench:
         """The parts of some logic."""
-        return PartsBench(divided(start.logic, self.nets, self.task.part_size), start.name, self.bench)
+        return PartsBench(divided(start.logic, self.nets, self.task.part_size), start.key, self.bench)
 
     def ready(self, name: str, path: str) -> Job[Prepared]:
         """Reads a netlist that is there."""
         text = yield Piece(("netlist", name), lambda: read_text(path), MEASURING)
         return Prepared(text, 0)
 
-    def check(self, made: Model, room: str, are_parts_equal: bool) -> str:
-        """Refuses a netlist that isn't shown to be the source, output by output and next state by next state. Returns how it was shown."""
+    def check(self, made: Model, room: str, prepared: Prepared) -> str:
+        """Refuses a netlist that isn't shown to be the source, output by output and next state by next state, or to be the netlist with tables that
+        it comes from. Returns how it was shown."""
         difference = interface_difference(self.model, made)
         if difference:
             raise Fault(difference)
-        return self.comparer.compare_whole(self.model, made, room, are_parts_equal)
+        if prepared.sums is None:
+            return self.comparer.compare_whole(self.model, made, room, prepared.are_parts_equal)
+        how = self.comparer.compare_whole(prepared.sums.model, made, room, prepared.are_parts_equal)
+        return f"{prepared.sums.shown}; {how} from these gates on"
 
-    def measure(self, name: str, file: str, took: float, room: str) -> list[Result]:
-        """Maps a netlist by each rule at each K."""
+    def measure(self, name: str, file: str, took: float, room: str, ks: tuple[int, ...] = ()) -> list[Result]:
+        """Maps a netlist by each rule at each K, or at some."""
         results, refusal = [], ""
-        for k, rule in product(self.task.ks or (self.task.k,), self.task.rules):
+        for k, rule in product(ks or self.task.ks or (self.task.k,), self.task.rules):
             begun = time.monotonic()
             sizes = sizes_by_tlut(self.program, k, file, self.task.parameters, room, *RULES[rule])
             if sizes.refusal:
@@ -269,8 +269,9 @@ class Workshop:
         file = f"{room}/prepared.blif"
         write_text(file, prepared.text)
         made = read_flat(file)
-        compared = self.check(made, room, prepared.are_parts_equal)
-        return Trial(name, self.measure(name, file, 0, room), self.beside(made, room), compared=compared)
+        compared = self.check(made, room, prepared)
+        results = self.measure(name, file, 0, room, (prepared.sums.k,) if prepared.sums else ())
+        return Trial(name, results, self.beside(made, room), compared=compared, sums=prepared.sums)
 
     def attempt(self, name: str, making: Job[Prepared]) -> Job[Trial]:
         """A trial; one that fails says why. Preparations that make the same netlist share what comes after."""
@@ -316,7 +317,7 @@ def prepare(task: Task, folder: str, report: Report = silent) -> Found:
     shop = Workshop(task, folder)
     trials = [shop.as_read()]
     for number in range(task.rounds):
-        starts = [Start("", shop.logic)] if number == 0 else better_starts(trials, task.aim)
+        starts = first_starts(shop) if number == 0 else better_starts(trials, task.aim)
         trials += run_round(shop, starts, trials, number == 0, report)
     results = [it for trial in trials for it in trial.results]
     best = best_of(results, task.aim)
@@ -330,11 +331,18 @@ def best_of(results: list[Result], aim: str) -> Optional[Result]:
     return min(results, key=lambda it: it.key(aim)) if results else None
 
 
+def first_starts(shop: Workshop) -> list[Start]:
+    """What preparations start from at first: the source, and its netlists with tables. With several K the names say which one tables are for."""
+    many = len({it.k for it in shop.task.sums}) > 1
+    return [Start("", shop.logic), *(Start(f"k{it.k}_" if many else "", logic_of(it.model), it) for it in shop.task.sums)]
+
+
 def better_starts(trials: list[Trial], aim: str) -> list[Start]:
     """The two best preparations so far, from which a further round starts."""
+    by_name = {it.name: it for it in trials}
     results = sorted((it for trial in trials for it in trial.results if it.name != AS_READ), key=lambda it: it.key(aim))
     files = list(dict.fromkeys((it.name, it.file) for it in results))[:2]
-    return [Start(f"{name}+", logic_of(read_flat(file))) for name, file in files]
+    return [Start(f"{name}+", logic_of(read_flat(file)), by_name[name].sums) for name, file in files]
 
 
 def run_round(shop: Workshop, starts: list[Start], before: list[Trial], is_first: bool, report: Report) -> list[Trial]:
@@ -342,7 +350,8 @@ def run_round(shop: Workshop, starts: list[Start], before: list[Trial], is_first
     named: list[tuple[str, Job[Prepared]]] = []
     if is_first:
         named += [(name, shop.ready(name, path)) for name, path in shop.task.ready.items()]
-    named += [(start.name + it.name, shop.prepared(start.name + it.name, start, it)) for start in starts for it in shop.task.preparations]
+    pairs = [(start, it) for start in starts for it in shop.task.preparations if starts_with(it, start)]
+    named += [(start.name + it.name, shop.prepared(start.name + it.name, start, it)) for start, it in pairs]
     jobs = Jobs([shop.attempt(*it) for it in named], shop.task.jobs or os.cpu_count() or 1)
     trials: dict[int, Trial] = {}
     for place, trial in jobs.run():

@@ -214,8 +214,9 @@ def changes_part(built: Built, found: Statistics) -> str:
 def preparations_part(built: Built) -> str:
     """The preparations that were tried."""
     found = built.preparation
+    sums = f"<p>Sums with parameters are tables, which data bits select: {escape(found['sums'])}.</p>" if found.get("sums") else ""
     if not found.get("rows"):
-        return "<p>One preparation was used, and nothing was measured (<code>--quick</code> or <code>--abc</code>).</p>"
+        return f"{sums}<p>One preparation was used, and nothing was measured (<code>--quick</code> or <code>--abc</code>).</p>"
     measured = found["rows"][0]["changed"] is not None
     head = ["preparation", "rule", "LUTs", "depth", "bits", *(["a change"] if measured else []), "seconds", "front"]
     rows = []
@@ -227,7 +228,7 @@ def preparations_part(built: Built) -> str:
     more = table(head, rows[FIRST:], (1,)) if rows[FIRST:] else ""
     shown = table(head, rows[:FIRST], (1,)) + (f"<details><summary>{count(len(rows) - FIRST, 'more row')}</summary>{more}</details>" if more else "")
     out = "".join(f"<li>{escape(name)}: {escape(why)}</li>" for name, why in found["failures"])
-    return f'<p class="soft">{note}</p>{shown}' + (f"<p>Left out:</p><ul>{out}</ul>" if out else "")
+    return f'{sums}<p class="soft">{note}</p>{shown}' + (f"<p>Left out:</p><ul>{out}</ul>" if out else "")
 
 
 def checks_part(built: Built) -> str:

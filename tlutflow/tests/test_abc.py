@@ -49,7 +49,7 @@ class Form(unittest.TestCase):
 class Check(InFolder):
     @needs(ABC)
     def test_templates_under_all_values(self):
-        for name, latches in (("fir", "9 parameters (ABC dsec)"), ("matcher", "8 parameters (ABC dsec)"), ("coder", "8 parameters (ABC dsec)")):
+        for name, latches in (("fir", "9 parameters (ABC cec, latch by latch)"), ("matcher", "8 parameters (ABC cec, latch by latch)"), ("coder", "8 parameters (ABC cec, latch by latch)")):
             ran = flow("check", f"{EXAMPLES}/{name}/{name}.blif", f"{DATA}/{name}_t.blif", "--pack", f"{DATA}/{name}.ppc")
             self.assertEqual(ran.stdout, f"equal under all values of {latches}\n", ran.stderr)
 

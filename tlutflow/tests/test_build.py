@@ -134,7 +134,7 @@ class Builds(InFolder):
         for end in (".blif", ".par", "_t.blif", ".ppc", "_spec.blif", ".cert", "_mapped.v", "_mapped_bench.v", "_run.txt", ".vcd"):
             self.assertTrue(os.path.getsize(f"{self.folder}/out/fir{end}"), end)
         self.assertEqual(ran.stdout.count("\nnot shown: ") + ran.stdout.count("\nchecked: "), 5)
-        self.assertIn("equal under all values of 9 parameters (ABC dsec)", ran.stdout)
+        self.assertIn("equal under all values of 9 parameters (ABC cec, latch by latch)", ran.stdout)
         self.assertIn("depth at least 5", ran.stdout)
         self.look_at(f"{self.folder}/out/index.html")
         with open(f"{self.folder}/out/index.html", encoding="utf-8") as file:

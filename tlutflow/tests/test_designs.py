@@ -1,6 +1,7 @@
 """Designs in Verilog through `flow build`, cycle by cycle beside their sources in Icarus Verilog."""
 
 import json
+import os
 import unittest
 
 from tlutflow import tools
@@ -72,8 +73,8 @@ def played_by_icarus(source: str, bench: str, folder: str) -> list[list[str]]:
 class Design:
     """A design that was built in a folder: its ports, and its parameters' initial values."""
 
-    def __init__(self, name: str, folder: str):
-        self.top, self.source, self.folder = name.rsplit(".", 1)[0], f"{DESIGNS}/{name}", folder
+    def __init__(self, source: str, folder: str):
+        self.top, self.source, self.folder = os.path.basename(source).rsplit(".", 1)[0], source, folder
         self.buses = {bus["name"]: bus["direction"] for bus in json.loads(read_text(self.path(".ports.json")))["ports"]}
         ports = read_ports_file(self.path(".ports.json"))
         self.ports = {name: ports.buses[name] for name in self.buses}
@@ -109,7 +110,7 @@ class Designs(InFolder):
         words = ("verilog", f"{DESIGNS}/{name}", "--top", name.rsplit(".", 1)[0], "--k", k, *(word for it in only for word in ("--only", it)), "-j", "2")
         ran = flow(*words, "--out", self.folder)
         self.assertEqual((ran.returncode, "is left out" in ran.stderr), (0, False), ran.stderr)
-        return Design(name, self.folder)
+        return Design(f"{DESIGNS}/{name}", self.folder)
 
     def compare(self, design: Design, events: list[Event], printed: str) -> None:
         """What a run printed for events, against the source as Icarus plays it."""

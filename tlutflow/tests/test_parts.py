@@ -223,7 +223,7 @@ class Modules(InFolder):
             with mock.patch("tlutflow.commands.verilog.PART_SIZE", size):
                 ran = flow(*words, *more, "--out", name, folder=self.folder)
             self.assertEqual((ran.returncode, ran.stderr), (0, ""))
-            self.assertEqual(flow("check", "whole/top.blif", f"{name}/top.blif", folder=self.folder).stdout, "equal (ABC dsec)\n")
+            self.assertEqual(flow("check", "whole/top.blif", f"{name}/top.blif", folder=self.folder).stdout, "equal (ABC cec, latch by latch)\n")
             registers = json.loads(read_text(f"{self.folder}/{name}/top.ports.json"))["registers"]
             self.assertEqual(sorted(registers), [f"{half}.y[{place}]" for half in ("first", "second") for place in range(4)])
 

@@ -139,7 +139,7 @@ class Choices(InFolder):
             best = self.found(*files, aim=aim).best
             alone = [self.found(*files, aim=aim, preparations=[it]).best.key(aim) for it in SHORT[:4]]
             self.assertEqual(best.key(aim), min(alone), (name, aim, AIMS[aim]))
-            self.assertEqual(flow("check", files[0], best.file).stdout, "equal (ABC dsec)\n")
+            self.assertEqual(flow("check", files[0], best.file).stdout, "equal (ABC cec, latch by latch)\n")
 
     @needs(ABC)
     @NEEDS_TLUT
@@ -198,7 +198,7 @@ class Choices(InFolder):
         for more in (("--only", "raw", "--out", "made", "-j", "1"), ("--quick", "--out", "quick")):
             ran = flow(*words, *more, folder=self.folder)
             self.assertEqual((ran.returncode, "Undriven" in ran.stderr), (0, False), ran.stderr)
-        self.assertEqual(flow("check", "made/top.blif", "quick/top.blif", folder=self.folder).stdout, "equal (ABC dsec)\n")
+        self.assertEqual(flow("check", "made/top.blif", "quick/top.blif", folder=self.folder).stdout, "equal (ABC cec, latch by latch)\n")
 
     @needs(ABC)
     @NEEDS_TLUT
@@ -211,7 +211,7 @@ class Choices(InFolder):
         self.assertIn("1 of 1 preparations, best so far: depth 1", ran.stderr)
         text = read_library(f"{self.folder}/n_prepared.blif").main
         self.assertEqual((text.inputs, text.outputs), (["clk", "a", "p"], ["q[0]", "a", "s"]))
-        self.assertEqual(flow("check", f"{self.folder}/n.blif", f"{self.folder}/n_prepared.blif").stdout, "equal (ABC dsec)\n")
+        self.assertEqual(flow("check", f"{self.folder}/n.blif", f"{self.folder}/n_prepared.blif").stdout, "equal (ABC cec, latch by latch)\n")
 
     @needs(ABC)
     @NEEDS_TLUT
@@ -239,7 +239,7 @@ class Choices(InFolder):
         self.assertEqual(ran.returncode, 0, ran.stderr)
         self.assertRegex(ran.stdout, r"preparation [a-z0-9 ]+, the best of 4 for depth at K 4: depth 2, ")
         made = f"{self.folder}/coder.blif"
-        self.assertEqual(flow("check", f"{EXAMPLES}/coder/coder.blif", made).stdout, "equal (ABC dsec)\n")
+        self.assertEqual(flow("check", f"{EXAMPLES}/coder/coder.blif", made).stdout, "equal (ABC cec, latch by latch)\n")
 
     @needs(ABC, YOSYS)
     @NEEDS_TLUT

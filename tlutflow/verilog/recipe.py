@@ -100,14 +100,44 @@ def recipe(sources: Sources, preparation: str, netlist: str, registers: str, por
     return [
         *reading(sources),
         *synthesis(sources),
-        Step(f"write_json {quoted(registers)}", "the registers with their names and resets, as the source has them"),
-        Step("async2sync", "an asynchronous reset becomes logic before and after its flip-flop, since a latch has none"),
-        Step("dfflegalize -cell $_DFF_P_ 01", "enables and resets become logic before a plain flip-flop at the positive edge, which starts at 0 or 1"),
+        *plain_flip_flops(registers),
         *(kept_gates(gates) if gates else []),
         *([Step(f"abc -g AND,OR,XOR,MUX -script +{preparation}", "gates of two inputs, and of little depth: the mapper keeps the graph that it reads")] if preparation else []),
         Step("opt_clean -purge", "aliases are removed, such as the second name of a clock, which would count as data"),
         Step(f"write_blif {quoted(netlist)}", "the netlist"),
         Step(f"write_json {quoted(ports)}", "the ports with their attributes"),
+    ]
+
+
+def plain_flip_flops(registers: str) -> list[Step]:
+    """The steps after which all flip-flops are plain ones. The file has them as they were."""
+    return [
+        Step(f"write_json {quoted(registers)}", "the registers with their names and resets, as the source has them"),
+        Step("async2sync", "an asynchronous reset becomes logic before and after its flip-flop, since a latch has none"),
+        Step("dfflegalize -cell $_DFF_P_ 01", "enables and resets become logic before a plain flip-flop at the positive edge, which starts at 0 or 1"),
+    ]
+
+
+def words(sources: Sources, design: str) -> list[Step]:
+    """The steps to a design of one module whose sums and products are still cells of words."""
+    return [*reading(sources), Step(f"synth -flatten -top {sources.top} -run :fine", "one module of words"), Step(f"write_json {quoted(design)}", "")]
+
+
+# The text of a file after which Yosys's own names have larger numbers than before.
+NUMBERS = "autoidx 100000000\n"
+
+
+def gates_of_words(top: str, numbers: str, design: str, stubs: str, registers: str, gates: str) -> list[Step]:
+    """The steps from a design whose sums are modules without contents to its other gates and its flip-flops. The file `numbers` has the number at
+    which Yosys begins to number its own names, since those that the design has already aren't to be taken."""
+    return [
+        Step(f"read_rtlil {quoted(numbers)}", "new names have other numbers than those in the design"),
+        Step(f"read_json {quoted(design)}", "the design with modules for its sums"),
+        Step(f"read_verilog {quoted(stubs)}", "the ports of the modules"),
+        Step(f"hierarchy -top {top}", ""),
+        Step(f"synth -top {top} -noabc -run fine:", "gates and flip-flops"),
+        *plain_flip_flops(registers),
+        *kept_gates(gates),
     ]
 
 
