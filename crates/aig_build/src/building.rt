@@ -60,7 +60,7 @@ fn kinds_of(
 
 // The key of the library's text and the names of the parameters, which determine the nodes.
 fn nodes_key(library: &Library, params: &Params) -> TextKey {
-    let mut digest = Digest::behind(library.key);
+    let mut digest = Digest::behind(library.key());
     for param in params.list.as_slice() {
         digest.add(param.name.bytes());
     }

@@ -171,5 +171,5 @@ pub(crate) fn library(
         clocks: Vec::new(alloc),
         commands,
     })?;
-    Ok(Library { models, key })
+    Ok(Library::of(models, key))
 }

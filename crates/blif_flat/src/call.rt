@@ -94,8 +94,8 @@ pub fn flatten(alloc: Global, library: &Library) -> Result<Flat, FlatErr>
 {
     cycle_law(library);
     let models = library.models.as_slice();
-    let ports = all_ports(alloc, library.key, models)?;
-    let index = ModelIndex::make(alloc, library.key, models)?;
+    let ports = all_ports(alloc, library.key(), models)?;
+    let index = ModelIndex::make(alloc, library.key(), models)?;
     check_models(alloc, library, &index, &ports)?;
     let flat = flat_circuit(alloc, library, &index, &ports)?;
     flat_law(library, &flat);

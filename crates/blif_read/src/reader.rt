@@ -171,10 +171,7 @@ fn finish(alloc: Global, reader: &mut Reader) -> Result<Library, BlifErr>
     if models.is_empty() {
         return Err(BlifErr::NoModel);
     }
-    Ok(Library {
-        models,
-        key: reader.names.key(),
-    })
+    Ok(Library::of(models, reader.names.key()))
 }
 
 // The library of lines, read from the start.

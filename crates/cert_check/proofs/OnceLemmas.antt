@@ -1,6 +1,10 @@
--- A text is that of one certificate at most, or has one refusal at most, and never both.
-use Rattle.cert_check.proofs.Common.{◌≡◌, ℕ, suc, List, [], ◌∷◌, ◌++◌, map, Some, None, refl, sym, ap, ◌∙◌, arith, cond-true, le-leb, none-some, same_Some, WordsLine, text_settled, PathValue, StepValue, CertificateValue, CertSaying, says_depth, says_claim, says_path, said_of, SaidLine, path_said, steps_said, AreSaid, AreLinesOf, fits_at, first_misfit, malformed_line, IsMalformed, cert_err, HasOneReading, rules}
-use Rattle.tl_fault.specs.Settled.{IsSettled}
+-- A text is that of one certificate or has one refusal, and not both.
+use Rattle.cert_check.proofs.Common.{◌≡◌, ℕ, suc, List, [], ◌∷◌, ◌++◌, map, Some, None, refl, sym, ap, ◌∙◌, arith, cond-true, le-leb, none-some, same_Some, WordsLine, text_settled, PathValue, StepValue, CertificateValue, CertSaying, says_depth, says_claim, says_path, said_of, SaidLine, path_said, steps_said, AreSaid, AreLinesOf, fits_at, first_misfit, malformed_line, IsMalformed, cert_err, HasOneReading}
+use Rattle.std.proofs.Common.{◌≤◌, Bool, true, false, Option}
+use Rattle.std.proofs.lemmas.Bool.{false≢true, eqb-true}
+use Rattle.std.specs.Prelude.{if◌then◌else◌}
+use Rattle.tl_fault.specs.Settled.{IsSettled, HasAnswer, has_value, has_fault}
+use Rattle.cert_check.specs.declared.cert_err.CertErr.TheVariants.{Malformed}
 
 -- lines say one thing
 said_same : (x y : SaidLine) → x.number ≡ y.number → x.saying ≡ y.saying → x ≡ y
@@ -67,8 +71,67 @@ lines_fit : (lines : List WordsLine) (c : CertificateValue) → AreLinesOf lines
 lines_fit [] c are = absurd are
 lines_fit (l ∷ ls) c are = cond-true (fits_at 0 (said_of l.words)) (first_misfit 1 ls) (Some l.number) (ap (fits_at 0) are.0) ∙ steps_fit ls 0 c.steps are.1
 
+-- lines that fit are those of a certificate: paths, then steps
+fits_there : (b : Bool) (n : ℕ) (rest : Option ℕ) → (if b then rest else Some n) ≡ None → (b ≡ true) × (rest ≡ None)
+fits_there true n rest h = (refl, h)
+fits_there false n rest h = absurd (none-some n (sym h))
+
+record AreRest (lines : List WordsLine) : Type 0 where
+  paths : List PathValue
+  steps : List StepValue
+  are : AreSaid lines (map path_said paths ++ steps_said steps)
+
+rest_more : (place : ℕ) (line : WordsLine) (lines : List WordsLine) (o : Option CertSaying) → said_of line.words ≡ o → 2 ≤ place → fits_at place o ≡ true → AreRest lines → AreRest (line ∷ lines)
+rest_more place line lines None is late fits rest = absurd (false≢true fits)
+rest_more place line lines (Some (says_depth d)) is late fits rest = absurd (omega (arith, late, eqb-true place 0 fits))
+rest_more place line lines (Some (says_claim n h)) is late fits rest =
+    record { paths = []; steps = record { line = line.number; node = n; claim = h; paths = rest.paths } ∷ rest.steps; are = (refl, is, rest.are) }
+rest_more place line lines (Some (says_path ns)) is late fits rest =
+    record { paths = record { line = line.number; nodes = ns } ∷ rest.paths; steps = rest.steps; are = (refl, is, rest.are) }
+
+rest_said : (place : ℕ) (lines : List WordsLine) → 2 ≤ place → first_misfit place lines ≡ None → AreRest lines
+rest_said place [] late none = record { paths = []; steps = []; are = tt }
+rest_said place (line ∷ lines) late none =
+    let here = fits_there (fits_at place (said_of line.words)) line.number (first_misfit (suc place) lines) none in
+    rest_more place line lines (said_of line.words) refl late here.0 (rest_said (suc place) lines (omega (arith, late)) here.1)
+
+record AreSteps (lines : List WordsLine) : Type 0 where
+  steps : List StepValue
+  are : AreSaid lines (steps_said steps)
+
+first_step : (line : WordsLine) (lines : List WordsLine) (o : Option CertSaying) → said_of line.words ≡ o → fits_at 1 o ≡ true → AreRest lines → AreSteps (line ∷ lines)
+first_step line lines None is fits rest = absurd (false≢true fits)
+first_step line lines (Some (says_depth d)) is fits rest = absurd (false≢true fits)
+first_step line lines (Some (says_claim n h)) is fits rest =
+    record { steps = record { line = line.number; node = n; claim = h; paths = rest.paths } ∷ rest.steps; are = (refl, is, rest.are) }
+first_step line lines (Some (says_path ns)) is fits rest = absurd (false≢true fits)
+
+steps_there : (lines : List WordsLine) → first_misfit 1 lines ≡ None → AreSteps lines
+steps_there [] none = record { steps = []; are = tt }
+steps_there (line ∷ lines) none =
+    let here = fits_there (fits_at 1 (said_of line.words)) line.number (first_misfit 2 lines) none in
+    first_step line lines (said_of line.words) refl here.0 (rest_said 2 lines (omega arith) here.1)
+
+certificate_there : (line : WordsLine) (lines : List WordsLine) (o : Option CertSaying) → said_of line.words ≡ o → fits_at 0 o ≡ true → AreSteps lines → HasAnswer (AreLinesOf (line ∷ lines)) (IsMalformed (line ∷ lines))
+certificate_there line lines None is fits rest = absurd (false≢true fits)
+certificate_there line lines (Some (says_depth d)) is fits rest = has_value (record { depth = d; steps = rest.steps }) (is, rest.are)
+certificate_there line lines (Some (says_claim n h)) is fits rest = absurd (false≢true fits)
+certificate_there line lines (Some (says_path ns)) is fits rest = absurd (false≢true fits)
+
+lines_some : (lines : List WordsLine) (o : Option ℕ) → malformed_line lines ≡ o → HasAnswer (AreLinesOf lines) (IsMalformed lines)
+lines_some lines (Some n) is = has_fault (Malformed n) (record { line = n; first = is; is = refl })
+lines_some [] None is = absurd (none-some 1 (sym is))
+lines_some (line ∷ lines) None is =
+    let here = fits_there (fits_at 0 (said_of line.words)) line.number (first_misfit 1 lines) is in
+    certificate_there line lines (said_of line.words) refl here.0 (steps_there lines here.1)
+
 lines_settled : (lines : List WordsLine) → IsSettled (AreLinesOf lines) (IsMalformed lines)
-lines_settled lines = search (rules, lines_once, same_Some, none-some, lines_fit)
+lines_settled lines = record {
+  some = lines_some lines (malformed_line lines) refl;
+  one_value = lines_once lines;
+  one_fault = λ e f a b. a.is ∙ ap Malformed (same_Some a.line b.line (sym a.first ∙ b.first)) ∙ sym b.is;
+  not_both = λ c e are fault. none-some fault.line (sym (lines_fit lines c are) ∙ fault.first);
+}
 
 pub one_reading : (text : List ℕ) → HasOneReading text
 one_reading text = text_settled cert_err AreLinesOf IsMalformed text lines_settled

@@ -129,7 +129,7 @@ cert_err text_err.Memory = Memory
 abbrev pub IsCertTextFault : List ℕ → CertErr → Type 0
 IsCertTextFault = IsTextFault cert_err IsMalformed
 
--- a text is that of one certificate at most, or has one refusal at most, and never both
+-- a text is that of one certificate or has one refusal, and not both
 abbrev pub HasOneReading : List ℕ → Type 0
 HasOneReading text = IsSettled (IsCertText text) (IsCertTextFault text)
 

@@ -32,7 +32,7 @@ fn lines_err(error: TextErr) -> CertErr
 /// # Errors
 /// The refusal of the text, by `specs/CertText.antt`: T1 and T2 of its physical lines; otherwise C1 at the first logical line
 /// that has an invalid form or is in the wrong place, and at line 1 if there is none. `Memory` if memory runs out. A text is
-/// at most one certificate or has at most one refusal, and never both.
+/// one certificate or has one refusal, and not both.
 pub fn read_cert(alloc: Global, text: &[u8]) -> Result<Certificate, CertErr>
     requires { length text.now ≤ MOST_BYTES }
     ensures certificate { IfOk result (IsCertText text.now) }

@@ -1,7 +1,7 @@
 -- Hosts that start on the same pack are alike, and a file is of one pack.
 use Rattle.cmd_stations.proofs.Common.{◌≡◌, ℕ, Bool, List, length, map, Some, Ok, sym, ap, ◌∙◌, subst, subst₂, inr, refl, option_and_then, length-map, same_Some, fun_ext, Files, Aig, FitsGraph, Kind, Lit, Pair, PackParam, PackValue, IsConf, inits_of, IsPackFile, AreSame, SpecialiserValue, HasPack, pack_names, present_bytes, IsHostStart, names_of, HasScript, HasMapped, IsMapped, IsTunable, SourceWords, Source, TemplateValue, EventValue, NamesValue, event_of, line_event, SamePacksReplay, arith, rules, each_of}
 use Rattle.std.specs.FinMap.{get}
-use Rattle.ppc_file.proofs.OneReading.{one_reading}
+use Rattle.ppc_file.proofs.OneReading.{one_pack}
 use Rattle.cmd_stations.proofs.ShowLemmas.{pack_param_names}
 use Rattle.run_text.specs.Sayings.{said_of}
 use Rattle.tl_text.specs.LineValue.{WordsLine, words_line}
@@ -48,7 +48,7 @@ same_both p q r a b = record { params = a.params ∙ b.params; kinds = a.kinds �
 
 -- the pack of a file
 pub file_same : (bytes : List ℕ) (p q : PackValue) → IsPackFile bytes p → IsPackFile bytes q → AreSame p q
-file_same bytes p q a b = (one_reading bytes).one_pack p q a b
+file_same bytes p q a b = one_pack bytes p q a b
 
 -- the file in version 2 of the pack of a file is a file of that pack
 pub repacked : (bytes : List ℕ) (pack : PackValue) → IsPackFile bytes pack → IsPackFile (present_bytes pack) pack

@@ -13,6 +13,7 @@ pub mod Work
 pub mod Template
 pub mod Laws
 pub mod Refusals
+pub mod Free
 -- What only bodies are compared with.
 pub mod Served
 pub mod Ruled
@@ -22,7 +23,6 @@ pub mod Planned
 pub mod Supplied
 pub mod Places
 pub mod Choices
-pub mod Free
 pub mod Cone
 pub mod Counted
 pub mod Marks

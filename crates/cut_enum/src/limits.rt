@@ -6,6 +6,9 @@ pub const MOST_OF_A_NODE: usize = 4_096;
 /// The most minimal cuts that a table may hold.
 pub const MOST_OF_A_TABLE: usize = 8_388_608;
 
+// Limits L4 and L5 have these numbers: the contracts name the constants.
+const _: () = prove!(MOST_OF_A_NODE == 4_096 && MOST_OF_A_TABLE == 8_388_608);
+
 /// How many signatures are tested together.
 pub const GROUP: usize = 8;
 

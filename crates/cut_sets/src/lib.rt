@@ -19,7 +19,7 @@
 //!
 //! # Storage
 //! A [`FlatCut`] is a cut as plain data, with its signature. [`CutRows`] holds a row of cuts for each node, with all leaves in
-//! one vector. [`NodeLists`] holds lists of nodes in the same way.
+//! one vector.
 //!
 //! # Laws
 //! `proofs/BlockLemmas.antt` shows that blocking is decidable, that each cut contains a minimal one, and that each list of at
@@ -37,7 +37,6 @@
 mod flat;
 mod limits;
 mod node_labels;
-mod node_lists;
 mod order;
 mod rows;
 mod signatures;
@@ -45,7 +44,6 @@ mod signatures;
 pub use flat::{FlatCut, before, is_part, is_subset, joined, joined_within};
 pub use limits::{MOST_CUTS, MOST_LEAVES};
 pub use node_labels::NodeLabels;
-pub use node_lists::NodeLists;
 pub use order::comes_before;
 pub use rows::CutRows;
 pub use signatures::{leaf_bit, signature};

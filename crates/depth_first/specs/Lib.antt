@@ -4,6 +4,6 @@ pub mod Order
 pub mod Reach
 pub mod Edges
 pub mod Walk
--- What only bodies are compared with.
 pub mod Frames
+-- What only bodies are compared with.
 pub mod Steps

@@ -4,13 +4,13 @@ pub mod Value
 pub mod Stamps
 pub mod Scratch
 pub mod Lows
+pub mod Parts
+pub mod Barriers
 -- What only bodies are compared with.
 pub mod Net
 pub mod Links
 pub mod Search
 pub mod Memory
 pub mod Walks
-pub mod Barriers
-pub mod Parts
 pub mod Labelled
 pub mod LowCuts

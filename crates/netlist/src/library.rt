@@ -1,4 +1,6 @@
 //! A model and a library of models.
+ghost use Rattle.std.specs.Prelude.{◌≡◌};
+
 use crate::command::Command;
 use std::marker::Model;
 use tl_text::{Name, TextKey};
@@ -31,8 +33,7 @@ impl Model for BlifModel {
 #[derive(Drop)]
 pub struct Library {
     pub models: Vec<BlifModel>,
-    /// The key of the netlist's text, for hashes of its names and nodes.
-    pub key: TextKey,
+    key: TextKey,
 }
 
 impl Model for Library {
@@ -41,4 +42,18 @@ impl Model for Library {
     ghost Value = { LibraryValue };
 
     ghost view = { λ l. record { models = l.models.items } };
+}
+
+impl Library {
+    /// The library of these models, from a text of this key.
+    pub fn of(models: Vec<BlifModel>, key: TextKey) -> Library
+        ensures { result ≡ record { models = models.items } }
+    {
+        Library { models, key }
+    }
+
+    /// The key of the netlist's text, for hashes of its names and nodes.
+    pub fn key(&self) -> TextKey {
+        self.key
+    }
 }

@@ -1,5 +1,5 @@
 -- A script by the forms of `ask` and `tick` has no other event, and each of its events fits.
-use Rattle.pace_core.proofs.Common.{◌≡◌, ◌⊎◌, ℕ, Bool, List, [], ◌∷◌, length, map, Option, Some, None, codes, bytes_eq, if◌then◌else◌, refl, sym, ap, ◌∙◌, subst, inl, inr, cons_option, none-some, same_Some, Assign, In, In-get, place_in, EventValue, Set, Cycle, Upset, Scrub, Image, PaceValue, Ask, Tick, pace_of, asks_and_ticks, Fits, AreAsksAndTicks, HasOneReading, rules}
+use Rattle.pace_core.proofs.Common.{◌≡◌, ◌⊎◌, ℕ, Bool, List, [], ◌∷◌, length, map, Option, Some, None, codes, bytes_eq, if◌then◌else◌, refl, sym, ap, ◌∙◌, subst, inl, inr, cons_option, none-some, same_Some, Assign, In, In-get, place_in, EventValue, Set, Cycle, Upset, Scrub, Image, PaceValue, Ask, Tick, pace_of, asks_and_ticks, Fits, AreAsksAndTicks, HasOneReading}
 use Rattle.std.specs.Option.{option_map, option_and_then}
 use Rattle.list_laws.proofs.Choice.{choose}
 use Rattle.tl_text.specs.LineValue.{words_line}
@@ -7,7 +7,9 @@ use Rattle.run_text.specs.EventValue.{in_front, each_of}
 use Rattle.run_text.specs.Fits.{Fits as RunFits}
 use Rattle.run_text.specs.NamesValue.{NamesValue}
 use Rattle.run_text.specs.Sayings.{sets, cycles, form_of, said_by, said_of, settings_of, bits_of, only}
-use Rattle.run_text.specs.ScriptText.{assign_of, event_of, line_event, IsScript}
+use Rattle.tl_fault.specs.Settled.{HasAnswer, has_value, has_fault}
+use Rattle.run_text.specs.ScriptText.{assign_of, event_of, line_event, IsScript, IsScriptFault}
+use Rattle.pace_core.specs.PaceText.{IsPaceScript}
 use Rattle.run_text.specs.declared.event.Forms.TheVariants.{Pace}
 use Rattle.run_text.specs.declared.setting.Setting.{Setting}
 use Rattle.run_text.proofs.EachLemmas.{each_at, each_once}
@@ -96,6 +98,20 @@ events_fit names width read paced wide are fits pace i =
     let e = each_at pace_of read paced p.0 pace are p.1 in
     event_fits names width e.source pace wide e.is (fits e.source (In-get read p.0 e.source e.there))
 
--- a text is one script at most, or has one refusal at most, and never both
-pub one_pace_reading : (names : NamesValue) (text : List ℕ) → HasOneReading names text
-one_pace_reading names text = search (rules, one_reading, each_once)
+-- a text is one script or has one refusal, and not both
+pace_some : (names : NamesValue) (text : List ℕ) → names.forms ≡ Pace → HasAnswer (IsScript names text) (IsScriptFault names text) → HasAnswer (IsPaceScript names text) (IsScriptFault names text)
+pace_some names text forms (has_value read is) = has_value (asks_and_ticks read) (record { read = read; is = is; are = script_paced names text read forms is })
+pace_some names text forms (has_fault e is) = has_fault e is
+
+one_script : (names : NamesValue) (text : List ℕ) (v w : List PaceValue) → IsPaceScript names text v → IsPaceScript names text w → v ≡ w
+one_script names text v w a b =
+    let same = (one_reading names text).one_value a.read b.read a.is b.is in
+    each_once pace_of a.read v w a.are (ap (each_of pace_of) same ∙ b.are)
+
+pub one_pace_reading : (names : NamesValue) (text : List ℕ) → names.forms ≡ Pace → HasOneReading names text
+one_pace_reading names text forms = record {
+  some = pace_some names text forms (one_reading names text).some;
+  one_value = one_script names text;
+  one_fault = (one_reading names text).one_fault;
+  not_both = λ v e a fault. (one_reading names text).not_both a.read e a.is fault;
+}

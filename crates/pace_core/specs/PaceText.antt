@@ -16,6 +16,6 @@ pub record IsPaceScript (names : NamesValue) (text : List ℕ) (events : List Pa
   pub is : IsScript names text read
   pub are : AreAsksAndTicks read events
 
--- a text is one script at most, or has one refusal at most, and never both
+-- a text is one script or has one refusal, and not both
 abbrev pub HasOneReading : NamesValue → List ℕ → Type 0
 HasOneReading names text = IsSettled (IsPaceScript names text) (IsScriptFault names text)

@@ -1,8 +1,14 @@
--- A text is one list of parameters at most, or has one refusal at most, and never both. Refusals of lines by their cases ask of the clock nets only which names are among them.
+-- A text is one list of parameters or has one refusal, and not both. Refusals of lines by their cases ask of the clock nets only which names are among them.
 use Rattle.param_list.proofs.Common.{◌≡◌, ℕ, Bool, List, Some, sym, ap, ◌∙◌, same_Some, apart_once, place_in, same_list, WordsLine, AreOnce, text_settled, FlatValue, Param, par_err, AreNamed, AreParameters, Entry, refusal_at, IsFirstRefusal, IsParamOf, AreParamsOf, HasOneReading, ◌||◌, ◌++◌, Option, None, bytes_eq, refl, slice_get, take, option_and_then, list_any-append, has_name, ParErr, entry_of, names_said, entry_refusal, line_refusal, ◌<◌, ◌≤◌, true, false, not, ltb, leb, length, or_parts, or_left, or_from, ltb-false, leb-false, le-ltb, lt-leb, Parameters, NotInput, IsClock, Repeated}
 use Rattle.list_laws.proofs.TwoLists.{item_there}
-use Rattle.tl_fault.specs.Settled.{IsSettled}
-use Rattle.tl_text.proofs.FirstLemmas.{one_first, none_first}
+use Rattle.std.proofs.Common.{zero, suc, arith, subst, [], ◌∷◌, inl, inr, ◌⊎◌}
+use Rattle.std.proofs.lemmas.Bool.{false≢true}
+use Rattle.std.proofs.lemmas.Option.{none-some}
+use Rattle.std.proofs.lemmas.Option.{slice_get_past}
+use Rattle.tl_fault.specs.Settled.{IsSettled, HasAnswer, has_value, has_fault}
+use Rattle.tl_text.proofs.FirstLemmas.{one_first, none_first, first_or_none}
+use Rattle.tl_text.proofs.NameSetLemmas.{has_in}
+use Rattle.param_list.specs.declared.par_err.ParErr.TheVariants.{Malformed}
 use Rattle.list_laws.proofs.Choice.{none_both}
 
 abbrev param : List ℕ → ℕ → Bool → Param
@@ -22,8 +28,58 @@ one_list inputs clocks once lines params others a b = same_list params others (a
     let l = item_there params lines i p a.count e in
     same_param inputs once l.0 p q (a.each i l.0 p l.1 e) (b.each i l.0 q l.1 f))
 
+-- an element for each of a list, one by one
+record AreEach {A B : Type 0} (Is : A → B → Type 0) (xs : List A) : Type 0 where
+  items : List B
+  count : length items ≡ length xs
+  each : (i : ℕ) (x : A) (y : B) → slice_get xs i ≡ Some x → slice_get items i ≡ Some y → Is x y
+
+each_after : {A B : Type 0} (Is : A → B → Type 0) (x : A) (xs : List A) (y : B) → Is x y → (rest : AreEach Is xs) → (i : ℕ) (a : A) (b : B) → slice_get (x ∷ xs) i ≡ Some a → slice_get (y ∷ rest.items) i ≡ Some b → Is a b
+each_after Is x xs y is rest zero a b e f = subst (λ c. Is c b) (same_Some x a e) (subst (λ c. Is x c) (same_Some y b f) is)
+each_after Is x xs y is rest (suc i) a b e f = rest.each i a b e f
+
+each_found : {A B : Type 0} (Is : A → B → Type 0) (xs : List A) → ((i : ℕ) (x : A) → slice_get xs i ≡ Some x → (y : B) × Is x y) → AreEach Is xs
+each_found Is [] h = record { items = []; count = refl; each = λ i x y e f. absurd (none-some x (sym (slice_get_past [] i (omega arith)) ∙ e)) }
+each_found {A = A} {B = B} Is (x ∷ xs) h =
+    let y = h 0 x refl in
+    let rest = each_found Is xs (λ i z at. h (suc i) z at) in
+    record { items = y.0 ∷ rest.items; count = ap suc rest.count; each = each_after Is x xs y.0 y.1 rest }
+
+-- a line without a refusal gives a parameter
+is_input : (inputs clocks : List (List ℕ)) (name : List ℕ) (b : Bool) → has_name inputs name ≡ b → not (has_name (inputs ++ clocks) name) ≡ false → has_name clocks name ≡ false → has_name inputs name ≡ true
+is_input inputs clocks name true e known clock = e
+is_input inputs clocks name false e known clock =
+    let none : has_name (inputs ++ clocks) name ≡ false = list_any-append (bytes_eq name) inputs clocks ∙ ap (λ x. x || has_name clocks name) e ∙ clock in
+    absurd (false≢true (sym known ∙ ap not none))
+
+entry_some : (inputs clocks earlier : List (List ℕ)) (number : ℕ) (o : Option Entry) → entry_refusal inputs clocks earlier number o ≡ None → (p : Param) × (o ≡ Some (record { name = p.name; init = p.init })) × (slice_get inputs p.input ≡ Some p.name)
+entry_some inputs clocks earlier number None h = absurd (none-some (Malformed number) (sym h))
+entry_some inputs clocks earlier number (Some entry) h =
+    let a = (none_both (ltb 65535 (length entry.name) || leb 65535 (length earlier)) (Parameters number) _ h).1 in
+    let b = none_both (not (has_name (inputs ++ clocks) entry.name)) (NotInput number entry.name) _ a in
+    let c = none_both (has_name clocks entry.name) (IsClock number entry.name) _ b.1 in
+    let place = place_in inputs entry.name (has_in inputs entry.name (is_input inputs clocks entry.name (has_name inputs entry.name) refl b.0 c.0)) in
+    (param entry.name place.0 entry.init, refl, place.1)
+
+line_some : (inputs clocks : List (List ℕ)) (lines : List WordsLine) (i : ℕ) (line : WordsLine) → slice_get lines i ≡ Some line → refusal_at inputs clocks lines i ≡ None → (p : Param) × IsParamOf inputs line p
+line_some inputs clocks lines i line at none =
+    let there : line_refusal inputs clocks (names_said (take i lines)) line ≡ None = sym (ap (option_and_then (line_refusal inputs clocks (names_said (take i lines)))) at) ∙ none in
+    let p = entry_some inputs clocks (names_said (take i lines)) line.number (entry_of line.words) there in
+    (p.0, record { says = p.1; input = p.2 })
+
+lines_some : (inputs clocks : List (List ℕ)) (lines : List WordsLine) → ((i : ℕ) → refusal_at inputs clocks lines i ≡ None) ⊎ ((e : ParErr) × IsFirstRefusal inputs clocks lines e)
+    → HasAnswer (AreParamsOf inputs clocks lines) (IsFirstRefusal inputs clocks lines)
+lines_some inputs clocks lines (inl none) =
+    let params = each_found (IsParamOf inputs) lines (λ i line at. line_some inputs clocks lines i line at (none i)) in
+    has_value params.items (record { no_refusal = none; count = params.count; each = params.each })
+lines_some inputs clocks lines (inr first) = has_fault first.0 first.1
+
+past_lines : (inputs clocks : List (List ℕ)) (lines : List WordsLine) (i : ℕ) → length lines ≤ i → refusal_at inputs clocks lines i ≡ None
+past_lines inputs clocks lines i past = ap (option_and_then (line_refusal inputs clocks (names_said (take i lines)))) (slice_get_past lines i past)
+
 lines_settled : (flat : FlatValue) → AreOnce flat.inputs → (lines : List WordsLine) → IsSettled (AreParamsOf flat.inputs flat.clocks lines) (IsFirstRefusal flat.inputs flat.clocks lines)
 lines_settled flat once lines = record {
+  some = lines_some flat.inputs flat.clocks lines (first_or_none (refusal_at flat.inputs flat.clocks lines) (length lines) (past_lines flat.inputs flat.clocks lines));
   one_value = one_list flat.inputs flat.clocks once lines;
   one_fault = one_first (refusal_at flat.inputs flat.clocks lines);
   not_both = λ params e are first. none_first (refusal_at flat.inputs flat.clocks lines) e are.no_refusal first;

@@ -86,6 +86,6 @@ IsParamsText flat = IsTextOf (λ lines. AreParamsOf flat.inputs flat.clocks line
 abbrev pub IsParamsFault : FlatValue → List ℕ → ParErr → Type 0
 IsParamsFault flat = IsTextFault par_err (λ lines. IsFirstRefusal flat.inputs flat.clocks lines)
 
--- a text is one list of parameters at most, or has one refusal at most, and never both
+-- a text is one list of parameters or has one refusal, and not both
 abbrev pub HasOneReading : FlatValue → List ℕ → Type 0
 HasOneReading flat text = IsSettled (IsParamsText flat text) (IsParamsFault flat text)

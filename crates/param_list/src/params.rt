@@ -57,8 +57,8 @@ fn lines_err(error: TextErr) -> ParErr
 ///
 /// # Errors
 /// The first refusal of the text, by `specs/ParamsText.antt`: T1 and T2 of its physical lines; otherwise the first of P1, L8,
-/// P2, P3 and P4 of the first logical line that has one. `Memory` if memory runs out. A text has at most one list of
-/// parameters or at most one refusal, and never both.
+/// P2, P3 and P4 of the first logical line that has one. `Memory` if memory runs out. A text is one list of
+/// parameters or has one refusal, and not both.
 pub fn read_params(alloc: Global, text: &[u8], flat: &Flat) -> Result<Params, ParErr>
     requires short { length text.now ≤ MOST_BYTES }
     requires few { length flat.now.inputs < 2 ^ 32 }

@@ -3,6 +3,7 @@ mod FieldLemmas
 mod FileExamples
 mod NumberLemmas
 pub mod OneReading
+mod SomeReading
 mod ReadLemmas
 mod ReadsLemmas
 mod StandLemmas

@@ -1,6 +1,8 @@
--- Bytes are the file of one pack at most, or have one refusal at most, and never both.
+-- Bytes are the file of one pack or have one refusal, and not both.
 use Rattle.ppc_file.proofs.Common.{◌≡◌, ℕ, ◌+◌, List, [], length, Option, Some, Ok, Err, refl, sym, ap, subst, ◌∙◌, append-nil, arith, inl, inr, le-ltb, none-some, AreNormal, Lit, Pair, PackValue, IsPack, PackParam, PackErr, Version, One, Two, Field, bytes_of, Front, nothing, in_bits, IsSound, next_at, IsPackFile, IsPackFault, AreSame, HasOneReading}
 use Rattle.ppc_pack.proofs.ConfLemmas.{kinds_count}
+use Rattle.ppc_file.proofs.NumberLemmas.{IsBytes}
+use Rattle.ppc_file.proofs.SomeReading.{some_reading}
 use Rattle.ppc_file.proofs.ReadsLemmas.{Reads, IsEnd, one_end, reads_front}
 
 abbrev pub whole : Version → PackValue → Front
@@ -53,7 +55,7 @@ module _ (bytes : List ℕ) where
   unfolding params_of pairs_of bits_of
   same_whole v w p q is_p is_q e = grind arith
 
-  one_pack : (p q : PackValue) → IsPackFile bytes p → IsPackFile bytes q → AreSame p q
+  pub one_pack : (p q : PackValue) → IsPackFile bytes p → IsPackFile bytes q → AreSame p q
   one_pack p q a b =
       let r = file_reads p a in
       let s = file_reads q b in
@@ -72,5 +74,5 @@ module _ (bytes : List ℕ) where
       let there : next_at (length bytes) (whole r.version pack) [] ≡ next_at (length bytes) fault.front fault.rest = ap (λ (g : Front). next_at (length bytes) g []) same.0 ∙ ap (next_at (length bytes) fault.front) same.1 in
       none-some (Err e) (sym (rw (le-ltb (length pack.bits) (length pack.bits) (omega arith)) refl) ∙ there ∙ fault.refused)
 
-  pub one_reading : HasOneReading bytes
-  one_reading = record { one_pack = one_pack; one_fault = one_fault; not_both = not_both }
+  pub one_reading : IsBytes bytes → HasOneReading bytes
+  one_reading fits = record { some = some_reading bytes fits; one_pack = one_pack; one_fault = one_fault; not_both = not_both }

@@ -1,5 +1,6 @@
 -- The pack of a file, and the first refusal of a file.
 use Rattle.std.specs.Prelude.{◌≡◌, ℕ, ◌⊎◌, List, ◌++◌, length, Some, Err}
+use Rattle.tl_fault.specs.Settled.{HasAnswer}
 use Rattle.ppc_file.specs.Words.{AreNormal, first_and, PackValue, IsPack}
 use Rattle.ppc_file.specs.declared.pack_err.PackErr.{PackErr}
 use Rattle.ppc_file.specs.declared.version.Version.TheVariants.{One, Two}
@@ -27,8 +28,9 @@ pub record AreSame (p q : PackValue) : Type 0 where
   pub pairs : p.graph.pairs ≡ q.graph.pairs
   pub bits : p.bits ≡ q.bits
 
--- bytes are the file of one pack at most, or have one refusal at most, and never both
+-- bytes are the file of one pack or have one refusal, and not both
 pub record HasOneReading (bytes : List ℕ) : Type 0 where
+  pub some : HasAnswer (IsPackFile bytes) (IsPackFault bytes)
   pub one_pack : (p q : PackValue) → IsPackFile bytes p → IsPackFile bytes q → AreSame p q
   pub one_fault : (e f : PackErr) → IsPackFault bytes e → IsPackFault bytes f → e ≡ f
   pub not_both : (pack : PackValue) (e : PackErr) → IsPackFile bytes pack → IsPackFault bytes e → ⊥

@@ -30,22 +30,12 @@ fn read_head(file: &[u8]) -> Result<(Version, &[u8]), PackErr>
     Ok((version, rest))
 }
 
-/// Reads the pack from its file, of version 1 or 2.
-///
-/// Time and memory are linear in the bytes, on average over the hashes. The counts in the file reserve no memory: vectors
-/// grow with what has been read.
-///
-/// # Errors
-/// The first refusal of the file, by `specs/PackFile.antt`: K1 to K8, each with the offset of the refused field. A truncated
-/// field is refused as truncated before anything else about it is checked. `Memory` if memory runs out. Bytes are the file of
-/// at most one pack or have at most one refusal, and never both.
-#[tactic(auto, using(crate::proofs::OneReading::one_reading))]
-pub fn decode(alloc: Global, bytes: &[u8]) -> Result<Pack, PackErr>
+// The pack of a whole file.
+fn read_whole(alloc: Global, bytes: &[u8]) -> Result<Pack, PackErr>
     requires { length bytes.now ≤ MOST_PACK_BYTES }
     ensures ok { IfOk result (λ pack. IsPackFile bytes.now pack) }
     ensures room { IfOk result (λ pack. pack.graph.max ≡ MOST_PACK_NODES) }
     ensures fault { IfErr result (OrMemory refusal_of (IsPackFault bytes.now)) }
-    ensures one_reading { HasOneReading bytes.now }
 {
     let (version, rest) = read_head(bytes)?;
     let key = TextKey::of(bytes);
@@ -56,4 +46,23 @@ pub fn decode(alloc: Global, bytes: &[u8]) -> Result<Pack, PackErr>
         return Err(PackErr::Trailing(offset(bytes.len() as u32, rest)));
     }
     Ok(Pack::make(params, graph, bits))
+}
+
+/// Reads the pack from its file, of version 1 or 2.
+///
+/// Time and memory are linear in the bytes, on average over the hashes. The counts in the file reserve no memory: vectors
+/// grow with what has been read.
+///
+/// # Errors
+/// The first refusal of the file, by `specs/PackFile.antt`: K1 to K8, each with the offset of the refused field. A truncated
+/// field is refused as truncated before anything else about it is checked. `Memory` if memory runs out. Bytes are the file of
+/// one pack or have one refusal, and not both.
+pub fn decode(alloc: Global, bytes: &[u8]) -> Result<Pack, PackErr>
+    requires { length bytes.now ≤ MOST_PACK_BYTES }
+    ensures ok { IfOk result (λ pack. IsPackFile bytes.now pack) }
+    ensures room { IfOk result (λ pack. pack.graph.max ≡ MOST_PACK_NODES) }
+    ensures fault { IfErr result (OrMemory refusal_of (IsPackFault bytes.now)) }
+    ensures one_reading { HasOneReading bytes.now }
+{
+    read_whole(alloc, bytes)
 }

@@ -20,6 +20,11 @@ pub const MOST_PACK_BITS: u32 = 33_554_432;
 /// The maximal size of a pack's file, in bytes.
 pub const MOST_PACK_BYTES: usize = 536_870_912;
 
+// The limits of packs have these numbers: the contracts name the constants.
+const _: () = prove!(
+    MOST_PACK_NODES == 33_554_432 && MOST_PACK_BITS == 33_554_432 && MOST_PACK_BYTES == 536_870_912
+);
+
 /// A parameter of a pack: its name and its initial value.
 #[derive(Debug, Drop)]
 pub struct PackParam {

@@ -97,7 +97,7 @@ IsScript names = IsTextOf (λ lines. AreEventsOf names lines)
 abbrev pub IsScriptFault : NamesValue → List ℕ → ScriptErr → Type 0
 IsScriptFault names = IsTextFault script_err (λ lines. IsFirstRefusal names lines)
 
--- a text is one script at most, or has one refusal at most, and never both
+-- a text is one script or has one refusal, and not both
 abbrev pub HasOneReading : NamesValue → List ℕ → Type 0
 HasOneReading names text = IsSettled (IsScript names text) (IsScriptFault names text)
 

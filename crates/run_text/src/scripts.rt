@@ -37,7 +37,7 @@ fn lines_err(error: TextErr) -> ScriptErr
 /// # Errors
 /// The first refusal of the text, by `specs/ScriptText.antt`: T1 and T2 of its physical lines; otherwise that of the first
 /// logical line that has one. Within a line the order is L7, S1, S6, S2, S3 and S4 word by word, S5. `Memory` if memory runs
-/// out. A text is at most one script or has at most one refusal, and never both.
+/// out. A text is one script or has one refusal, and not both.
 pub fn read_script(alloc: Global, text: &[u8], names: &ScriptNames) -> Result<Vec<Event>, ScriptErr>
     requires short { length text.now ≤ MOST_BYTES }
     requires few { length names.now.params ≤ MOST_PARAMETERS }

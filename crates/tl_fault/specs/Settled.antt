@@ -1,7 +1,13 @@
--- That what is read has one answer: a value or a refusal, one of each at most, and never both.
+-- That what is read has one answer: a value or a refusal, not both, and only one.
 use Rattle.std.specs.Prelude.{◌≡◌}
 
+-- it is a value, or it is refused
+pub data HasAnswer {V E : Type 0} (Is : V → Type 0) (IsFault : E → Type 0) : Type 0 where
+  has_value : (v : V) → Is v → HasAnswer Is IsFault
+  has_fault : (e : E) → IsFault e → HasAnswer Is IsFault
+
 pub record IsSettled {V E : Type 0} (Is : V → Type 0) (IsFault : E → Type 0) : Type 0 where
+  pub some : HasAnswer Is IsFault
   pub one_value : (v w : V) → Is v → Is w → v ≡ w
   pub one_fault : (e f : E) → IsFault e → IsFault f → e ≡ f
   pub not_both : (v : V) (e : E) → Is v → IsFault e → ⊥

@@ -12,7 +12,7 @@ use crate::file_id::{FileId, emptied, opened};
 use crate::file_ids::FileIds;
 use crate::inner_write::write_whole;
 use crate::shelf_counts::ShelfCounts;
-use crate::sync_counts::SyncCounts;
+use crate::sync_counts::{BegunFile, SyncCounts};
 use crate::told_name::NAME_ROOM;
 use crate::{Failed, Shelf};
 use std::fs;
@@ -29,9 +29,9 @@ use std::rt::Files;
 pub struct DiskShelf<R: Files + Drop> {
     rt: R,
     reading: Option<R::File>,
-    writing: Option<R::File>,
+    writing: Option<BegunFile<R::File>>,
     // A file that a read ended, until its device has all its bytes.
-    ended: Option<R::File>,
+    ended: Option<BegunFile<R::File>>,
     begun: FileIds,
     syncs: SyncCounts,
     counts: ShelfCounts,
@@ -96,9 +96,10 @@ impl<R: Files + Drop> DiskShelf<R> {
     }
 
     // Opens the next file and empties it, unless it was begun already.
-    fn begin(&mut self, name: &str) -> Result<R::File, Failed>
+    fn begin(&mut self, name: &str) -> Result<BegunFile<R::File>, Failed>
         ensures ok { OnOk result (self.new ≡ record self.old { is_writing = false; syncs = self.new.syncs }) }
         ensures ok_syncs { OnOk result (BeginsAfterSync self.old.syncs self.new.syncs) }
+        ensures ok_place { IfOk result (λ file. file.place ≡ self.old.syncs.begun) }
         ensures err { OnErr result (self.new ≡ record self.old { is_writing = false; syncs = self.new.syncs }) }
         ensures err_begun { OnErr result (self.new.syncs.begun ≡ self.old.syncs.begun) }
     {
@@ -111,8 +112,7 @@ impl<R: Files + Drop> DiskShelf<R> {
             self.begun.add(id)?;
         }
         emptied(&file, &metadata)?;
-        self.syncs.begin();
-        Ok(file)
+        Ok(self.syncs.begin(file))
     }
 }
 
@@ -227,8 +227,8 @@ impl<R: Files + Drop> Shelf for DiskShelf<R> {
         ensures apart { apart (shelf_on_disk self.new) ≡ apart (shelf_on_disk self.old) }
         ensures syncs { self.new.syncs ≡ self.old.syncs }
     {
-        if let Some(file) = &mut self.writing {
-            if write_whole(file, piece).is_err() {
+        if let Some(begun) = &mut self.writing {
+            if write_whole(&mut begun.file, piece).is_err() {
                 self.counts.count_write_fault();
                 return Err(Failed);
             }

@@ -1,4 +1,4 @@
-//! How many files were begun, and of how many their devices have all bytes.
+//! Which files were begun, and of which their devices have all bytes.
 ghost use Rattle.std.specs.Prelude.{◌≡◌, ◌↔◌, IsTrue, OnOk, OnErr};
 ghost use Rattle.tl_io.specs.Written.{AreSynced, no_syncs, with_begun, with_synced};
 
@@ -6,7 +6,15 @@ use crate::Failed;
 use std::fs::OpenFile;
 use std::marker::Model;
 
-/// How many files were begun, and of how many their devices have all bytes. Only a sync raises the second number.
+/// A file that was begun, with its place: how many were begun before it.
+#[derive(Drop)]
+pub struct BegunFile<F: Drop> {
+    pub file: F,
+    place: u64,
+}
+
+/// How many files were begun, and of how many of the first ones their devices have all bytes. Only a sync of the file that comes
+/// next raises the second number.
 #[derive(Drop)]
 pub struct SyncCounts {
     begun: u64,
@@ -31,28 +39,34 @@ impl SyncCounts {
         }
     }
 
-    /// Records that a file was begun.
-    pub fn begin(&mut self)
-        ensures { self.new ≡ with_begun self.old }
+    /// Records that a file was begun, and gives it its place.
+    pub fn begin<F: Drop>(&mut self, file: F) -> BegunFile<F>
+        ensures counted { self.new ≡ with_begun self.old }
+        ensures placed { result ≡ record { file = file; place = self.old.begun } }
     {
+        let place = self.begun;
         self.begun = self.begun.saturating_add(1);
+        BegunFile { file, place }
     }
 
-    /// Waits until the device has all bytes of a file, and records it. A pipe or a terminal has no device to wait for.
+    /// Waits until the device has all bytes of a file, and records it if the file comes next. A pipe or a terminal has no device
+    /// to wait for.
     ///
     /// # Errors
     /// `Failed` if the device refuses bytes. Nothing is recorded.
-    pub fn sync<F: OpenFile>(&mut self, file: &F) -> Result<(), Failed>
-        ensures ok { OnOk result (self.new ≡ with_synced self.old) }
+    pub fn sync<F: OpenFile + Drop>(&mut self, begun: &BegunFile<F>) -> Result<(), Failed>
+        ensures ok { OnOk result (self.new ≡ with_synced begun.now.place self.old) }
         ensures err { OnErr result (self.new ≡ self.old) }
     {
-        let Ok(metadata) = file.metadata() else {
+        let Ok(metadata) = begun.file.metadata() else {
             return Err(Failed);
         };
-        if metadata.is_file() && file.sync_data().is_err() {
+        if metadata.is_file() && begun.file.sync_data().is_err() {
             return Err(Failed);
         }
-        self.synced = self.synced.saturating_add(1);
+        if begun.place == self.synced {
+            self.synced = self.synced.saturating_add(1);
+        }
         Ok(())
     }
 

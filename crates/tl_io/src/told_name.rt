@@ -6,6 +6,9 @@ use std::marker::Model;
 /// The most bytes of a name that are kept.
 pub const NAME_ROOM: usize = 4_096;
 
+// The contracts name the constant; this is its number.
+const _: () = prove!(NAME_ROOM == 4_096);
+
 /// The first `NAME_ROOM` bytes of a name.
 #[derive(Drop)]
 pub struct ToldName {

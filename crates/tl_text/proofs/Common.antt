@@ -6,7 +6,7 @@ pub use Rattle.std.proofs.lemmas.List.Folds.{list_any_at, find_at, list_any-appe
 pub use Rattle.std.proofs.lemmas.List.Sums.{fails_before_first, suffix_len-take_no, position_or_len_is}
 pub use Rattle.std.proofs.lemmas.Option.{none-some, same_Some, cond_some}
 pub use Rattle.std.specs.List.{list_any, suffix_len, position_or_len, slice_range, position, list_all, flat_map, slice_index, fold}
-pub use Rattle.std.specs.Prelude.{IfOk, OnErr, filter, slice_get, replicate, IfErr}
+pub use Rattle.std.specs.Prelude.{◌⊎◌, IfOk, OnErr, filter, slice_get, replicate, IfErr}
 pub use Rattle.list_laws.proofs.Choice.{choose_one, choose}
 pub use Rattle.list_laws.proofs.FirstPlace.{list_any-position_none, position_none, none_pass}
 pub use Rattle.list_laws.proofs.Members.{In-append, In-map, In-get_or}

@@ -1,7 +1,7 @@
--- A text has one meaning at most, or one refusal at most, and never both, where lines have.
+-- A text has one meaning or one refusal, and not both, where lines have.
 use Rattle.tl_text.proofs.Common.{◌≡◌, ℕ, List, map, Option, None, Result, Ok, Err, IfOk, refl, sym, subst, Unless, OrMemory, LineValue, WordsLine, words_line, lines_of, refusal_of, TextErr, Memory, arith, IfErr, IfOk-weaker, IfErr-weaker}
 use Rattle.tl_fault.specs.RefusalValue.{RefusalValue}
-use Rattle.tl_fault.specs.Settled.{IsSettled, IsAfter, IsFaultAfter, passed_on, here}
+use Rattle.tl_fault.specs.Settled.{IsSettled, HasAnswer, has_value, has_fault, IsAfter, IsFaultAfter, passed_on, here}
 use Rattle.tl_fault.proofs.OrMemoryLemmas.{Unless-of, OrMemory-map}
 use Rattle.tl_fault.proofs.SettledLemmas.{result_settled, after_settled}
 use Rattle.tl_text.specs.TextOf.{IsTextOf, IsTextFault, by_lines, at_line}
@@ -24,8 +24,23 @@ module _ {V E : Type 0} (own : TextErr → E) (Is : List WordsLine → V → Typ
   fault_behind e (by_lines a) = passed_on a.error a.lines_are a.is
   fault_behind e (at_line lines a b) = here lines a b
 
+  lines_some : (lines : List LineValue) → lines_of text ≡ Ok lines → HasAnswer (Is (map (words_line text) lines)) (IsFault (map (words_line text) lines)) → HasAnswer (IsTextOf Is text) (IsTextFault own IsFault text)
+  lines_some lines are (has_value v is) = has_value v (record { lines = lines; lines_are = are; are = is })
+  lines_some lines are (has_fault e is) = has_fault e (at_line lines are is)
+
+  text_some : ((lines : List WordsLine) → IsSettled (Is lines) (IsFault lines)) → (r : Result (List LineValue) TextErr) → lines_of text ≡ r → HasAnswer (IsTextOf Is text) (IsTextFault own IsFault text)
+  text_some settled (Ok lines) are = lines_some lines are (settled (map (words_line text) lines)).some
+  text_some settled (Err e) are = has_fault (own e) (by_lines (record { error = e; lines_are = are; is = refl }))
+
   pub text_settled : ((lines : List WordsLine) → IsSettled (Is lines) (IsFault lines)) → IsSettled (IsTextOf Is text) (IsTextFault own IsFault text)
-  text_settled settled = grind arith
+  text_settled settled =
+      let s = after_settled HasLines (λ error. lines_of text ≡ Err error) own LinesAre AreRefused (result_settled (lines_of text)) (λ lines are. settled (map (words_line text) lines)) in
+      record {
+        some = text_some settled (lines_of text) refl;
+        one_value = λ v w a b. s.one_value v w (behind v a) (behind w b);
+        one_fault = λ e f a b. s.one_fault e f (fault_behind e a) (fault_behind f b);
+        not_both = λ v e a b. s.not_both v e (behind v a) (fault_behind e b);
+      }
 
 -- the error of a reader that stands for a refusal of the lines
 pub lines_fault : {E : Type 0} (own : TextErr → E) (told : E → Option RefusalValue) (IsFault : List WordsLine → E → Type 0) (text : List ℕ) (error : TextErr) (e : E) → e ≡ own error → told (own Memory) ≡ None

@@ -316,7 +316,7 @@ pub(crate) fn make_nets(
     requires instances { AreInstances library.now instances.now }
     ensures { IfOk result (λ nets. AreEmptyNets library.now (paths_of instances.now) nets) }
 {
-    let names = all_distinct_names(alloc, library.key, &library.models)?;
+    let names = all_distinct_names(alloc, library.key(), &library.models)?;
     let (starts, count) = row_starts(alloc, &names, instances)?;
     let slots = empty_slots(alloc, count)?;
     Ok(Nets::new(names, starts, slots))
