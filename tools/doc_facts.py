@@ -250,7 +250,7 @@ def counts(tree: Tree) -> list[tuple[str, str, list[int]]]:
     """Where a page states a count: the page, a pattern, and what each of its groups must be."""
     lines = [tree.sum(place) for place in range(3)]
     players = tree.sum(0, {"test_player", "test_rows"})
-    tests = tree.sum(0, {"test_player", "test_rows", "test_stages", "test_texts"})
+    tests = tree.sum(0, {"test_player", "test_rows", "test_stages"})
     commands = len(tree.commands)
     families = sum(1 for name in tree.crates if name.startswith("cmd_") and name not in ("cmd_base", "cmd_stations"))
     refused = len(place_of(r"CALLS = \[\n(.*?)^\]", read("tools/refused_memory.py"), re.MULTILINE | re.DOTALL)[1].splitlines())

@@ -5,8 +5,9 @@
 
 Outside the gate. Call `./tlut` once before, to build the program. It needs a C compiler, for a library that is loaded before the program
 and refuses the Nth allocation. For each command N rises until the call ends as it does with all memory. Each call before that must end
-with status 8, with nothing printed on stdout and no file written, or be complete. The last line is `N passed, M failed`, and the exit
-status is 1 if M isn't 0.
+with status 8, with nothing printed on stdout and no file written, or be complete. The first of them, which lack memory for the arguments or
+the ports, write nothing on stderr; from the first one that writes the fault line, each one must. The last line is `N passed, M failed`, and
+the exit status is 1 if M isn't 0.
 """
 
 from __future__ import annotations
@@ -115,18 +116,20 @@ def main() -> int:
         shim = shared.preloaded(SHIM, folder)
         for words in CALLS:
             whole, count = call(program, shim, words, 0)
-            refusals = 0
+            refusals, silent = 0, 0
             for refused in range(1, count + 1):
                 left, _ = call(program, shim, words, refused)
-                # A call that can't get its arguments ends without a line; each other one reports that it is out of memory.
-                is_silent = left[0] == 8 and left[1] == b"" and left[2] in (b"", b"tlut: out of memory\n") and left[3] == FILES
+                # A call that can't get its arguments or its ports ends without a line; each other one reports that it is out of memory.
+                is_told = left == (8, b"", b"tlut: out of memory\n", FILES)
+                is_silent = left == (8, b"", b"", FILES) and silent == refusals
                 refusals += left[0] == 8
-                if left == whole or is_silent:
+                silent += is_silent
+                if left == whole or is_told or is_silent:
                     passed += 1
                 else:
                     failed += 1
                     print(f"{words}: allocation {refused}: {left[:3]}")
-            print(f"{words}: {count} allocations, {refusals} of which end it")
+            print(f"{words}: {count} allocations, {refusals} of which end it, the first {silent} without a line")
     return shared.summary(passed, failed)
 
 

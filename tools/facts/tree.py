@@ -11,7 +11,7 @@ from typing import Iterator, Optional
 from shared import TOP
 
 # Crates whose functions no other crate of the product calls.
-TESTS = {"test_player", "test_rows", "test_stages", "test_texts", "bench_mapping", "tlut", "tlut_compact", "tlut_examples", "tlut_main"}
+TESTS = {"test_player", "test_rows", "test_stages", "bench_mapping", "tlut", "tlut_compact", "tlut_examples", "tlut_main"}
 
 
 def read(path: str) -> str:

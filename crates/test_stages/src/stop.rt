@@ -3,13 +3,16 @@ use std::alloc::AllocError;
 use std::io;
 
 /// Why the program stops before its end.
-#[derive(Drop)]
+#[derive(Clone, Copy, Debug, thiserror::Error)]
 pub enum StageStop {
     /// A stage refused what it was given.
+    #[error("refused")]
     Refused,
     /// There is no memory.
+    #[error("out of memory")]
     Memory,
     /// The output failed.
+    #[error("write failed")]
     Outside,
 }
 

@@ -1,0 +1,2 @@
+-- How a call of a program ends.
+pub mod Ends
