@@ -12,6 +12,7 @@ from dataclasses import dataclass, replace
 from typing import Optional
 
 from tlutflow import tools
+from tlutflow.build_files import refuse_links
 from tlutflow.buses import buses_of
 from tlutflow.commands.hdl import add_family_word
 from tlutflow.commands.prepare import add_shared_words, check_limits, progress, settle, sizes, task_of
@@ -253,6 +254,7 @@ def run(given: argparse.Namespace) -> int:
         made = make(given, folder)
         try:
             os.makedirs(given.out, exist_ok=True)
+            refuse_links(files)
             shutil.copyfile(f"{folder}/netlist.blif", files[0])
         except OSError as error:
             raise Fault(f"{error.filename or given.out}: {error.strerror}") from None
