@@ -207,7 +207,7 @@ class Build:
             jobs = [(k, name) for k in ks for name in calls]
 
             def one(job: tuple[int, str]) -> list[str]:
-                at = f"{room}/{job[0]}{job[1]}".replace(" ", "_")
+                at = f"{room}/{job[0]}{job[1].replace(' ', '_')}"
                 os.makedirs(at)
                 return calls[job[1]](job[0], at).cells()
 
