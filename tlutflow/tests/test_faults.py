@@ -10,7 +10,7 @@ from unittest import mock
 from tlutflow.commands import report
 from tlutflow.fault_line import parse_fault
 from tlutflow.steps import Steps
-from tlutflow.tests.helpers import MUX, MUX_PACK, MUX_TEMPLATE, TOP, InFolder, flow, needs
+from tlutflow.tests.helpers import MUX, MUX_PACK, MUX_TEMPLATE, TOP, InFolder, flow, heed_signals, needs
 from tlutflow.tools import YOSYS
 
 DIGITS = "9" * 5000
@@ -97,5 +97,6 @@ class Mistakes(InFolder):
         for module in ("tlutflow.main", "tlutflow.commands.wave", "tlutflow.devices.cfglut"):
             variables = {**os.environ, "PYTHONPATH": self.folder, "INTERRUPTED": module}
             for words in ((f"{TOP}/flow",), ("-m", "tlutflow")):
-                ran = subprocess.run([sys.executable, *words, "explain", "x"], env=variables, cwd=TOP, capture_output=True, text=True, check=False)
+                call = [sys.executable, *words, "explain", "x"]
+                ran = subprocess.run(call, env=variables, cwd=TOP, capture_output=True, text=True, check=False, preexec_fn=heed_signals)
                 self.assertEqual((ran.returncode, ran.stderr), (1, "flow: stopped\n"), (module, words))
