@@ -2,6 +2,9 @@
 
 import sys
 
-from tlutflow.main import main
+try:
+    from tlutflow.main import main
+except KeyboardInterrupt:
+    sys.exit("flow: stopped")
 
 sys.exit(main(sys.argv[1:]))

@@ -52,7 +52,7 @@ class Mapping:
         os.makedirs(folder, exist_ok=True)
         ran = tools.run([tools.tlut(program), *RULES[rule], "map", str(k), netlist, parameters, made.template, made.pack_file])
         if ran.returncode:
-            raise refusal_of(ran)
+            raise refusal_of(ran, written=[made.template, made.pack_file])
         return made
 
     @cached_property

@@ -4,10 +4,14 @@ from __future__ import annotations
 
 import os
 import shutil
+from typing import Iterable
 
 from tlutflow import tools
 from tlutflow.faults import Fault
 from tlutflow.text import read_text
+
+# What every report has: the circuit for its picture.
+PAGE_MARK = "\nconst CIRCUIT = "
 
 
 def program_file(program: str) -> str:
@@ -22,6 +26,19 @@ def make_folder(path: str) -> None:
         os.makedirs(path, exist_ok=True)
     except OSError as error:
         raise Fault(f"{path}: {error.strerror}") from None
+
+
+def refuse_links(paths: Iterable[str]) -> None:
+    """Refuses to write files through links: these lead to files of somebody else."""
+    for path in paths:
+        if os.path.islink(path):
+            raise Fault(f"{path} is a link, and nothing is written through one; remove it, or choose another --out")
+
+
+def refuse_foreign_page(path: str) -> None:
+    """Refuses to replace a page that is no report of a build."""
+    if os.path.lexists(path) and PAGE_MARK not in read_text(path):
+        raise Fault(f"{path} is there and is no report of a build; remove it, or choose another --out")
 
 
 def copy(source: str, target: str) -> None:

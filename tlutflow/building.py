@@ -15,7 +15,7 @@ from typing import Any, Callable, Optional
 
 from tlutflow import tools
 from tlutflow.abc_form import abc_text
-from tlutflow.build_files import copy, make_folder, program_file
+from tlutflow.build_files import copy, make_folder, program_file, refuse_links
 from tlutflow.built import Built, told_of
 from tlutflow.bus import Bus
 from tlutflow.buses import buses_of
@@ -68,6 +68,7 @@ class Build:
 
     def all(self) -> Built:
         """Creates everything except the page."""
+        refuse_links([path for path, _ in self.listed()])
         self.netlist()
         if self.device is not None:
             self.built.rule = self.device.choose(self.built.preparation.get("best"))
@@ -206,7 +207,7 @@ class Build:
             jobs = [(k, name) for k in ks for name in calls]
 
             def one(job: tuple[int, str]) -> list[str]:
-                at = f"{room}/{job[0]}{job[1]}".replace(" ", "_")
+                at = f"{room}/{job[0]}{job[1].replace(' ', '_')}"
                 os.makedirs(at)
                 return calls[job[1]](job[0], at).cells()
 
@@ -221,7 +222,7 @@ class Build:
         def work() -> str:
             ran = tools.run([self.program, *rule, *words])
             if ran.returncode:
-                raise refusal_of(ran)
+                raise refusal_of(ran, written=writes)
             return ran.stdout
 
         return str(self.steps.make(step, [rule, words], [*reads, self.binary], writes, work))

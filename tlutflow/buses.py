@@ -1,8 +1,8 @@
 """Buses: nets whose names are one name with an index, and numbers as their values.
 
 The nets `x[0]`, `x[1]` and `x[2]` are the bus `x`, whose lowest digit is the net with the lowest index. Indices must follow one on
-another, and no net may have the bus's name alone; else each of the nets stands for itself. Where `TOP.ports.json` has a port or a register
-with these nets, its order of digits counts instead.
+another and have at most nine digits, and no net may have the bus's name alone; else each of the nets stands for itself. Where
+`TOP.ports.json` has a port or a register with these nets, its order of digits counts instead.
 """
 
 from __future__ import annotations
@@ -14,7 +14,8 @@ from tlutflow.bus import Bus
 from tlutflow.faults import Fault
 from tlutflow.port_file import Ports
 
-INDEXED = re.compile(r"(.+)\[(0|[1-9][0-9]*)\]")
+# A net with an index of more digits, which no bus has, stands for itself.
+INDEXED = re.compile(r"(.+)\[(0|[1-9][0-9]{0,8})\]")
 
 
 def buses_of(names: Iterable[str], ports: Optional[Ports] = None) -> dict[str, Bus]:

@@ -179,6 +179,21 @@ def circuit_of(library: Library, pack: Pack, file: str, ports: Ports = Ports()) 
         raise Fault(f"{library.file}: not a template written by map: it has no configuration bits")
     if first != len(pack.bits):
         raise Fault(f"{library.file} has {first} configuration bits and {file} has {len(pack.bits)}: they come from different calls of map")
-    wires = {cover.output: cover.inputs[0] for cover in main.covers[len(luts) :]}
+    wires = {cover.output: (cover.inputs or [cover.output])[0] for cover in main.covers[len(luts) :]}
     roots = {name: wires.get(name, name) for name in main.outputs}
-    return Circuit(main.name, [it for it in inputs if it != clock], clock, roots, main.latches, luts, pack, ports)
+    circuit = Circuit(main.name, [it for it in inputs if it != clock], clock, roots, main.latches, luts, pack, ports)
+    refuse_undriven(circuit, library.file)
+    return circuit
+
+
+def refuse_undriven(circuit: Circuit, file: str) -> None:
+    """Refuses a template in which something reads a net that nothing before it drives."""
+    driven = {*circuit.inputs, *(latch.state for latch in circuit.latches)}
+    for lut in circuit.luts:
+        for leaf in lut.leaves:
+            if leaf not in driven:
+                raise Fault(f"{file}: not a template written by map: the LUT {lut.net} reads {leaf}, which nothing before it drives")
+        driven.add(lut.net)
+    for net in (*circuit.roots.values(), *(latch.source for latch in circuit.latches)):
+        if net not in driven:
+            raise Fault(f"{file}: not a template written by map: nothing drives {net}")

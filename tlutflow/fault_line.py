@@ -7,7 +7,7 @@ from dataclasses import dataclass
 from typing import Optional
 
 CODED = re.compile(r"tlut: (.*?): ([A-Z][0-9]+) ([A-Z][A-Za-z]*)( .*)?")
-NUMBERED = re.compile(r" (?:model (\S+) )?line ([0-9]+)(.*)")
+NUMBERED = re.compile(r" (?:model (\S+) )?line ([0-9]{1,18})(?![0-9])(.*)")
 READ = re.compile(r"tlut: (.*): read failed")
 
 

@@ -106,7 +106,7 @@ class PacedHost:
 
     def __init__(self, path: str, rate: int, library: str = LIBRARY):
         """Opens a pack file at the initial values of its parameters, with their configuration on the device."""
-        if not 0 < rate <= MOST_RATE:
+        if isinstance(rate, bool) or not isinstance(rate, int) or not 0 < rate <= MOST_RATE:
             raise Fault(f"rate {rate}: a tick writes 1 to {MOST_RATE} bits")
         with Host(path, library) as host:
             self.bits, self.parameters, self.buses = host.bits, host.parameters, host.buses

@@ -6,6 +6,8 @@ import argparse
 import io
 import os
 import sys
+import tempfile
+import traceback
 from types import ModuleType
 from typing import Any, NoReturn, Optional
 
@@ -85,17 +87,42 @@ def main(words: Optional[list[str]] = None) -> int:
     for stream in (sys.stdout, sys.stderr):
         if isinstance(stream, io.TextIOWrapper):
             stream.reconfigure(encoding="utf-8", errors="surrogateescape")
-    given = parser().parse_args(words)
+    prog = "flow"
     try:
+        given = parser().parse_args(words)
+        prog = given.prog
         with stoppable():
             status = int(given.run(given))
         sys.stdout.flush()
         return status
-    except Fault as fault:
-        print(f"{given.prog}: {printable(str(fault))}", file=sys.stderr)
     except BrokenPipeError:
         # Whoever read the output is gone; nothing more is put, at the end of Python neither.
         os.dup2(os.open(os.devnull, os.O_WRONLY), sys.stdout.fileno())
     except KeyboardInterrupt:
-        print(f"{given.prog}: stopped", file=sys.stderr)
+        print(f"{prog}: stopped", file=sys.stderr)
+    except Exception as error:
+        print(f"{prog}: {printable(line_of(error))}", file=sys.stderr)
     return 1
+
+
+def line_of(error: Exception) -> str:
+    """What is said of a failure."""
+    if isinstance(error, Fault):
+        return str(error)
+    if isinstance(error, OSError) and error.strerror:
+        return f"{error.filename or 'a temporary file, or the output'}: {error.strerror}"
+    if isinstance(error, MemoryError):
+        return "out of memory"
+    name = type(error).__name__
+    return f"this is a fault of flow, not of its input: {name}: {error}; {kept_trace(error)}"
+
+
+def kept_trace(error: Exception) -> str:
+    """Writes the way to a failure into a file, and says where."""
+    try:
+        number, path = tempfile.mkstemp(".txt", "flow-fault-")
+        with open(number, "w", encoding="utf-8", errors="surrogateescape") as file:
+            file.writelines([f"flow {version()}\n", f"{sys.argv}\n", *traceback.format_exception(type(error), error, error.__traceback__)])
+    except OSError as why:
+        return f"its traceback can't be written: {why.strerror}"
+    return f"its traceback is in {path}, which a report should have"

@@ -47,7 +47,7 @@ def sizes_by_tlut(program: str, size: int, netlist: str, parameters: str, folder
     fault = parse_fault(told)
     if fault and fault.code.startswith("L"):
         return Sizes(refusal=fault.code)
-    raise refusal(told, dict(zip(files, (netlist, parameters))))
+    raise refusal(told, dict(zip(files, (netlist, parameters))), [f"{folder}/{it}" for it in MAPPED])
 
 
 def sizes_by_abc(abc: str, size: int, netlist: str, words: str, folder: str, seconds: float = SECONDS) -> Sizes:

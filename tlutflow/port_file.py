@@ -78,7 +78,7 @@ def read_ports_file(path: str) -> Ports:
         given = json.loads(read_text(path))
         buses = [bus_of_json(it) for it in [*given["ports"], *given["buses"]]]
         registers = [str(it) for it in given["registers"]]
-    except (ValueError, KeyError, TypeError, AttributeError):
+    except (ValueError, KeyError, TypeError, AttributeError, RecursionError):
         raise Fault(f"{path}: `flow verilog` didn't write it; remove it, or run `flow verilog` again") from None
     return Ports({bus.name: bus for bus in buses}, registers)
 

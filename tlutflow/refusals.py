@@ -3,7 +3,8 @@
 from __future__ import annotations
 
 import subprocess
-from typing import Mapping, Optional
+from dataclasses import replace
+from typing import Mapping, Optional, Sequence
 
 from tlutflow.explanations import BY_CODE, BY_WORD, CELLS, Explanation
 from tlutflow.fault_line import FaultLine, parse_fault
@@ -28,18 +29,21 @@ def head_of(fault: FaultLine) -> str:
     return f"{fault.file}: {words}" if fault.file else words
 
 
-def refusal(line: str, shown: Optional[Mapping[str, str]] = None) -> Fault:
-    """The fault of a line that `tlut` printed, with its explanation. `shown` has what files are called instead of their paths."""
+def refusal(line: str, shown: Optional[Mapping[str, str]] = None, written: Sequence[str] = ()) -> Fault:
+    """The fault of a line that `tlut` printed, with its explanation. `shown` has what files are called instead of their paths, and `written`
+    the files that the call wrote, which a line on a failed write doesn't name."""
     for path, name in (shown or {}).items():
         line = line.replace(path, name)
     fault = parse_fault(line)
+    if fault and fault.word == "write failed" and written:
+        fault = replace(fault, file=" or ".join(written))
     known = explanation_of(fault) if fault else None
     if fault is None or known is None:
         return Fault(line)
     return Fault(f"{head_of(fault)}; wanted: {known.wants}; usual cause: {known.cause}; remedy: {known.remedy}")
 
 
-def refusal_of(ran: subprocess.CompletedProcess[str], shown: Optional[Mapping[str, str]] = None) -> Fault:
+def refusal_of(ran: subprocess.CompletedProcess[str], shown: Optional[Mapping[str, str]] = None, written: Sequence[str] = ()) -> Fault:
     """The fault of a call of `tlut` that failed."""
     lines = ran.stderr.strip().splitlines()
-    return refusal(lines[-1], shown) if lines else Fault(f"tlut ended with status {ran.returncode}")
+    return refusal(lines[-1], shown, written) if lines else Fault(f"tlut ended with status {ran.returncode}")

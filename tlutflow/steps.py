@@ -45,14 +45,14 @@ class Steps:
             with open(f"{self.folder}/{RECORD}", encoding="utf-8") as file:
                 found = json.load(file)
             return found if isinstance(found, dict) else {}
-        except (OSError, ValueError):
+        except (OSError, ValueError, RecursionError):
             return {}
 
     def make(self, name: str, words: list[Any], reads: list[str], writes: list[str], work: Callable[[], Any]) -> Any:
         """Runs a step unless it would do the same as before. Returns the result of the work, which JSON can hold."""
         key = hashlib.sha256(json.dumps([FORMAT, words, [[path, checksum(path)] for path in reads]]).encode()).hexdigest()
         known = self.known.get(name)
-        if isinstance(known, dict) and known.get("key") == key and known.get("files") == self.written(writes) and "" not in known["files"].values():
+        if isinstance(known, dict) and known.get("key") == key and known.get("files") == self.written(writes) and "" not in known["files"].values() and "result" in known:
             self.say(f"{name}: as before")
             return known["result"]
         begun = time.monotonic()

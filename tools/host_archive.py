@@ -11,13 +11,14 @@ from __future__ import annotations
 
 import os
 import shutil
+import signal
 import subprocess
 import sys
 import tempfile
 
 import shared
 import sources
-from build_program import copy_crates
+from build_program import INTERRUPTED, SIGNALS, Interrupted, copy_crates, ended, interrupt
 from shared import TOP
 
 CRATE = "tlut_host"
@@ -46,7 +47,9 @@ def build(rt: str, target: str, cpu: str, archive: str) -> int:
         copy_crates(room, sources.read_lines()[1][CRATE])
         words = compiling(room, kit, target, cpu, f"{folder}/made.a")
         for call, place in (([rt, "ci"], room), (words, own)):
-            status = subprocess.run(call, cwd=place, stdin=subprocess.DEVNULL, check=False).returncode
+            process = subprocess.Popen(call, cwd=place, stdin=subprocess.DEVNULL, text=True)
+            with ended(process):
+                status = process.wait()
             if status:
                 return status
         shutil.move(f"{folder}/made.a", archive)
@@ -64,7 +67,13 @@ def main() -> int:
     if not rt:
         print(f"{given.rt} isn't installed: it proves and builds the library", file=sys.stderr)
         return 1
-    return build(rt, given.target, given.cpu, os.path.abspath(given.archive))
+    for number in SIGNALS:
+        signal.signal(number, interrupt)
+    try:
+        return build(rt, given.target, given.cpu, os.path.abspath(given.archive))
+    except Interrupted:
+        print("interrupted; what is proved is kept, and the next call continues there", file=sys.stderr)
+        return INTERRUPTED
 
 
 if __name__ == "__main__":

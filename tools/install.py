@@ -11,10 +11,12 @@ what the manifest lists; nothing else is replaced or removed. If DESTDIR is set,
 from __future__ import annotations
 
 import os
+import signal
 import sys
 import tempfile
 
 import shared
+from build_program import INTERRUPTED, SIGNALS, Interrupted, interrupt
 from packing import manifest, tree
 
 
@@ -34,8 +36,13 @@ def main() -> int:
     parser.add_argument("version", metavar="VERSION", help="the line of `tlut --version`")
     given = parser.parse_args()
     root = os.environ.get("DESTDIR", "").rstrip("/") + given.prefix
+    for number in SIGNALS:
+        signal.signal(number, interrupt)
     try:
         install(root, given.prefix, given.version)
+    except Interrupted:
+        print("tlut: interrupted; install continues where this call stopped, and uninstall removes what it wrote", file=sys.stderr)
+        return INTERRUPTED
     except manifest.Refused as why:
         print(f"tlut: {why}", file=sys.stderr)
         return 1

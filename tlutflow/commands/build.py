@@ -5,6 +5,7 @@ from __future__ import annotations
 import argparse
 from dataclasses import dataclass
 
+from tlutflow.build_files import refuse_foreign_page, refuse_links
 from tlutflow.building import Build
 from tlutflow.built import Built
 from tlutflow.circuit import Circuit, read_circuit
@@ -16,6 +17,7 @@ from tlutflow.faults import Fault
 from tlutflow.netlist import read_library
 from tlutflow.reports.circuit_view import with_names
 from tlutflow.reports.report_page import page
+from tlutflow.steps import RECORD
 from tlutflow.text import count, write_text
 
 HELP = "from a design to all files and a report, in one command"
@@ -78,10 +80,12 @@ def make(given: argparse.Namespace) -> Made:
     """Builds a design, and writes the page."""
     check(given)
     settle(given)
+    report = f"{given.out}/index.html"
+    refuse_links([report, f"{given.out}/{RECORD}"])
+    refuse_foreign_page(report)
     build = Build(given)
     built = build.all()
     circuit = with_names(read_circuit(build.path("_t.blif"), build.path(".ppc")), read_library(build.path(".blif")))
-    report = f"{given.out}/index.html"
     write_text(report, page(built, circuit))
     return Made(built, circuit, report)
 

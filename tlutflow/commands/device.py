@@ -9,7 +9,7 @@ import shlex
 import sys
 
 from tlutflow import tools
-from tlutflow.build_files import copy
+from tlutflow.build_files import copy, refuse_links
 from tlutflow.circuit import is_template
 from tlutflow.commands.hdl import make_folder
 from tlutflow.device import PART, PLACERS, WIDEST, device_recipe
@@ -113,6 +113,7 @@ def run(given: argparse.Namespace) -> int:
         return 0
     tools.need(tools.YOSYS, "a device's netlist")
     make_folder(given.out)
+    refuse_links([f"{base}{end}" for end in (".ys", ".json", ".edif", ".asc", ".config")])
     write_script(given, base)
     print(f"{base}.json: {cells_of(synthesise(given, base))}")
     place(given, base)

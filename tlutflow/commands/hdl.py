@@ -7,6 +7,7 @@ import os
 import sys
 
 from tlutflow import tools
+from tlutflow.build_files import refuse_links
 from tlutflow.circuit import Circuit, read_circuit
 from tlutflow.devices.families import FAMILIES, told
 from tlutflow.faults import Fault
@@ -127,6 +128,7 @@ def write_files(given: argparse.Namespace, circuit: Circuit, folder: str) -> tup
         script = read_script(given.script, circuit.inputs)
         check_end(len(script), output)
         events = events_text(device, script, output)
+    refuse_links([f"{base}.v", f"{base}_bench.v", f"{base}.events"])
     write_text(f"{base}.v", module_text(circuit, names, device))
     write_text(f"{base}_bench.v", bench_text(circuit, names, device) + device.model)
     if events is not None:

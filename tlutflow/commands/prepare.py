@@ -59,7 +59,7 @@ def add_shared_words(parser: argparse.ArgumentParser, k: int) -> None:
     aims = "what to minimise; changes: the median number of bits that a random parameter change rewrites; sites: what --device counts"
     parser.add_argument("--for", dest="aim", type=aim_of, choices=list(AIMS), help=f"{aims} (default: depth, then the fewest LUTs; with --device sites)")
     parser.add_argument("--rule", choices=list(RULES), help="map by this rule alone (default: by both)")
-    parser.add_argument("--seconds", type=float, default=60, help="CPU time that ABC may take for a preparation or a comparison, or for a part of one, and time for a simulation of build (default: 60)")
+    parser.add_argument("--seconds", type=float, default=60, help="CPU time that ABC may take for a preparation, a comparison or a size, or for a part of one, and time for a simulation of build (default: 60)")
     parser.add_argument("--try", dest="further", metavar="NAME=COMMANDS", action="append", default=[], help="a further preparation, commands of ABC (repeat it)")
     parser.add_argument("--only", metavar="NAME", action="append", default=[], help="try this preparation alone (repeat it)")
     parser.add_argument("--rounds", type=int, choices=(1, 2, 3), default=1, help="a further round starts from the two best of the round before (default: 1)")

@@ -15,6 +15,7 @@ from typing import Optional
 from tlutflow import tools
 from tlutflow.arithmetic.netlists import sum_netlist, word_source
 from tlutflow.arithmetic.variants import STYLES
+from tlutflow.build_files import refuse_links
 from tlutflow.buses import buses_of
 from tlutflow.commands.hdl import add_family_word
 from tlutflow.commands.prepare import add_shared_words, check_limits, progress, settle, sizes, task_of
@@ -314,6 +315,7 @@ def run(given: argparse.Namespace) -> int:
         made = make(given, folder)
         try:
             os.makedirs(given.out, exist_ok=True)
+            refuse_links(files)
             shutil.copyfile(f"{folder}/netlist.blif", files[0])
         except OSError as error:
             raise Fault(f"{error.filename or given.out}: {error.strerror}") from None

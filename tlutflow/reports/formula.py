@@ -45,7 +45,7 @@ class Formulas:
 
     def named_index(self, word: str) -> Optional[int]:
         """The index of which a word of a formula is the name, or None."""
-        found = re.fullmatch(self.mark + "([0-9]+)", word)
+        found = re.fullmatch(self.mark + "([0-9]{1,9})", word)
         return int(found[1]) if found else None
 
     def of_literal(self, literal: int) -> str:

@@ -7,7 +7,7 @@ from html import escape
 from typing import Any, Iterable, Optional
 from urllib.parse import quote
 
-from tlutflow.build_files import page_text
+from tlutflow.build_files import PAGE_MARK, page_text
 from tlutflow.built import Built
 from tlutflow.buses import buses_of
 from tlutflow.changes import EXHAUSTIVE, spread
@@ -273,7 +273,7 @@ def page(built: Built, circuit: Circuit) -> str:
     return (
         f'<!DOCTYPE html>\n<html lang="en">\n<head>\n<meta charset="utf-8">\n<meta name="viewport" content="width=device-width, initial-scale=1">\n<title>{title}</title>\n'
         f"<style>\n{page_text('report.css')}</style>\n</head>\n<body>\n<main>\n<h1>{title}</h1>\n<p class='soft'>{lead}</p>\n{told}{cards(built, found)}\n<nav>{links}</nav>\n{body}\n</main>\n"
-        f"<script>\nconst CIRCUIT = {data};\n{page_text('report.js')}</script>\n</body>\n</html>\n"
+        f"<script>{PAGE_MARK}{data};\n{page_text('report.js')}</script>\n</body>\n</html>\n"
     )
 
 

@@ -9,12 +9,12 @@ from typing import Optional
 from tlutflow.faults import Fault
 from tlutflow.text import physical_lines
 
-HEADER = re.compile(r"luts (\d+) bits (\d+) depth (\d+)")
-PACK_HEADER = re.compile(r"bits (\d+)")
-WRITES = re.compile(r"(set|scrub|wait) (\d+)((?: \d+=[01])*)")
+HEADER = re.compile(r"luts (\d{1,18}) bits (\d{1,18}) depth (\d{1,18})")
+PACK_HEADER = re.compile(r"bits (\d{1,18})")
+WRITES = re.compile(r"(set|scrub|wait) (\d{1,18})((?: \d{1,18}=[01])*)")
 CYCLE = re.compile(r"cycle ([01]+|-) ([01]+|-)")
-UPSET = re.compile(r"upset (\d+=[01])")
-ASK = re.compile(r"ask \d+")
+UPSET = re.compile(r"upset (\d{1,18}=[01])")
+ASK = re.compile(r"ask \d{1,18}")
 IMAGE = re.compile(r"image ([01]+|-)")
 
 

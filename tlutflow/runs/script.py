@@ -56,7 +56,10 @@ def event_of(line: Line, regular: list[str]) -> Event:
         if len(digits) != len(regular):
             raise ValueError
         return Event(word, {name: int(bit) for name, bit in zip(regular, digits)})
-    return Event(word, {}, int(others[0]) if word == "upset" else 0)
+    if word == "upset":
+        (address,) = others
+        return Event(word, {}, int(address))
+    return Event(word, {})
 
 
 def bits_text(bits: list[int]) -> str:

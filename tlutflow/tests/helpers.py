@@ -4,6 +4,7 @@ from __future__ import annotations
 
 import io
 import os
+import signal
 import subprocess
 import sys
 import tempfile
@@ -85,6 +86,12 @@ def needs(*programs: tuple[str, ...]):
     """Leaves a test out where a program isn't there."""
     missing = [tools.TITLES[it] for it in programs if tools.find(it) is None]
     return unittest.skipIf(missing, f"{', '.join(missing)} isn't there")
+
+
+def heed_signals() -> None:
+    """Has a program that a test starts end by signals, also where the tests themselves run in the background, and so ignore some."""
+    for number in (signal.SIGINT, signal.SIGHUP):
+        signal.signal(number, signal.SIG_DFL)
 
 
 def yosys_share() -> str:

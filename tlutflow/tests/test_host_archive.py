@@ -1,10 +1,14 @@
 """How the library for host programs is proved and compiled, by tools/host_archive.py. Scripts stand for the toolchain."""
 
 import os
+import shutil
+import signal
 import subprocess
 import sys
+import time
 
 from tlutflow.tests.checkout import Checkout
+from tlutflow.tests.helpers import TOP
 
 # Stand for the toolchain: `rt ci` proves each crate of the folder that it runs in, and `rattle` compiles from what it left there.
 RT = f"""#!{sys.executable}
@@ -26,6 +30,11 @@ print(words[0], os.listdir("src"), [(name, os.path.basename(path), path.startswi
 if "FAKE_PROOF_FAILS" not in os.environ:
     open(given["-o"], "w").write(given["--crate-type"] + " " + given["--target"] + " " + given["--cpu"])
 sys.exit(int("FAKE_PROOF_FAILS" in os.environ))
+"""
+# Stands for a gate that takes long: it says that it has begun.
+SLOW = """#!/bin/sh
+echo $$ > "$BEGUN.new" && mv "$BEGUN.new" "$BEGUN"
+exec sleep 60
 """
 
 
@@ -64,3 +73,31 @@ class HostArchive(Checkout):
         ran = self.build(FAKE_PROOF_FAILS="1")
         self.assertEqual((ran.returncode, len(ran.stdout.splitlines())), (1, 2))
         self.assertFalse(os.path.exists(f"{self.folder}/made.a"))
+
+    def assert_all_is_ended(self, words: list[str], status: int, **variables: str) -> None:
+        """SIGTERM ends the call, the gate that it runs, and its folders."""
+        os.chmod(self.put("kit/bin/rt", SLOW), 0o755)
+        os.makedirs(f"{self.folder}/temporary")
+        variables = {**os.environ, "TMPDIR": f"{self.folder}/temporary", "BEGUN": f"{self.folder}/begun", **variables}
+        with open(os.devnull, "wb") as nothing:
+            ran = subprocess.Popen(words, cwd=self.folder, env=variables, stdout=nothing, stderr=nothing)
+        for _ in range(300):
+            if os.path.exists(f"{self.folder}/begun"):
+                break
+            time.sleep(0.1)
+        with open(f"{self.folder}/begun", encoding="ascii") as file:
+            gate = int(file.read())
+        ran.send_signal(signal.SIGTERM)
+        self.assertEqual(ran.wait(40), status)
+        self.assertEqual(os.listdir(f"{self.folder}/temporary"), [])
+        self.assertFalse(os.path.exists(f"/proc/{gate}"))
+
+    def test_a_signal_ends_all_of_it(self) -> None:
+        words = [f"{self.folder}/kit/bin/rt", "x86_64-unknown-linux-gnu", "x86-64", "made.a"]
+        self.assert_all_is_ended([sys.executable, f"{self.top}/tools/host_archive.py", *words], 130)
+
+    def test_a_signal_ends_make_and_all_of_it(self) -> None:
+        if not shutil.which("make"):
+            self.skipTest("GNU make (make) isn't there")
+        shutil.copytree(f"{TOP}/include", f"{self.top}/include", ignore=shutil.ignore_patterns("build"))
+        self.assert_all_is_ended(["make", "-C", f"{self.top}/include", f"RT={self.folder}/kit/bin/rt"], -signal.SIGTERM)

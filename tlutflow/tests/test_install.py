@@ -6,6 +6,14 @@ import shutil
 from tlutflow.tests.checkout import Checkout
 from tlutflow.tests.helpers import TOP
 
+# Ends this very program by a signal when it imports a module.
+SIGNAL = """import os, signal, sys
+class Finder:
+    def find_spec(self, name, path=None, target=None):
+        if name == "tlutflow.commands.complete":
+            os.kill(os.getpid(), signal.SIGTERM)
+sys.meta_path.insert(0, Finder())
+"""
 LINKS = ("bin/tlut", "bin/tlut-compact", "bin/tlut-flow")
 
 
@@ -146,6 +154,14 @@ class Install(Checkout):
             self.put("pre fix/share/doc/tlut/docs/page.md", "of another version\n")
             self.assertEqual(self.call(f"{self.top}/tlut", word, self.prefix).returncode, 0)
         self.assertEqual(self.files(), [])
+
+    def test_a_signal_leaves_no_temporary_folder(self):
+        """It comes when the pages are made, for which the companion is imported."""
+        os.makedirs(f"{self.folder}/temporary")
+        self.put("sitecustomize.py", SIGNAL)
+        ran = self.call(f"{self.top}/tlut", "install", self.prefix, TMPDIR=f"{self.folder}/temporary", PYTHONPATH=self.folder, PYTHONDONTWRITEBYTECODE="1")
+        self.assertEqual((ran.returncode, ran.stderr.count("\n"), os.listdir(f"{self.folder}/temporary")), (130, 1, []), ran.stderr)
+        self.install()
 
     def test_destdir(self):
         self.install("/usr", DESTDIR=f"{self.folder}/stage")

@@ -1,9 +1,11 @@
 """Names of files that no script can hold: none runs a command or is read as a pattern, and each one is named as it was given."""
 
 import os
+from unittest import mock
 
 from tlutflow.plain_names import PlainNames, is_plain
 from tlutflow.tests.helpers import MUX, MUX_PACK, MUX_TEMPLATE, InFolder, flow, needs
+from tlutflow.tests.test_build import NEEDS_TLUT
 from tlutflow.tools import ABC, ICARUS, ICARUS_PLAYER, YOSYS
 from tlutflow.verilog.recipe import Sources
 
@@ -123,12 +125,24 @@ class TemporaryFolder(InFolder):
         super().setUp()
         self.room = f"{self.folder}/a b\"$(touch pwned)"
         os.makedirs(self.room)
+        # Python looks at TMPDIR once.
+        chosen = mock.patch("tempfile.tempdir", self.room)
+        chosen.start()
+        self.addCleanup(chosen.stop)
 
     @needs(YOSYS)
     def test_synthesis(self):
         self.put("top.v", "module top (input a, b, output y); assign y = a ^ b; endmodule\n")
         ran = flow("verilog", "--quick", "top.v", "--top", "top", folder=self.folder, TMPDIR=self.room)
         self.assertEqual((ran.returncode, os.listdir(self.room)), (0, []), ran.stderr)
+
+    @needs(ABC)
+    @NEEDS_TLUT
+    def test_a_build(self):
+        words = ("build", self.put("n.blif", MUX), self.put("n.par", "p 0\n"), "--quick", "--k", "4", "--out", f"{self.folder}/out")
+        ran = flow(*words, TMPDIR=self.room)
+        self.assertEqual(ran.returncode, 0, ran.stderr)
+        self.assertEqual((os.listdir(self.room), sorted(os.listdir(self.folder))), ([], sorted([os.path.basename(self.room), "n.blif", "n.par", "out"])))
 
     @needs(ABC)
     def test_comparison(self):

@@ -13,7 +13,7 @@ from tlutflow import tools
 from tlutflow.api import arguments
 from tlutflow.commands import build
 from tlutflow.faults import Undecided
-from tlutflow.tests.helpers import MUX, TOP, InFolder, flow, needs
+from tlutflow.tests.helpers import MUX, TOP, InFolder, flow, heed_signals, needs
 from tlutflow.tests.test_abc import FAKE
 from tlutflow.tests.test_build import NEEDS_TLUT
 from tlutflow.tools import ABC, find, run, versions
@@ -125,7 +125,7 @@ class Stopped(Programs):
                 for name in ("inner", "outer"):
                     if os.path.exists(f"{self.folder}/{name}"):
                         os.remove(f"{self.folder}/{name}")
-                ran = subprocess.Popen([sys.executable, f"{TOP}/flow", *words], env=variables, stderr=subprocess.PIPE, text=True)
+                ran = subprocess.Popen([sys.executable, f"{TOP}/flow", *words], env=variables, stderr=subprocess.PIPE, text=True, preexec_fn=heed_signals)
                 programs = [self.begun(name) for name in ("outer", "inner")]
                 ran.send_signal(number)
                 self.assertEqual((ran.communicate(timeout=30)[1], ran.returncode), (f"flow {words[0]}: stopped\n", 1))

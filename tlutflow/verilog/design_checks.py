@@ -19,7 +19,7 @@ def titles(design: Design, names: Iterable[str]) -> list[str]:
     """Names of bits: all of a net, or some that follow one another, as `count[3:0]`."""
     places: dict[str, list[int]] = {}
     for name in names:
-        found = re.fullmatch(r"(.*?)(?:\[(\d+)\])?", name)
+        found = re.fullmatch(r"(.*?)(?:\[([0-9]{1,9})\])?", name)
         if found and found[2] is not None:
             places.setdefault(found[1], []).append(int(found[2]))
         else:

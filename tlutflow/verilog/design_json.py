@@ -101,7 +101,10 @@ def read_design(path: str, top: str, shown: Callable[[str], str] = str) -> Desig
     def with_places(entry: dict[str, Any]) -> dict[str, Any]:
         return {**entry, "src": shown(entry["src"])} if isinstance(entry.get("src"), str) else entry
 
-    modules = json.loads(read_text(path), object_hook=with_places)["modules"]
+    try:
+        modules = json.loads(read_text(path), object_hook=with_places)["modules"]
+    except (ValueError, KeyError, TypeError) as error:
+        raise Fault(f"{path}: Yosys didn't write this file to its end; is the disk full?") from error
     name = top if top in modules else next((it for it, module in modules.items() if int(module.get("attributes", {}).get("top", "0"), 2)), "")
     if not name:
         raise Fault(f"--top {top}: the modules are {', '.join(modules) or 'none'}")
