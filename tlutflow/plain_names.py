@@ -70,7 +70,8 @@ class PlainNames:
         if known:
             return known
         made = self.new(given, end)
-        os.symlink(os.path.abspath(given), made)
+        # A `..` after a link is for the system to follow.
+        os.symlink(os.path.join(os.getcwd(), given), made)
         return made
 
     def new(self, given: str, end: str) -> str:

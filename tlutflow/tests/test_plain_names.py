@@ -36,6 +36,13 @@ class Names(InFolder):
         self.assertEqual(names.path("a/b c.v"), f"{names.folder}/1.v")
         self.assertEqual(names.shown(f"{names.folder}/0/c.v:7: {names.folder}/1.v. {names.folder}/10"), f"a b/c.v:7: a/b c.v. {names.folder}/10")
 
+    def test_a_way_through_a_link(self):
+        os.makedirs(f"{self.folder}/other/inner")
+        os.symlink("other/inner", f"{self.folder}/way")
+        path = self.put("other/a b.v", "mine")
+        made = PlainNames(f"{self.folder}/names").path(f"{self.folder}/way/../a b.v")
+        self.assertTrue(os.path.samefile(made, path))
+
     def test_plain_sources_stay_as_they_are(self):
         given = Sources(["a.v", "b/c.sv"], "top", includes=["inc"], cells=["d.v"])
         self.assertEqual(PlainNames(f"{self.folder}/names").sources(given), given)
