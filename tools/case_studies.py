@@ -35,6 +35,7 @@ from tlutflow.parameters import read_parameters
 from tlutflow.preparing.trials import Task, prepare
 from tlutflow.reports.plots import RATES, plot, ticks_of
 from tlutflow.text import read_text, write_text
+from tlutflow.verilog.recipe import PREPARATION
 
 PAGE = f"{TOP}/docs/case-studies.md"
 PICTURES = f"{TOP}/docs/pictures"
@@ -82,7 +83,7 @@ def studies(room: str, names: list[str]) -> list[Study]:
     for top, drawings in (("fir8", (Drawing("fir8", 6, ("y[1]",)),)), ("fir8_sums", ())):
         if names and top not in names:
             continue
-        ran = tools.run([f"{TOP}/flow", "verilog", "examples/fir8/fir8.v", "--top", top, "--quick", "--out", room], TOP)
+        ran = tools.run([f"{TOP}/flow", "verilog", "examples/fir8/fir8.v", "--top", top, "--abc", PREPARATION, "--out", room], TOP)
         if ran.returncode:
             raise Fault(ran.stderr.strip())
         netlist, parameters = (f"{room}/{top}{end}" for end in (".blif", ".par"))

@@ -6,7 +6,7 @@
 For each design and K it prints the LUTs and the depth that `tlut --compact` has by the one preparation of `flow verilog --quick`, by the
 preparation of the least depth and by that of the fewest LUTs, and the least depth that ABC's `if` or `if -a` has on the same preparations
 with the parameters as inputs. Each kept netlist is compared with its source by `flow check`, and with --alone each preparation is also
-run alone, and the best of these is to be that of the list. The last lines are geometric means against `--quick`. It needs Yosys and ABC,
+run alone, and the best of these is to be that of the list. The last lines are geometric means against `yosys`, the recipe's own preparation. It needs Yosys and ABC,
 and a built tlut.
 """
 
@@ -116,7 +116,7 @@ def main() -> int:
     parser.add_argument("--design", metavar="WORD", action="append", default=[], help="the designs with this word in their titles (repeat it)")
     parser.add_argument("--alone", action="store_true", help="run each preparation alone too, and compare")
     given = parser.parse_args()
-    print("| Design | K | `--quick` | least depth | by | fewest LUTs | by | ABC, least depth | by |\n|---|---|---|---|---|---|---|---|---|", flush=True)
+    print("| Design | K | `yosys` | least depth | by | fewest LUTs | by | ABC, least depth | by |\n|---|---|---|---|---|---|---|---|---|", flush=True)
     ratios: dict[int, list[tuple[float, float]]] = {}
     with tempfile.TemporaryDirectory(prefix="flow-") as room:
         for title, source in sources(room).items():

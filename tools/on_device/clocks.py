@@ -19,7 +19,7 @@ from tlutflow.devices.families import FAMILIES
 from tlutflow.devices.registers import HELD, mapped, with_registers
 from tlutflow.parameters import read_parameters
 from tlutflow.text import write_text
-from tlutflow.verilog.recipe import Sources
+from tlutflow.verilog.recipe import PREPARATION, Sources
 
 DESIGNS = ("rules", "branches", "pulses")
 PART = ("--hx8k", "--package", "ct256", "--pcf-allow-unconstrained")
@@ -37,7 +37,7 @@ def forms(name: str, at: Room) -> Forms:
 def make_forms(name: str, at: Room) -> None:
     """Makes the three netlists of a design for nextpnr."""
     source, folder = f"{TOP}/{HOME}/{name}.v", at.folder
-    must([FLOW, "verilog", "--quick", source, "--top", name, "--out", folder])
+    must([FLOW, "verilog", "--abc", PREPARATION, source, "--top", name, "--out", folder])
     files = [f"{name}.blif", f"{name}.par"]
     must([program(), "--compact", "map", "4", *files, "t.blif", "p.ppc"], "", folder)
     must([program(), "--compact", "spec", "4", *files, "s.blif"], "", folder)

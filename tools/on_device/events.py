@@ -9,6 +9,7 @@ from typing import Any
 from on_device.calls import FLOW, Room, must
 
 from tlutflow.text import read_text, write_text
+from tlutflow.verilog.recipe import PREPARATION
 
 # The cycles of a script, and after how many of them parameters get new values. The larger design has a chain of thousands of bits, and all
 # of its logic changes at each step of it, which takes Icarus minutes.
@@ -43,7 +44,7 @@ def events(ports: list[dict[str, Any]], parameters: set[str], name: str) -> str:
 
 def prepared(source: str, name: str, room: Room) -> None:
     """Writes the netlist of a design with one preparation, its parameters and a random script: NAME.blif, NAME.par and NAME.scr."""
-    must([FLOW, "verilog", "--quick", source, "--top", name, "--out", room.folder])
+    must([FLOW, "verilog", "--abc", PREPARATION, source, "--top", name, "--out", room.folder])
     ports = json.loads(read_text(room.path(f"{name}.ports.json")))["ports"]
     parameters = {line.split()[0].split("[")[0] for line in read_text(room.path(f"{name}.par")).splitlines()}
     words = [FLOW, "script", room.path(f"{name}.blif"), room.path(f"{name}.par")]

@@ -6,6 +6,7 @@ import re
 from typing import Any
 
 from on_device.calls import FLOW, Room, must, program, room, version
+from tlutflow.verilog.recipe import PREPARATION
 
 DESIGNS = ("fir",)
 FILTER = ["examples/fir/fir.v", "--top", "fir", "--param", "c0=5", "--param", "c1=3", "--param", "c2=6"]
@@ -13,7 +14,7 @@ FILTER = ["examples/fir/fir.v", "--top", "fir", "--param", "c0=5", "--param", "c
 
 def placed(at: Room) -> dict[str, int]:
     """The LUTs of the filter at K 4, the cells that Yosys creates for them, and the logic cells that nextpnr places."""
-    must([FLOW, "verilog", "--quick", *FILTER, "--out", at.folder])
+    must([FLOW, "verilog", "--abc", PREPARATION, *FILTER, "--out", at.folder])
     told = must([program(), "spec", "4", at.path("fir.blif"), at.path("fir.par"), at.path("spec.blif")])
     told += must([FLOW, "device", at.path("spec.blif"), "--target", "ice40", "--out", at.folder])
     patterns = {"luts": r"^luts (\d+) ", "cells": r"(\d+) SB_LUT4", "placed": r"(\d+) of \d+ ICESTORM_LC"}

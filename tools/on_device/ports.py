@@ -13,7 +13,7 @@ from tlutflow.devices.families import FAMILIES, Family
 from tlutflow.devices.registers import mapped, with_registers
 from tlutflow.parameters import read_parameters
 from tlutflow.text import write_text
-from tlutflow.verilog.recipe import Sources
+from tlutflow.verilog.recipe import PREPARATION, Sources
 from tlutflow.verilog.store import store_of
 
 # The source of each design, and the initial values of its parameters that the source doesn't have.
@@ -53,7 +53,7 @@ def prepared(name: str, at: Room) -> None:
     """Writes the netlist of a design with one preparation."""
     source, values = DESIGNS[name]
     words = [f"--param={port}={value}" for port, value in values.items()]
-    must([FLOW, "verilog", "--quick", source, "--top", name, *words, "--out", at.folder])
+    must([FLOW, "verilog", "--abc", PREPARATION, source, "--top", name, *words, "--out", at.folder])
 
 
 def of_size(name: str, k: int, at: Room) -> dict[str, Any]:
