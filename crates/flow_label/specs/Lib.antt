@@ -5,6 +5,7 @@ pub mod Stamps
 pub mod Scratch
 pub mod Lows
 -- What only bodies are compared with.
+pub mod Trunks
 pub mod Net
 pub mod Links
 pub mod Search
