@@ -1,5 +1,5 @@
 -- What blocks a node: the ends do, and so does what a blocked search has met and not passed, which is no more than there are paths.
-use Rattle.flow_label.proofs.Common.{◌≡◌, ℕ, zero, suc, cond, ltb, choose, take, slice_get-get_or, ◌+◌, ◌<◌, ◌≤◌, Bool, true, false, List, [], ◌∷◌, ◌++◌, length, get_or, map, refl, sym, ap, ◌∙◌, subst, inl, inr, eqb, arith, length-append, eqb-true, eqb-false, cases_lt, cases_Bool, source_below, Regular, IsAnd, In, Within, IsAscending, Blocks, member, AreApart, joined_apart, apart_short, In-append, In-map, In-place, from_map, union, ascending_of, unmarked, IsLowCut, FlowNet, IsInner, IsUpper, IsEnd, IsNet, AreEnds, IsChoice, HasChosen, IsLinked, IsHandedOn, AreMet, ArePassed, SiteValue, net_of, owner_in, AreLinks, IsBlocked, label_at, rules, append-nil, drop, not, not-true, length-map, length-filter_both, filter, filtered_apart, In-filter, in_filter, drop_get, drop_past, put, In-union, union_left, IsAscending-union}
+use Rattle.flow_label.proofs.Common.{◌≡◌, ℕ, zero, suc, cond, ltb, take, slice_get-get_or, ◌+◌, ◌<◌, ◌≤◌, Bool, true, false, List, [], ◌∷◌, ◌++◌, length, get_or, map, refl, sym, ap, ◌∙◌, subst, inl, inr, eqb, arith, length-append, eqb-true, eqb-false, cases_lt, cases_Bool, source_below, IsAnd, In, Within, IsAscending, Blocks, member, AreApart, joined_apart, apart_short, In-append, In-map, In-place, from_map, union, ascending_of, unmarked, IsLowCut, FlowNet, IsInner, IsUpper, IsEnd, IsNet, IsOpen, IsTight, IsLive, IsFanIn, AreReaders, AreEnds, IsChoice, HasChosen, IsLinked, IsHandedOn, AreMet, ArePassed, SiteValue, net_of, owner_in, AreLinks, IsBlocked, label_at, rules, append-nil, drop, not, not-true, length-map, length-filter_both, filter, filtered_apart, In-filter, in_filter, drop_get, drop_past, put, In-union, union_left, IsAscending-union}
 use Rattle.std.proofs.lemmas.List.Elements.{filter_more}
 use Rattle.flow_label.proofs.OnceLemmas.{ascending_apart}
 use Rattle.flow_label.proofs.GraphLemmas.{blocks_by_live, fan_in_below, live_pos, live_leaf}
@@ -10,14 +10,14 @@ pub mapped_apart : (f back : ℕ → ℕ) (us : List ℕ) → AreApart us → ((
 mapped_apart f back [] d is = tt
 mapped_apart f back (u ∷ us) d is = grind (arith, from_map, mapped_apart f back us d.1 (λ v i. is v (inr i)))
 
-module _ (net : FlowNet) (is : IsNet net) (c : List ℕ) (by_ends : (u : ℕ) → IsEnd net u → Blocks net.graph c u) where
+module _ (net : FlowNet) (is : IsNet net) (readers : AreReaders net) (c : List ℕ) (by_ends : (u : ℕ) → IsEnd net u → Blocks net.graph c u) where
   upper_and : (v : ℕ) → IsUpper net v → IsAnd net.graph v
   upper_and v (inl e) = subst (λ x. IsAnd net.graph x) (sym e) is.and
   upper_and v (inr u) = search (rules, source_below)
 
   upper_below : (v : ℕ) → IsUpper net v → v ≤ net.node
   upper_below v (inl e) = omega arith
-  upper_below v (inr u) = let b : v < net.node = (is.readers.met v u.0).below in omega arith
+  upper_below v (inr u) = let b : v < net.node = (readers.met v u.0).below in omega arith
 
   -- what blocks all ends blocks all upper nodes
   upper_blocked : (b v : ℕ) → v < b → IsUpper net v → Blocks net.graph c v
@@ -25,7 +25,7 @@ module _ (net : FlowNet) (is : IsNet net) (c : List ℕ) (by_ends : (u : ℕ) �
   upper_blocked (suc b) v l u =
       blocks_by_live net.graph net.label c v net.node is.normal is.known (upper_below v u) (upper_and v u)
       (λ x f live. let below : x < v = fan_in_below net.graph x v is.normal f in
-      let met : 0 < net.reader x = is.readers.all x v u f live in
+      let met : 0 < net.reader x = readers.all x v u f live in
       elim (cases_lt (net.label x + 1) net.height) [
         | inl low ↦ by_ends x (record { met = met; low = low })
         | inr deep ↦ upper_blocked b x (omega arith) (inr (met, deep))
@@ -36,21 +36,21 @@ module _ (net : FlowNet) (is : IsNet net) (c : List ℕ) (by_ends : (u : ℕ) �
   node_blocked = upper_blocked (suc net.node) net.node (omega arith) (inl refl)
 
 -- The ends are a low cut, where they are few.
-pub ends_cut : (net : FlowNet) → IsNet net → (k : ℕ) (ends : List ℕ) → AreEnds net ends → length (ascending_of ends) ≤ k → IsLowCut net.graph k net.node net.height net.label (ascending_of ends)
-ends_cut net is k ends are few =
+pub ends_cut : (net : FlowNet) → IsNet net → AreReaders net → (k : ℕ) (ends : List ℕ) → AreEnds net ends → length (ascending_of ends) ≤ k → IsLowCut net.graph k net.node net.height net.label (ascending_of ends)
+ends_cut net is readers k ends are few =
     let end_of : (m : ℕ) → In (union ends []) m → IsEnd net m = (λ m i. elim (In-union ends [] m i) [ inl j ↦ are.only m j | inr b ↦ absurd b ]) in
     record {
       cut = record {
         ascending = IsAscending-union ends [] tt;
         few = few;
-        below = λ m i. let r = is.readers.met m (end_of m i).met in (r.below, live_leaf net.graph net.label m r.live);
-        blocks = node_blocked net is (union ends []) (λ u e. member (union_left ends [] u (are.all u e)));
+        below = λ m i. let r = readers.met m (end_of m i).met in (r.below, live_leaf net.graph net.label m r.live);
+        blocks = node_blocked net is readers (union ends []) (λ u e. member (union_left ends [] u (are.all u e)));
       };
       low = λ m i. (end_of m i).low;
     }
 
 module _ (net : FlowNet) (is : IsNet net) (owner chosen : ℕ → ℕ) (count : ℕ) (k : IsLinked net 0 owner chosen count) (queue backs marks : List ℕ) (met : AreMet net owner queue backs)
-    (ends : (u : ℕ) → IsEnd net u → In queue u) (handed : (u : ℕ) → In queue u → IsHandedOn net owner queue u) (passes : ArePassed net owner queue [] marks) where
+    (ends : (u : ℕ) → IsEnd net u → In queue u) (handed : (u : ℕ) → In queue u → IsHandedOn net owner queue u) (passes : ArePassed net owner queue [] marks) (tight : IsTight net owner queue) (readers : AreReaders net) where
   -- does the node own it, or another one
   abbrev own : ℕ → Bool
   own u = eqb (owner u) net.node
@@ -70,7 +70,7 @@ module _ (net : FlowNet) (is : IsNet net) (owner chosen : ℕ → ℕ) (count : 
   barrier = ascending_of (unmarked marks queue)
 
   not_zero : (u : ℕ) → In queue u → u ≡ 0 → ⊥
-  not_zero u i e = let p : 0 < u = live_pos net.graph net.label u (met.nodes u i).1 in absurd (omega arith)
+  not_zero u i e = let p : 0 < u = live_pos net.graph net.label u (met.nodes u i).1.live in absurd (omega arith)
 
   not_own : (u : ℕ) → other u ≡ true → owner u ≡ net.node → ⊥
   not_own u o = eqb-false (owner u) net.node (not-true (own u) o)
@@ -88,6 +88,12 @@ module _ (net : FlowNet) (is : IsNet net) (owner chosen : ℕ → ℕ) (count : 
   passed_handed a i =
       let r = from_map owner (filter other queue) a i in
       elim (handed r.0 (In-filter other queue r.0 r.1).0) [ inl e ↦ absurd (not_own r.0 (In-filter other queue r.0 r.1).1 e) | inr h ↦ subst (λ x. IsInner net x × ((m : ℕ) → IsChoice net x m → In queue m)) (sym r.2) h ]
+
+  -- live nodes that they read are open
+  passed_open : (a m : ℕ) → In passed a → IsFanIn net.graph m a → IsLive net.graph net.label m → IsOpen net m
+  passed_open a m i f live =
+      let r = from_map owner (filter other queue) a i in
+      tight.passed r.0 m (In-filter other queue r.0 r.1).0 (subst (λ x. IsInner net x) r.2 (passed_handed a i).0) (subst (λ x. IsFanIn net.graph m x) r.2 f) live
 
   passed_met : Within passed queue
   passed_met a i = (passed_handed a i).1 a (inl refl)
@@ -141,7 +147,7 @@ module _ (net : FlowNet) (is : IsNet net) (owner chosen : ℕ → ℕ) (count : 
     | inr f ↦ member (union_left (unmarked marks queue) [] m (in_filter fresh queue m i (fresh_mark m (omega arith))))
     | inl t ↦ (let p = passed_handed m (mark_passed m t) in
         blocks_by_live net.graph net.label barrier m net.node is.normal is.known (omega arith) p.0.and
-        (λ x f live. let below : x < m = fan_in_below net.graph x m is.normal f in met_blocked b x (omega arith) (p.1 x (inr (f, live)))))
+        (λ x f live. let below : x < m = fan_in_below net.graph x m is.normal f in met_blocked b x (omega arith) (p.1 x (inr (f, passed_open m x (mark_passed m t) f live)))))
   ]
 
   -- So they are a low cut, where there are few paths.
@@ -150,20 +156,21 @@ module _ (net : FlowNet) (is : IsNet net) (owner chosen : ℕ → ℕ) (count : 
     cut = record {
       ascending = barrier_ascending;
       few = (let l : length barrier ≤ count = barrier_few in omega arith);
-      below = λ m i. let q = met.nodes m (barrier_in m i).0 in (q.0, live_leaf net.graph net.label m q.1);
-      blocks = node_blocked net is barrier (λ u e. met_blocked (suc u) u (omega arith) (ends u e));
+      below = λ m i. let q = met.nodes m (barrier_in m i).0 in (q.0, live_leaf net.graph net.label m q.1.live);
+      blocks = node_blocked net is readers barrier (λ u e. met_blocked (suc u) u (omega arith) (ends u e));
     };
     low = λ m i. (met.nodes m (barrier_in m i).0).2;
   }
 
 -- what a blocked search of a site has found
-pub blocked_few : (site : SiteValue) (owners starts queue backs marks : List ℕ) → IsNet (net_of site) → AreLinks site owners starts → IsBlocked site owners queue backs marks → length (ascending_of (unmarked marks queue)) ≤ length starts
-blocked_few site owners starts queue backs marks is links b = search (rules, barrier_few)
+pub blocked_few : (site : SiteValue) (owners starts queue backs marks : List ℕ) → IsNet (net_of site) → AreReaders (net_of site) → AreLinks site owners starts → IsBlocked site owners queue backs marks → IsTight (net_of site) (owner_in site owners) queue → length (ascending_of (unmarked marks queue)) ≤ length starts
+blocked_few site owners starts queue backs marks is readers links b tight =
+    barrier_few (net_of site) is (owner_in site owners) links.chosen (length starts) links.routed.linked queue backs marks b.met (λ u e. b.ends u e (tight.ends u e)) b.handed b.passed_are tight readers
 
-pub blocked_cut : (site : SiteValue) (owners starts queue backs marks : List ℕ) (k : ℕ) → IsNet (net_of site) → AreLinks site owners starts → IsBlocked site owners queue backs marks → length starts ≤ k
+pub blocked_cut : (site : SiteValue) (owners starts queue backs marks : List ℕ) (k : ℕ) → IsNet (net_of site) → AreReaders (net_of site) → AreLinks site owners starts → IsBlocked site owners queue backs marks → IsTight (net_of site) (owner_in site owners) queue → length starts ≤ k
     → IsLowCut site.graph k site.node site.height (label_at site.labels) (ascending_of (unmarked marks queue))
-blocked_cut site owners starts queue backs marks k is links b few =
-    barrier_cut (net_of site) is (owner_in site owners) links.chosen (length starts) links.routed.linked queue backs marks b.met b.ends b.handed b.passed_are k few
+blocked_cut site owners starts queue backs marks k is readers links b tight few =
+    barrier_cut (net_of site) is (owner_in site owners) links.chosen (length starts) links.routed.linked queue backs marks b.met (λ u e. b.ends u e (tight.ends u e)) b.handed b.passed_are tight readers k few
 
 -- a list is no shorter with more elements
 put_longer : (x : ℕ) (ys : List ℕ) → length ys ≤ length (put x ys)

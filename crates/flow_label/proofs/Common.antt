@@ -23,8 +23,9 @@ pub use Rattle.cut_sets.specs.Unions.{union, put}
 pub use Rattle.flow_label.specs.Barriers.{ascending_of, unmarked, IsLowCut, IsHigh, IsBarrier}
 pub use Rattle.flow_label.specs.Value.{IsLive, AreKnownTo, FlowValue, label_of, low_cut_of, AreLowCuts, HasOneLabelling}
 pub use Rattle.flow_label.specs.Links.{IsChoice, HasChosen, IsLinked, AreRouted, first_owner, owner_in, AreLinks, IsUpdated, AreStarts, AreWays, low, next_of, IsOnWay, upper, PathPasses, start, onward, IsWayTo, AreWaysTo}
-pub use Rattle.flow_label.specs.Net.{FlowNet, IsLow, IsInner, IsUpper, IsEnd, IsNet, SiteValue, net_of, is_inner, AreEnds, net_at, AreReaders, IsMet}
-pub use Rattle.flow_label.specs.Search.{IsHandedOn, ComesFrom, AreMet, ArePassed, IsSearching, Extends, IsFound, IsBlocked, CanTurn, HasMet}
+pub use Rattle.flow_label.specs.Net.{FlowNet, IsLow, IsInner, IsUpper, IsEnd, IsNet, IsOpen, IsRoot, net_on, is_linked, SiteValue, net_of, is_inner, AreEnds, net_at, AreReaders, IsMet}
+pub use Rattle.flow_label.specs.Search.{IsHandedOn, ComesFrom, AreMet, ArePassed, IsSearching, Extends, IsFound, IsBlocked, IsTight, CanTurn, HasMet}
+pub use Rattle.flow_label.specs.Trunks.{AreIndependent, IsLinkedAt, AreTrunks, IsGround, AreNext, IsStretched}
 pub use Rattle.flow_label.specs.Stamps.{zeros, counted, values_at}
 pub use Rattle.flow_label.specs.Walks.{HasRead, IsWalked}
 pub use Rattle.std.proofs.lemmas.List.Filters.{length-filter_both}
@@ -40,4 +41,4 @@ pub use Rattle.flow_label.specs.Parts.{low_at, IsLowPart}
 pub use Rattle.cut_sets.proofs.AscendingLemmas.{same_within}
 pub use Rattle.flow_label.specs.Scratch.{HasRoom, IsScratch}
 pub use Rattle.std.proofs.lemmas.Result.{IfOk-weaker}
-pub use Rattle.flow_label.specs.Memory.{HasMarks, Searches, KeepsMarks}
+pub use Rattle.flow_label.specs.Memory.{HasMarks, Searches, KeepsMarks, HasWalked, HasTrunks, AreProposed, HasProposed, KeepsTrunks}

@@ -1,6 +1,6 @@
 -- A search from one end after another.
-use Rattle.flow_label.proofs.Common.{◌≡◌, ℕ, ◌+◌, ◌-◌, ◌*◌, ◌<◌, ◌≤◌, Bool, true, false, List, [], ◌∷◌, ◌++◌, length, get_or, refl, sym, subst, inl, inr, arith, In, In-place, apart_short, SiteValue, net_of, IsNet, IsEnd, AreEnds, AreLinks, owner_in, IsHandedOn, AreMet, IsFound, IsBlocked, IsSearching, HasMet}
-use Rattle.flow_label.proofs.SearchLemmas.{IsAfter, goes_on, comes_last, comes_end, end_node, end_live, met_extends, met_short}
+use Rattle.flow_label.proofs.Common.{◌≡◌, ℕ, ◌+◌, ◌-◌, ◌*◌, ◌<◌, ◌≤◌, Bool, true, false, List, [], ◌∷◌, ◌++◌, length, get_or, refl, sym, subst, inl, inr, arith, In, In-place, apart_short, SiteValue, net_of, IsNet, IsEnd, IsOpen, AreEnds, AreLinks, owner_in, IsHandedOn, AreMet, IsFound, IsBlocked, IsSearching, HasMet}
+use Rattle.flow_label.proofs.SearchLemmas.{IsAfter, goes_on, comes_last, comes_end, end_node, met_extends, met_short}
 use Rattle.flow_label.proofs.HandLemmas.{found_last}
 
 -- a list of length 0
@@ -25,8 +25,8 @@ module _ (site : SiteValue) (owners starts : List ℕ) (links : AreLinks site ow
     pub end_met : (passed' : List ℕ) → passed' ≡ passed → e ≡ false → IsSearching (net_of site) (owner_in site owners) seen' queue' backs' passed' stack'
     end_met passed' p f = subst (λ x. IsSearching (net_of site) (owner_in site owners) seen' queue' backs' x stack') (sym p) (after f).searching
 
-    pub end_there : e ≡ false → In queue' m
-    end_there f = (after f).there (end_live (net_of site) is m end)
+    pub end_there : e ≡ false → IsOpen (net_of site) m → In queue' m
+    end_there f reached = (after f).there reached
 
     pub end_kept : (u : ℕ) → In queue u → In queue' u
     end_kept = (met_extends (net_of site) (owner_in site owners) m 0 e seen queue backs stack seen' queue' backs' stack' step).kept
@@ -38,11 +38,11 @@ module _ (site : SiteValue) (owners starts : List ℕ) (links : AreLinks site ow
       omega (arith, apart_short queue queue' was.once kept, met_short (net_of site) (owner_in site owners) queue' backs' met)
 
 -- all ends were met, and all that was met was handed on
-pub blocked : (site : SiteValue) (owners seen queue backs passed ends : List ℕ) (n : ℕ) → IsSearching (net_of site) (owner_in site owners) seen queue backs passed [] → AreEnds (net_of site) ends → ((j : ℕ) → j < n → In queue (get_or ends j 0)) → length ends ≤ n
+pub blocked : (site : SiteValue) (owners seen queue backs passed ends : List ℕ) (n : ℕ) → IsSearching (net_of site) (owner_in site owners) seen queue backs passed [] → AreEnds (net_of site) ends → ((j : ℕ) → j < n → IsOpen (net_of site) (get_or ends j 0) → In queue (get_or ends j 0)) → length ends ≤ n
     → IsBlocked site owners queue backs passed
 blocked site owners seen queue backs passed ends n k are begun all = record {
   met = k.met;
-  ends = λ u e. let r = In-place ends u (are.all u e) in let l : r.0 < length ends = r.1 in subst (λ x. In queue x) r.2 (begun r.0 (omega arith));
+  ends = λ u e reached. let r = In-place ends u (are.all u e) in let l : r.0 < length ends = r.1 in subst (λ x. In queue x) r.2 (begun r.0 (omega arith) (subst (λ x. IsOpen (net_of site) x) (sym r.2) reached));
   handed = λ u i. let r = In-place queue u i in elim (k.handed r.0 r.1) [ inl b ↦ absurd b | inr h ↦ subst (λ x. IsHandedOn (net_of site) (owner_in site owners) queue x) r.2 h ];
   passed_are = k.passed_are;
 }

@@ -1,5 +1,5 @@
 -- The node of an open place is handed on: its owner and the fan-ins of the owner are met.
-use Rattle.flow_label.proofs.Common.{◌≡◌, ℕ, ◌+◌, ◌<◌, ◌≤◌, ◌^◌, Bool, true, false, List, [], ◌∷◌, length, get_or, get_or_read, get_or-set_same, set, refl, sym, ap, ◌∙◌, subst, inl, inr, ◌⊎◌, arith, node_count, In, IsLive, IsFanIn, FlowNet, SiteValue, net_of, IsNet, IsInner, IsChoice, IsHandedOn, AreLinks, owner_in, AreMet, IsFound, IsSearching, Extends, HasMet}
+use Rattle.flow_label.proofs.Common.{◌≡◌, ℕ, ◌+◌, ◌<◌, ◌≤◌, ◌^◌, Bool, true, false, List, [], ◌∷◌, length, get_or, get_or_read, get_or-set_same, set, refl, sym, ap, ◌∙◌, subst, inl, inr, ◌⊎◌, arith, node_count, In, IsOpen, IsFanIn, FlowNet, SiteValue, net_of, IsNet, IsInner, IsChoice, IsHandedOn, AreLinks, owner_in, AreMet, IsFound, IsSearching, Extends, HasMet}
 use Rattle.flow_label.proofs.SearchLemmas.{IsAfter, IsLast, goes_on, comes_last, comes_choice, choice_node, marked, closed, met_short, met_size, met_extends, met_lengths, owned_inner, extends_twice}
 
 module _ (net : FlowNet) (owner : ℕ → ℕ) (is : IsNet net) (place a : ℕ) (inner : IsInner net a) where
@@ -11,13 +11,13 @@ module _ (net : FlowNet) (owner : ℕ → ℕ) (is : IsNet net) (place a : ℕ) 
   -- one more choice was met
   pub record HasGone (m : ℕ) (queue stack' seen' queue' backs' passed : List ℕ) : Type 0 where
     pub at : IsAt stack' seen' queue' backs' passed
-    pub there : IsLive net.graph net.label m → In queue' m
+    pub there : IsOpen net m → In queue' m
     pub extends : Extends queue queue'
 
   pub at_first : (stack seen queue backs passed : List ℕ) → IsSearching net owner seen queue backs passed (place ∷ stack) → owner (get_or queue place 0) ≡ a → IsAt stack seen queue backs (set passed a 1)
   at_first stack seen queue backs passed k e = record { searching = marked net owner place a stack seen queue backs passed k e inner; owns = e }
 
-  module _ (m : ℕ) (choice : IsLive net.graph net.label m → IsChoice net a m) (stack seen queue backs passed : List ℕ) (k : IsAt stack seen queue backs passed)
+  module _ (m : ℕ) (choice : IsOpen net m → IsChoice net a m) (stack seen queue backs passed : List ℕ) (k : IsAt stack seen queue backs passed)
       (b : Bool) (seen' queue' backs' stack' : List ℕ) (step : HasMet net owner m (place + 1) seen queue backs stack seen' queue' backs' stack' b) where
     inside : place < length queue
     inside = k.searching.inside place (inl refl)
@@ -34,21 +34,21 @@ module _ (net : FlowNet) (owner : ℕ → ℕ) (is : IsNet net) (place a : ℕ) 
     pub last : b ≡ true → IsLast net owner queue queue' backs'
     last f = comes_last net owner (place ∷ []) stack seen queue backs passed m (place + 1) k.searching (λ l. choice_node net owner is a inner m (choice l) l) (λ l. comes_choice net owner queue place a m inside k.owns inner (choice l)) b seen' queue' backs' stack' step f
 
-  pub own_choice : IsLive net.graph net.label a → IsChoice net a a
+  pub own_choice : IsOpen net a → IsChoice net a a
   own_choice l = inl refl
 
-  pub fan_in_choice : (m : ℕ) → IsFanIn net.graph m a → IsLive net.graph net.label m → IsChoice net a m
+  pub fan_in_choice : (m : ℕ) → IsFanIn net.graph m a → IsOpen net m → IsChoice net a m
   fan_in_choice m f l = inr (f, l)
 
   -- all choices were met
   pub handed_on : (far near : ℕ) → ((m : ℕ) → IsFanIn net.graph m a → (m ≡ far) ⊎ (m ≡ near)) → (stack3 seen3 queue1 queue2 queue3 backs3 passed : List ℕ) → IsAt stack3 seen3 queue3 backs3 passed → 0 < get_or passed a 0
-      → (IsLive net.graph net.label a → In queue1 a) → (IsLive net.graph net.label far → In queue2 far) → (IsLive net.graph net.label near → In queue3 near) → Extends queue1 queue2 → Extends queue2 queue3 → IsSearching net owner seen3 queue3 backs3 passed stack3
+      → (IsOpen net a → In queue1 a) → (IsOpen net far → In queue2 far) → (IsOpen net near → In queue3 near) → Extends queue1 queue2 → Extends queue2 queue3 → IsSearching net owner seen3 queue3 backs3 passed stack3
   handed_on far near all stack3 seen3 queue1 queue2 queue3 backs3 passed k mark own x y e f =
       let met : (m : ℕ) → IsChoice net a m → In queue3 m = (λ m c. elim c [
-        | inl q ↦ subst (λ z. In queue3 z) (sym q) (f.kept a (e.kept a (own (inr (inner.and, inner.live)))))
+        | inl q ↦ subst (λ z. In queue3 z) (sym q) (f.kept a (e.kept a (own (record { live = inr (inner.and, inner.live); reached = inl inner.above }))))
         | inr q ↦ elim (all m q.0) [
-          | inl r ↦ subst (λ z. In queue3 z) (sym r) (f.kept far (x (subst (λ z. IsLive net.graph net.label z) r q.1)))
-          | inr r ↦ subst (λ z. In queue3 z) (sym r) (y (subst (λ z. IsLive net.graph net.label z) r q.1))
+          | inl r ↦ subst (λ z. In queue3 z) (sym r) (f.kept far (x (subst (λ z. IsOpen net z) r q.1)))
+          | inr r ↦ subst (λ z. In queue3 z) (sym r) (y (subst (λ z. IsOpen net z) r q.1))
         ]
       ]) in
       let done : IsHandedOn net owner queue3 (get_or queue3 place 0) = inr (subst (λ z. IsInner net z) (sym k.owns) inner, (λ m c. met m (subst (λ z. IsChoice net z m) k.owns c))) in

@@ -12,6 +12,8 @@ mod BarrierLemmas
 mod NearestLemmas
 mod EndLemmas
 mod HighLemmas
+mod FloorLemmas
+mod TrunkLemmas
 mod QuestionLemmas
 pub mod PartLemmas
 mod LabelledLemmas

@@ -1,5 +1,5 @@
 -- A node without an owner, and one choice after another, give one more path.
-use Rattle.flow_label.proofs.Common.{◌≡◌, ℕ, ◌+◌, ◌<◌, ◌≤◌, ◌∷◌, length, sym, ap, ◌∙◌, subst, inl, inr, ◌⊎◌, arith, cases_eq, In, FlowNet, IsInner, IsEnd, IsChoice, HasChosen, IsLinked, IsUpdated, rules, true, cond, eqb, [], get_or, refl, eqb-false, cases_Bool, first_and, node_count, IsAnd, choose, SiteValue, net_of, is_inner, AreRouted, first_owner, owner_in, AreLinks, zeros, length-replicate, ◌-◌, List, ◌++◌, set, get_or-set_other, get_or-set_same, length-append, eqb-true, IsSource, Regular, In-get_or, In-push, pushed_apart, AreMet, CanTurn}
+use Rattle.flow_label.proofs.Common.{◌≡◌, ℕ, ◌+◌, ◌<◌, ◌≤◌, ◌∷◌, length, sym, ap, ◌∙◌, subst, inl, inr, ◌⊎◌, arith, cases_eq, In, FlowNet, IsInner, IsEnd, IsChoice, HasChosen, IsLinked, IsUpdated, rules, true, cond, eqb, [], get_or, refl, eqb-false, cases_Bool, first_and, node_count, IsAnd, IsNet, IsRoot, cases_lt, source_below, choose, SiteValue, net_of, is_inner, AreRouted, first_owner, owner_in, AreLinks, zeros, length-replicate, ◌-◌, List, ◌++◌, set, get_or-set_other, get_or-set_same, length-append, eqb-true, Regular, In-get_or, In-push, pushed_apart, AreMet, CanTurn}
 use Rattle.flow_label.proofs.GraphLemmas.{live_pos, live_inside}
 use Rattle.flow_label.proofs.StampLemmas.{zero_at}
 use Rattle.flow_label.proofs.OnceLemmas.{once_places}
@@ -10,7 +10,7 @@ inner_pos net a i = let l : 1 + length net.graph.kinds ≤ a = i.and.0 in omega 
 
 pub choice_pos : (net : FlowNet) (a u : ℕ) → IsInner net a → IsChoice net a u → 0 < u
 choice_pos net a u i (inl e) = let p : 0 < a = inner_pos net a i in omega arith
-choice_pos net a u i (inr f) = live_pos net.graph net.label u f.1
+choice_pos net a u i (inr f) = live_pos net.graph net.label u f.1.live
 
 -- a node without an owner is nobody's choice
 pub take_up : (net : FlowNet) (owner chosen : ℕ → ℕ) (count u : ℕ) → IsLinked net 0 owner chosen count → 0 < net.node → owner u ≡ 0 → IsLinked net u owner chosen count
@@ -91,7 +91,7 @@ module _ (net : FlowNet) (owner chosen owner' : ℕ → ℕ) (count u : ℕ) (k 
 first_is : (s : SiteValue) (n m : ℕ) → owner_in s (zeros n) m ≡ first_owner s m
 first_is s n m = choose (λ x. x ≡ first_owner s m) (eqb (get_or (zeros n) m 0) 0) (first_owner s m) (get_or (zeros n) m 0) (λ _. refl) (λ e. absurd (eqb-false (get_or (zeros n) m 0) 0 e (zero_at n m)))
 
-module _ (s : SiteValue) (n : ℕ) (and : IsAnd s.graph s.node) where
+module _ (s : SiteValue) (n : ℕ) (and : IsAnd s.graph s.node) (sources : length s.graph.kinds ≤ s.floor) where
   low_first : (m : ℕ) → IsInner (net_of s) m → is_inner s m ≡ true
   low_first m i = grind arith
 
@@ -121,12 +121,12 @@ module _ (s : SiteValue) (n : ℕ) (and : IsAnd s.graph s.node) where
       all_ends = λ u ne e. let q : first_and s.graph ≤ s.node = and.0 in let r = owned_itself u (omega arith) in let l : u < s.node = r.1.below in let f : owner_in s (zeros n) u ≡ u = r.0 in absurd (omega arith);
       count_ends = refl;
     };
-    begin = record { once = tt; source = λ s i. absurd i; owned = λ s i. absurd i };
+    begin = record { once = tt; root = λ s i. absurd i; owned = λ s i. absurd i };
   }
 
 -- the links where no path runs
-pub first_links : (s : SiteValue) (n : ℕ) → IsAnd s.graph s.node → n ≡ node_count s.graph → AreLinks s (zeros n) []
-first_links s n and e = record { chosen = λ a. a; routed = first_routed s n and; size = length-replicate n 0 ∙ e }
+pub first_links : (s : SiteValue) (n : ℕ) → IsNet (net_of s) → n ≡ node_count s.graph → AreLinks s (zeros n) []
+first_links s n is e = record { chosen = λ a. a; routed = first_routed s n is.and is.sources; size = length-replicate n 0 ∙ e }
 
 -- a function with one new value
 abbrev with_value : (ℕ → ℕ) → ℕ → ℕ → ℕ → ℕ
@@ -193,32 +193,35 @@ module _ (net : FlowNet) (count : ℕ) (before : ℕ → ℕ) (queue backs : Lis
     begun = inl refl;
   }
 
-  -- a node without an owner is a regular source
-  free_source : (chosen : ℕ → ℕ) → IsLinked net 0 before chosen count → before (get_or queue from 0) ≡ 0 → IsSource net.graph Regular (get_or queue from 0)
-  free_source chosen k free =
+  -- a node without an owner is linked
+  free_root : (chosen : ℕ → ℕ) → IsLinked net 0 before chosen count → length net.graph.kinds ≤ net.floor → before (get_or queue from 0) ≡ 0 → IsRoot net (get_or queue from 0)
+  free_root chosen k sources free =
       let q = s.nodes (get_or queue from 0) (In-get_or queue from 0 place) in
-      elim q.1 [
-        | inl source ↦ source
-        | inr and ↦ (let p : 0 < before (get_or queue from 0) = k.full (get_or queue from 0) (record { and = and.0; below = q.0; low = q.2; live = and.1 }) in absurd (omega arith))
+      elim (cases_lt net.floor (get_or queue from 0)) [
+        | inr low ↦ record { live = q.1.live; below = low; linked = elim q.1.reached [ inl l ↦ absurd (omega arith) | inr e ↦ e ] }
+        | inl above ↦ elim q.1.live [
+          | inl source ↦ (let l : get_or queue from 0 < first_and net.graph = source_below net.graph Regular (get_or queue from 0) source in absurd (omega arith))
+          | inr and ↦ (let p : 0 < before (get_or queue from 0) = k.full (get_or queue from 0) (record { and = and.0; above = above; below = q.0; low = q.2; live = and.1 }) in absurd (omega arith))
+        ]
       ]
 
   -- the last step: the first node of the search is an end
-  pub finish : (first owner owner' : ℕ → ℕ) (starts : List ℕ) (j : ℕ) (k : IsTurning net count before queue from owner j) → get_or backs j 0 ≡ 0 → 0 < net.node → count ≡ length starts
+  pub finish : (first owner owner' : ℕ → ℕ) (starts : List ℕ) (j : ℕ) (k : IsTurning net count before queue from owner j) → get_or backs j 0 ≡ 0 → 0 < net.node → count ≡ length starts → length net.graph.kinds ≤ net.floor
       → AreRouted net before first starts → before (get_or queue from 0) ≡ 0 → IsUpdated owner owner' (get_or queue j 0) net.node
       → AreRouted net owner' k.chosen (starts ++ get_or queue from 0 ∷ [])
-  finish first owner owner' starts j k none pos e was free new =
+  finish first owner owner' starts j k none pos e sources was free new =
       let u : ℕ = get_or queue j 0 in
       let x : ℕ = get_or queue from 0 in
-      let u_pos : 0 < u = live_pos net.graph net.label u (s.nodes u (In-get_or queue j 0 k.place)).1 in
+      let u_pos : 0 < u = live_pos net.graph net.label u (s.nodes u (In-get_or queue j 0 k.place)).1.live in
       let len : length starts + 1 ≡ length (starts ++ x ∷ []) = (let a : length (starts ++ x ∷ []) ≡ length starts + 1 = length-append starts (x ∷ []) in omega arith) in
       let k2 : IsLinked net 0 owner' k.chosen (count + 1) = take_end net owner k.chosen owner' count u k.linked ((s.whence j k.place).end none) pos u_pos new in
       record {
         linked = subst (λ c. IsLinked net 0 owner' k.chosen c) (let f : count + 1 ≡ length (starts ++ x ∷ []) = omega arith in f) k2;
         begin = record {
           once = pushed_apart starts x was.begin.once (λ i. let p : 0 < before x = was.begin.owned x i in absurd (omega arith));
-          source = λ y i. elim (In-push starts x y i) [
-            | inl h ↦ was.begin.source y h
-            | inr q ↦ subst (λ z. IsSource net.graph Regular z) (sym q) (free_source first (subst (λ c. IsLinked net 0 before first c) (sym e) was.linked) free)
+          root = λ y i. elim (In-push starts x y i) [
+            | inl h ↦ was.begin.root y h
+            | inr q ↦ subst (λ z. IsRoot net z) (sym q) (free_root first (subst (λ c. IsLinked net 0 before first c) (sym e) was.linked) sources free)
           ];
           owned = λ y i. elim (In-push starts x y i) [
             | inl h ↦ owned_kept owner owner' u net.node y pos new (k.kept y (was.begin.owned y h))
@@ -234,6 +237,6 @@ can_turn site count before queue backs from s place owners j k pos =
     let n = next_turn (net_of site) count before queue backs from s place (owner_in site owners) j k pos in
     record {
       back = n.back;
-      node = live_inside site.graph (net_of site).label (get_or queue j 0) (s.nodes (get_or queue j 0) (In-get_or queue j 0 k.place)).1;
+      node = live_inside site.graph (net_of site).label (get_or queue j 0) (s.nodes (get_or queue j 0) (In-get_or queue j 0 k.place)).1.live;
       chooser = inner_pos (net_of site) (owner_in site owners (get_or queue (get_or backs j 0 - 1) 0)) n.inner;
     }

@@ -1,5 +1,5 @@
 -- Two least low cuts nearest to the node are the same.
-use Rattle.flow_label.proofs.Common.{◌≡◌, ℕ, ◌/◌, ◌<◌, ◌≤◌, Bool, true, List, [], ◌∷◌, length, refl, sym, subst, inl, inr, eqb, arith, cases_eq, cases_Bool, ap, eqb-true, eqb-false, Aig, AreNormal, first_and, In, IsAscending, Blocks, member, constant, parameter, fan_ins, apart_short, choose, rules, not, not-true, filter, node_normal, filtered_apart, In-filter, in_filter, in_or, same_within, IsNearest}
+use Rattle.flow_label.proofs.Common.{◌≡◌, ℕ, ◌<◌, ◌≤◌, Bool, true, List, [], ◌∷◌, length, refl, sym, subst, inl, inr, eqb, arith, cases_eq, cases_Bool, ap, eqb-true, eqb-false, Aig, AreNormal, first_and, In, IsAscending, Blocks, member, constant, parameter, fan_ins, apart_short, choose, rules, not, not-true, filter, node_normal, filtered_apart, In-filter, in_filter, in_or, same_within, IsNearest}
 use Rattle.flow_label.proofs.OnceLemmas.{ascending_apart}
 
 -- a list without one number

@@ -1,5 +1,5 @@
 -- The cuts that come from the fan-ins of a node alone.
-use Rattle.flow_label.proofs.Common.{◌≡◌, ℕ, suc, ◌+◌, ◌-◌, ◌/◌, ◌<◌, ◌≤◌, List, [], ◌∷◌, length, refl, sym, ap, ◌∙◌, subst, inl, inr, arith, cases_lt, max, Aig, first_and, node_count, IsAnd, IsNode, IsSource, AreNormal, Regular, Pair, In, IsAscending, Blocks, CanBeLeaf, IsCut, fan_ins, member, IsFanIn, first, second, IsLive, AreKnownTo, IsLowCut, IsHigh, union, height, rules, same_pair, Blocks-within, regular_blocked, height_le, height_member, height_none, fan_in_low, put, put_at, In-union, union_left, union_right, IsAscending-union, IsLabelled, AreLabelledTo, FlowValue, label_of, low_cut_of}
+use Rattle.flow_label.proofs.Common.{◌≡◌, ℕ, suc, ◌+◌, ◌-◌, ◌/◌, ◌<◌, ◌≤◌, List, [], ◌∷◌, length, refl, sym, ap, subst, inl, inr, arith, cases_lt, max, Aig, first_and, node_count, IsAnd, IsNode, IsSource, AreNormal, Regular, Pair, In, IsAscending, Blocks, CanBeLeaf, IsCut, fan_ins, member, IsFanIn, first, second, IsLive, AreKnownTo, IsLowCut, IsHigh, union, height, rules, same_pair, Blocks-within, regular_blocked, height_le, height_member, height_none, fan_in_low, put, put_at, In-union, union_left, union_right, IsAscending-union, IsLabelled, AreLabelledTo, FlowValue, label_of, low_cut_of}
 use Rattle.flow_label.specs.Parts.{IsOwnPart, live, free, IsLowPart, own, low, IsGreatest, IsFanInCut}
 use Rattle.flow_label.proofs.GraphLemmas.{fan_in_below, blocked_below, reader_and, free_or_live, live_leaf}
 

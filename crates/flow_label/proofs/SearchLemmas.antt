@@ -1,5 +1,5 @@
 -- The search, step by step.
-use Rattle.flow_label.proofs.Common.{◌≡◌, ℕ, ◌+◌, ◌-◌, ◌<◌, ◌≤◌, Bool, true, false, List, [], ◌∷◌, ◌++◌, length, get_or, set, refl, sym, ap, ◌∙◌, subst, inl, inr, ◌⊎◌, arith, length-append, get_or-set_other, get_or-set_same, length-set, cases_eq, cases_lt, get_or_push, get_or-append, node_count, In, In-append, In-get_or, In-left, In-right, In-push, IsLive, IsFanIn, pushed_apart, FlowNet, IsLow, IsInner, IsEnd, IsNet, IsChoice, IsLinked, ComesFrom, IsHandedOn, AreMet, IsSearching, Extends, zeros, length-replicate, rules, false≢true}
+use Rattle.flow_label.proofs.Common.{◌≡◌, ℕ, ◌+◌, ◌-◌, ◌<◌, ◌≤◌, Bool, true, false, List, [], ◌∷◌, ◌++◌, length, get_or, set, refl, sym, ap, ◌∙◌, subst, inl, inr, ◌⊎◌, arith, length-append, get_or-set_other, get_or-set_same, length-set, cases_eq, cases_lt, get_or_push, get_or-append, node_count, In, In-append, In-get_or, In-left, In-right, In-push, IsOpen, IsFanIn, pushed_apart, FlowNet, IsLow, IsInner, IsEnd, IsNet, IsChoice, IsLinked, ComesFrom, IsHandedOn, AreMet, IsSearching, Extends, zeros, length-replicate, rules, false≢true}
 use Rattle.flow_label.specs.Search.{HasMet, free, old, end, new}
 use Rattle.flow_label.proofs.GraphLemmas.{fan_in_below, live_inside, live_pos}
 use Rattle.flow_label.proofs.OnceLemmas.{once_few}
@@ -56,13 +56,13 @@ module _ (net : FlowNet) (owner : ℕ → ℕ) where
   comes_end queue m e = search (rules, get_or_push)
 
   -- one more node that was met
-  met_push : (queue backs : List ℕ) (m back : ℕ) → AreMet net owner queue backs → (m < net.node) × IsLive net.graph net.label m × IsLow net m → (In queue m → ⊥) → ComesFrom net owner (queue ++ m ∷ []) back (length queue) → AreMet net owner (queue ++ m ∷ []) (backs ++ back ∷ [])
+  met_push : (queue backs : List ℕ) (m back : ℕ) → AreMet net owner queue backs → (m < net.node) × IsOpen net m × IsLow net m → (In queue m → ⊥) → ComesFrom net owner (queue ++ m ∷ []) back (length queue) → AreMet net owner (queue ++ m ∷ []) (backs ++ back ∷ [])
   met_push queue backs m back k node fresh from =
       let len : length (queue ++ m ∷ []) ≡ length queue + 1 = length-append queue (m ∷ []) in
       let more : length (backs ++ back ∷ []) ≡ length backs + 1 = length-append backs (back ∷ []) in
       record {
         once = pushed_apart queue m k.once fresh;
-        nodes = λ u i. elim (In-push queue m u i) [ inl j ↦ k.nodes u j | inr e ↦ subst (λ x. (x < net.node) × IsLive net.graph net.label x × IsLow net x) (sym e) node ];
+        nodes = λ u i. elim (In-push queue m u i) [ inl j ↦ k.nodes u j | inr e ↦ subst (λ x. (x < net.node) × IsOpen net x × IsLow net x) (sym e) node ];
         count = omega arith;
         whence = λ j l. elim (cases_lt j (length queue)) [
           | inl o ↦ comes_same queue (queue ++ m ∷ []) (get_or backs j 0) (get_or (backs ++ back ∷ []) j 0) j (get_or-append backs (back ∷ []) 0 j (omega arith)) (λ i le. get_or-append queue (m ∷ []) 0 i (omega arith)) (k.whence j o)
@@ -74,7 +74,7 @@ module _ (net : FlowNet) (owner : ℕ → ℕ) where
   -- what meeting a node gives, where the search goes on
   pub record IsAfter (m : ℕ) (queue seen' queue' backs' passed open' : List ℕ) : Type 0 where
     pub searching : IsSearching net owner seen' queue' backs' passed open'
-    pub there : IsLive net.graph net.label m → In queue' m
+    pub there : IsOpen net m → In queue' m
     pub extends : Extends queue queue'
 
   -- what it gives where it ends the search
@@ -85,7 +85,7 @@ module _ (net : FlowNet) (owner : ℕ → ℕ) where
     pub extends : Extends queue queue'
 
   module _ (pre stack seen queue backs passed : List ℕ) (m back : ℕ) (k : IsSearching net owner seen queue backs passed (pre ++ stack))
-      (node : IsLive net.graph net.label m → (m < net.node) × IsLive net.graph net.label m × IsLow net m) (from : IsLive net.graph net.label m → ComesFrom net owner (queue ++ m ∷ []) back (length queue)) where
+      (node : IsOpen net m → (m < net.node) × IsOpen net m × IsLow net m) (from : IsOpen net m → ComesFrom net owner (queue ++ m ∷ []) back (length queue)) where
     fresh : get_or seen m 0 ≡ 0 → In queue m → ⊥
     fresh unseen i = let e : 0 < get_or seen m 0 = k.in_seen m i in absurd (omega arith)
 
@@ -95,10 +95,10 @@ module _ (net : FlowNet) (owner : ℕ → ℕ) where
     waits_new : (j : ℕ) → length queue ≡ j → In (pre ++ (stack ++ length queue ∷ [])) j
     waits_new j e = In-right pre (stack ++ length queue ∷ []) j (In-right stack (length queue ∷ []) j (inl (sym e)))
 
-    met_new : IsLive net.graph net.label m → get_or seen m 0 ≡ 0 → 0 < owner m → IsSearching net owner (set seen m 1) (queue ++ m ∷ []) (backs ++ back ∷ []) passed (pre ++ (stack ++ length queue ∷ []))
+    met_new : IsOpen net m → get_or seen m 0 ≡ 0 → 0 < owner m → IsSearching net owner (set seen m 1) (queue ++ m ∷ []) (backs ++ back ∷ []) passed (pre ++ (stack ++ length queue ∷ []))
     met_new live unseen some =
         let len : length (queue ++ m ∷ []) ≡ length queue + 1 = length-append queue (m ∷ []) in
-        let room : m < length seen = (let l : m < node_count net.graph = live_inside net.graph net.label m live in let s : length seen ≡ node_count net.graph = k.size in omega arith) in
+        let room : m < length seen = (let l : m < node_count net.graph = live_inside net.graph net.label m live.live in let s : length seen ≡ node_count net.graph = k.size in omega arith) in
         let old_at : (j : ℕ) → j < length queue → get_or (queue ++ m ∷ []) j 0 ≡ get_or queue j 0 = (λ j l. get_or-append queue (m ∷ []) 0 j l) in
         record {
           met = met_push queue backs m back k.met (node live) (fresh unseen) (from live);
@@ -239,32 +239,29 @@ module _ (net : FlowNet) (owner : ℕ → ℕ) where
       → (owner (get_or queue place 0) ≡ net.node → ⊥) → IsInner net (owner (get_or queue place 0))
   owned_inner chosen count links seen queue backs passed open' place k inside ne =
       let there : In queue (get_or queue place 0) = In-get_or queue place 0 inside in
-      elim (links.owned (get_or queue place 0) (λ z. let l : 0 < get_or queue place 0 = live_pos net.graph net.label (get_or queue place 0) (k.met.nodes (get_or queue place 0) there).1 in absurd (omega arith)) (k.owned (get_or queue place 0) there)) [
+      elim (links.owned (get_or queue place 0) (λ z. let l : 0 < get_or queue place 0 = live_pos net.graph net.label (get_or queue place 0) (k.met.nodes (get_or queue place 0) there).1.live in absurd (omega arith)) (k.owned (get_or queue place 0) there)) [
         | inl h ↦ absurd (ne h.0)
         | inr h ↦ h.inner
       ]
 
 module _ (net : FlowNet) (owner : ℕ → ℕ) (is : IsNet net) (a : ℕ) (inner : IsInner net a) where
   -- what an inner node may choose can be met
-  pub choice_node : (m : ℕ) → IsChoice net a m → IsLive net.graph net.label m → (m < net.node) × IsLive net.graph net.label m × IsLow net m
+  pub choice_node : (m : ℕ) → IsChoice net a m → IsOpen net m → (m < net.node) × IsOpen net m × IsLow net m
   choice_node m (inl e) l = ((let b : a < net.node = inner.below in omega arith), l, subst (λ x. IsLow net x) (sym e) inner.low)
   choice_node m (inr f) l =
       let c : m < a = fan_in_below net.graph m a is.normal f.0 in
       let r : net.label m ≤ net.label a = is.known.rising m a inner.below f.0 in
       let q : net.label a + 1 < net.height = inner.low in (omega arith, l, omega arith)
 
-  pub own_node : IsLive net.graph net.label a → (a < net.node) × IsLive net.graph net.label a × IsLow net a
+  pub own_node : IsOpen net a → (a < net.node) × IsOpen net a × IsLow net a
   own_node l = choice_node a (inl refl) l
 
-  pub fan_in_node : (m : ℕ) → IsFanIn net.graph m a → IsLive net.graph net.label m → (m < net.node) × IsLive net.graph net.label m × IsLow net m
+  pub fan_in_node : (m : ℕ) → IsFanIn net.graph m a → IsOpen net m → (m < net.node) × IsOpen net m × IsLow net m
   fan_in_node m f l = choice_node m (inr (f, l)) l
 
 -- an end can be met
-pub end_node : (net : FlowNet) → IsNet net → (m : ℕ) → IsEnd net m → IsLive net.graph net.label m → (m < net.node) × IsLive net.graph net.label m × IsLow net m
-end_node net is m e l = ((is.readers.met m e.met).below, l, e.low)
-
-pub end_live : (net : FlowNet) → IsNet net → (m : ℕ) → IsEnd net m → IsLive net.graph net.label m
-end_live net is m e = (is.readers.met m e.met).live
+pub end_node : (net : FlowNet) → IsNet net → (m : ℕ) → IsEnd net m → IsOpen net m → (m < net.node) × IsOpen net m × IsLow net m
+end_node net is m e l = ((is.met m e.met).1, l, e.low)
 
 -- a search that has met nothing
 pub search_begun : (net : FlowNet) (owner : ℕ → ℕ) (a b : ℕ) → a ≡ node_count net.graph → b ≡ node_count net.graph → IsSearching net owner (zeros a) [] [] (zeros b) []

@@ -1,7 +1,11 @@
 -- The ways up from the starts are paths, and share no low node.
-use Rattle.flow_label.proofs.Common.{◌≡◌, ℕ, ◌+◌, ◌<◌, ◌≤◌, cond, ltb, List, [], ◌∷◌, ◌++◌, length, get_or, Some, refl, sym, ap, ◌∙◌, subst, inl, inr, eqb, arith, length-append, eqb-true, eqb-false, ltb-true, ltb-false, cases_lt, IsAnd, IsSource, Regular, In, choose, In-get_or, In-push, place_in, get_pushed, slice_get, slice_get_within, IsLive, source_below, IsFanIn, IsPath, FlowNet, IsLow, IsInner, IsUpper, IsNet, IsChoice, HasChosen, IsLinked, AreStarts, next_of, IsOnWay, low, upper, PathPasses, start, onward, IsWayTo, AreWays, AreWaysTo, ◌≢◌}
+use Rattle.flow_label.proofs.Common.{◌≡◌, ℕ, ◌+◌, ◌<◌, ◌≤◌, cond, ltb, List, [], ◌∷◌, ◌++◌, length, get_or, Some, refl, sym, ap, ◌∙◌, subst, inl, inr, eqb, arith, length-append, eqb-true, eqb-false, ltb-true, ltb-false, cases_lt, IsAnd, IsSource, Regular, In, choose, In-get_or, In-push, place_in, get_pushed, slice_get, slice_get_within, IsLive, source_below, IsFanIn, IsPath, FlowNet, IsLow, IsInner, IsUpper, IsNet, IsRoot, AreReaders, first_and, IsChoice, HasChosen, IsLinked, AreStarts, next_of, IsOnWay, low, upper, PathPasses, start, onward, IsWayTo, AreWays, AreWaysTo, ◌≢◌}
 use Rattle.flow_label.proofs.OnceLemmas.{once_places}
 use Rattle.flow_label.proofs.GraphLemmas.{fan_in_below, live_pos, source_not_and, path_push, path_last}
+
+-- down to the sources, paths start at regular sources
+pub root_source : (net : FlowNet) → net.floor ≡ length net.graph.kinds → (s : ℕ) → IsRoot net s → IsSource net.graph Regular s
+root_source net full s r = elim r.live [ inl source ↦ source | inr and ↦ (let a : first_and net.graph ≤ s = and.0.0 in let b : s ≤ net.floor = r.below in absurd (omega arith)) ]
 
 -- one step up
 record IsStep (net : FlowNet) (owner : ℕ → ℕ) (m x : ℕ) : Type 0 where
@@ -9,7 +13,7 @@ record IsStep (net : FlowNet) (owner : ℕ → ℕ) (m x : ℕ) : Type 0 where
   on : IsOnWay net owner x
   by_owner : (x ≡ net.node → ⊥) → IsLow net x → IsLow net m × (owner m ≡ x) × IsInner net x
 
-module _ (net : FlowNet) (is : IsNet net) (owner chosen : ℕ → ℕ) (count : ℕ) (k : IsLinked net 0 owner chosen count) where
+module _ (net : FlowNet) (is : IsNet net) (readers : AreReaders net) (owner chosen : ℕ → ℕ) (count : ℕ) (k : IsLinked net 0 owner chosen count) where
   live_zero : (u : ℕ) → IsLive net.graph net.label u → u ≡ 0 → ⊥
   live_zero u l e = let p : 0 < u = live_pos net.graph net.label u l in absurd (omega arith)
 
@@ -20,7 +24,7 @@ module _ (net : FlowNet) (is : IsNet net) (owner chosen : ℕ → ℕ) (count : 
 
   -- to the reader of a node that was met
   step_reader : (m : ℕ) → 0 < net.reader m → IsStep net owner m (net.reader m)
-  step_reader m met = let r = is.readers.met m met in record { reads = r.reads; on = upper r.upper; by_owner = λ ne l. absurd (not_low (net.reader m) r.upper ne l) }
+  step_reader m met = let r = readers.met m met in record { reads = r.reads; on = upper r.upper; by_owner = λ ne l. absurd (not_low (net.reader m) r.upper ne l) }
 
   -- to the owner
   step_owner : (m : ℕ) → IsLow net m → (owner m ≡ m → ⊥) → HasChosen net chosen (owner m) m → IsStep net owner m (owner m)
@@ -122,23 +126,23 @@ module _ (net : FlowNet) (is : IsNet net) (owner chosen : ℕ → ℕ) (count : 
   -- a node on the way is not above the node
   pub on_below : (m : ℕ) → IsOnWay net owner m → m ≤ net.node
   on_below m (low live l pos other) = elim (k.owned m (live_zero m live) pos) [
-    | inl h ↦ (let b : m < net.node = (is.readers.met m h.1.met).below in omega arith)
+    | inl h ↦ (let b : m < net.node = (readers.met m h.1.met).below in omega arith)
     | inr h ↦ (let b : owner m < net.node = h.inner.below in elim (subst (λ u. IsChoice net (owner m) u) h.is (k.choice (owner m) h.inner)) [
       | inl e ↦ omega arith
       | inr f ↦ (let a : m < owner m = fan_in_below net.graph m (owner m) is.normal f.0 in omega arith)
     ])
   ]
   on_below m (upper (inl e)) = omega arith
-  on_below m (upper (inr u)) = let b : m < net.node = (is.readers.met m u.0).below in omega arith
+  on_below m (upper (inr u)) = let b : m < net.node = (readers.met m u.0).below in omega arith
 
 -- The paths of a linking share no low node.
-pub ways_share : (net : FlowNet) → IsNet net → (owner chosen : ℕ → ℕ) (count : ℕ) → IsLinked net 0 owner chosen count → (starts : List ℕ) (paths : List (List ℕ)) → AreStarts net owner starts → AreWays net owner starts paths
+pub ways_share : (net : FlowNet) → IsNet net → AreReaders net → net.floor ≡ length net.graph.kinds → (owner chosen : ℕ → ℕ) (count : ℕ) → IsLinked net 0 owner chosen count → (starts : List ℕ) (paths : List (List ℕ)) → AreStarts net owner starts → AreWays net owner starts paths
     → (i j m : ℕ) (p q : List ℕ) → i < j → slice_get paths i ≡ Some p → slice_get paths j ≡ Some q → In p m → In q m → m ≢ net.node → net.height ≤ net.label m + 1
-ways_share net is owner chosen count k starts paths s w i j m p q l e f a b other =
+ways_share net is readers full owner chosen count k starts paths s w i j m p q l e f a b other =
     let n : length paths ≡ length starts = w.count in
     let inside : j < length paths = slice_get_within paths j q f in
-    ways_apart net is owner chosen count k (get_or starts i 0) (get_or starts j 0) p q
-    (s.source (get_or starts i 0) (In-get_or starts i 0 (omega arith))) (s.source (get_or starts j 0) (In-get_or starts j 0 (omega arith)))
+    ways_apart net is readers owner chosen count k (get_or starts i 0) (get_or starts j 0) p q
+    (root_source net full (get_or starts i 0) (s.root (get_or starts i 0) (In-get_or starts i 0 (omega arith)))) (root_source net full (get_or starts j 0) (s.root (get_or starts j 0) (In-get_or starts j 0 (omega arith))))
     (once_places starts i j s.once l (omega arith)) (w.each i p e) (w.each j q f) m a b other
 
 pub ways_paths : (net : FlowNet) (owner : ℕ → ℕ) (starts : List ℕ) (paths : List (List ℕ)) → AreWays net owner starts paths → (p : List ℕ) → In paths p → IsPath net.graph net.node p

@@ -1,8 +1,9 @@
 -- Low cuts: what a search has met and not passed, or the ends.
 use Rattle.std.specs.Prelude.{◌≡◌, ℕ, ◌+◌, ◌<◌, ◌≤◌, ◌==◌, List, [], filter, slice_index, Option, MatchOption}
 use Rattle.flow_label.specs.Words.{Aig, In, IsCut, height, union}
-use Rattle.flow_label.specs.Net.{SiteValue}
-use Rattle.flow_label.specs.Search.{IsBlocked}
+use Rattle.flow_label.specs.Net.{SiteValue, net_of}
+use Rattle.flow_label.specs.Links.{owner_in}
+use Rattle.flow_label.specs.Search.{IsBlocked, IsTight}
 
 -- these nodes as an ascending list
 abbrev pub ascending_of : List ℕ → List ℕ
@@ -18,6 +19,7 @@ pub record IsBarrier (site : SiteValue) (owners kept : List ℕ) : Type 0 where
   pub backs : List ℕ
   pub passed : List ℕ
   pub blocked : IsBlocked site owners queue backs passed
+  pub tight : IsTight (net_of site) (owner_in site owners) queue
   pub is : kept ≡ unmarked passed queue
 
 -- a cut below a height: of labels that are at least two less

@@ -7,6 +7,7 @@ pub mod Lows
 pub mod Parts
 pub mod Barriers
 -- What only bodies are compared with.
+pub mod Trunks
 pub mod Net
 pub mod Links
 pub mod Search

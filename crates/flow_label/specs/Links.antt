@@ -4,13 +4,13 @@
 -- itself has chosen an end for each path. A low node is chosen at most once: `owner` is who has chosen it. So the paths are a
 -- matching of choosers and low nodes, and one more path is one more pair of the matching.
 use Rattle.std.specs.Prelude.{◌≡◌, ℕ, ◌<◌, ◌≢◌, if◌then◌else◌, ◌==◌, List, slice_index, length, ◌⊎◌, ◌+◌, nat_lt, Some, slice_get}
-use Rattle.flow_label.specs.Words.{node_count, IsSource, Regular, AreApart, In, IsFanIn, IsPath}
+use Rattle.flow_label.specs.Words.{node_count, AreApart, In, IsFanIn, IsPath}
 use Rattle.flow_label.specs.Value.{IsLive}
-use Rattle.flow_label.specs.Net.{FlowNet, SiteValue, net_of, is_inner, IsInner, IsEnd, IsLow, IsUpper}
+use Rattle.flow_label.specs.Net.{FlowNet, SiteValue, net_of, is_inner, IsInner, IsEnd, IsLow, IsUpper, IsOpen, IsRoot}
 
--- what an inner node may choose: itself or a live node that it reads
+-- what an inner node may choose: itself or an open node that it reads
 abbrev pub IsChoice : FlowNet → ℕ → ℕ → Type 0
-IsChoice net a u = (u ≡ a) ⊎ (IsFanIn net.graph u a × IsLive net.graph net.label u)
+IsChoice net a u = (u ≡ a) ⊎ (IsFanIn net.graph u a × IsOpen net u)
 
 -- an inner node that has chosen u
 pub record HasChosen (net : FlowNet) (chosen : ℕ → ℕ) (a u : ℕ) : Type 0 where
@@ -30,10 +30,10 @@ pub record IsLinked (net : FlowNet) (loose : ℕ) (owner chosen : ℕ → ℕ) (
   pub all_ends : (u : ℕ) → u ≢ loose → owner u ≡ net.node → In ends u
   pub count_ends : length ends ≡ count
 
--- where the paths start: regular sources with an owner
+-- where the paths start: linked nodes with an owner
 pub record AreStarts (net : FlowNet) (owner : ℕ → ℕ) (starts : List ℕ) : Type 0 where
   pub once : AreApart starts
-  pub source : (s : ℕ) → In starts s → IsSource net.graph Regular s
+  pub root : (s : ℕ) → In starts s → IsRoot net s
   pub owned : (s : ℕ) → In starts s → 0 < owner s
 
 -- a function that has one new value

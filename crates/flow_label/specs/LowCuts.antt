@@ -1,7 +1,10 @@
 -- Which low cut the code finds, node by node: as in Lows, with the node's label as a number of its own.
-use Rattle.std.specs.Prelude.{◌≡◌, ℕ, ◌+◌, ◌<◌, ◌≤◌, List, [], length}
+use Rattle.std.specs.Prelude.{◌≡◌, ℕ, ◌+◌, ◌<◌, ◌≤◌, List, [], length, ◌≢◌}
 use Rattle.aig_core.specs.Aig.{Aig, IsAnd}
 use Rattle.flow_label.specs.Value.{FlowValue, label_of, low_cut_of}
+use Rattle.flow_label.specs.Barriers.{IsHigh}
+use Rattle.flow_label.specs.declared.question.FlowEnd.{FlowEnd}
+use Rattle.flow_label.specs.declared.question.FlowEnd.TheVariants.{High, Low, HeldUp}
 use Rattle.flow_label.specs.Parts.{IsGreatest, IsFanInCut}
 use Rattle.flow_label.specs.Lows.{AreEndsOf, HasManyEnds, IsJoin, IsWide, IsNearest}
 
@@ -29,3 +32,9 @@ pub record HasLowWith (g : Aig) (k : ℕ) (label : ℕ → ℕ) (lows : ℕ → 
 pub record AreLowsTo (g : Aig) (k n : ℕ) (v : FlowValue) : Type 0 where
   pub none : (m : ℕ) → (IsAnd g m → ⊥) → low_cut_of v m ≡ []
   pub each : (m : ℕ) → m < n → IsAnd g m → HasLowWith g k (label_of v) (low_cut_of v) m (label_of v m) (low_cut_of v m)
+
+-- what a flow shows of the cuts of n: each one is high, or the nearest least low cut, or nothing if a floor above the sources held it up
+abbrev pub IsShown : Aig → ℕ → ℕ → ℕ → (ℕ → ℕ) → ℕ → FlowEnd → Type 0
+IsShown g k n h label floor High = IsHigh g k n h label
+IsShown g k n h label floor (Low c) = IsNearest g k n h label c
+IsShown g k n h label floor HeldUp = floor ≢ length g.kinds

@@ -1,12 +1,16 @@
 -- What the walk and the search do to their working memory.
-use Rattle.std.specs.Prelude.{◌≡◌, ℕ, ◌+◌, ◌-◌, Bool, List, length, slice_index, slice_set}
-use Rattle.flow_label.specs.Words.{Aig, label_at}
+use Rattle.std.specs.Prelude.{◌≡◌, ℕ, ◌+◌, ◌-◌, ◌<◌, Bool, List, length, slice_index, slice_set}
+use Rattle.flow_label.specs.Words.{Aig, label_at, AreApart, In}
+use Rattle.flow_label.specs.Value.{IsLive}
 use Rattle.flow_label.specs.declared.scratch.Links.{Links}
 use Rattle.flow_label.specs.declared.scratch.PathSearch.{PathSearch}
 use Rattle.flow_label.specs.declared.scratch.ConeWalk.{ConeWalk}
+use Rattle.flow_label.specs.declared.scratch.Scratch.{Scratch}
+use Rattle.flow_label.specs.declared.scratch.Trunks.{Trunks}
+use Rattle.flow_label.specs.Trunks.{AreTrunks}
 use Rattle.flow_label.specs.declared.search.SearchEnd.{SearchEnd}
 use Rattle.flow_label.specs.Links.{owner_in}
-use Rattle.flow_label.specs.Net.{SiteValue, net_of}
+use Rattle.flow_label.specs.Net.{SiteValue, net_of, net_at, AreReaders, AreEnds}
 use Rattle.flow_label.specs.Search.{AreAdded, HasMet, IsSearching}
 use Rattle.flow_label.specs.Walks.{HasRead}
 
@@ -44,3 +48,28 @@ turned site owners search j = slice_set owners (slice_index search.queue.items j
 -- there are k + 1 paths, or fewer and a blocked search
 abbrev pub Adds : SiteValue → ℕ → Links → PathSearch → SearchEnd → Type 0
 Adds site k links search outcome = AreAdded site k links.owners links.starts.items search.queue.items search.backs.items search.passed outcome
+
+-- what a walk has met is the readers and the ends of the net of n
+pub record HasWalked (g : Aig) (labels : List ℕ) (n h : ℕ) (scratch : Scratch) : Type 0 where
+  pub readers : AreReaders (net_at g labels n h scratch.walk.readers)
+  pub ends : AreEnds (net_at g labels n h scratch.walk.readers) scratch.walk.ends.items
+
+-- the trunks of a graph, with all floors below n
+abbrev pub HasTrunks : Aig → ℕ → Trunks → Type 0
+HasTrunks g n trunks = AreTrunks g n trunks.floors.items trunks.until.items trunks.top
+
+-- Live nodes below n, at which paths are to end, each once; those that are marked.
+pub record AreProposed (g : Aig) (label : ℕ → ℕ) (n : ℕ) (marks nodes : List ℕ) : Type 0 where
+  pub once : AreApart nodes
+  pub each : (m : ℕ) → In nodes m → IsLive g label m × (m < n)
+  pub marked : (m : ℕ) → In nodes m → 0 < slice_index marks m
+  pub only : (m : ℕ) → 0 < slice_index marks m → In nodes m
+
+abbrev pub HasProposed : Aig → List ℕ → ℕ → ConeWalk → Type 0
+HasProposed g labels n walk = AreProposed g (label_at labels) n walk.readers walk.ends.items
+
+-- the floors and what is linked at them stay as they are
+pub record KeepsTrunks (old new : Trunks) : Type 0 where
+  pub floors : new.floors.items ≡ old.floors.items
+  pub until : new.until.items ≡ old.until.items
+  pub top : new.top ≡ old.top

@@ -2,28 +2,43 @@
 --
 -- A height of at least 2 is given. A node below the node is low where its label is at least two less than the height: of the paths that are
 -- sought at most one may pass a low node.
-use Rattle.std.specs.Prelude.{◌≡◌, ℕ, ◌+◌, ◌<◌, ◌≤◌, ◌⊎◌, Bool, ◌&&◌, nat_lt, List, length, slice_index}
+use Rattle.std.specs.Prelude.{◌≡◌, ℕ, ◌+◌, ◌<◌, ◌≤◌, ◌⊎◌, ◌==◌, Bool, true, ◌&&◌, ◌||◌, nat_lt, nat_le, List, [], length, slice_index}
 use Rattle.flow_label.specs.Words.{Aig, first_and, IsAnd, AreNormal, AreApart, In, label_at, IsFanIn}
 use Rattle.flow_label.specs.Value.{IsLive, AreKnownTo}
+use Rattle.flow_label.specs.Trunks.{AreIndependent}
 
 -- The node, the height, and the readers: for each node that the walk down from it through deep nodes met, the node from which it was met
--- first, and 0 for the others.
+-- first, and 0 for the others. Paths start at or below the floor, at its linked nodes; no other node down there is on a path.
 pub record FlowNet : Type 0 where
   pub graph : Aig
   pub label : ℕ → ℕ
   pub node : ℕ
   pub height : ℕ
   pub reader : ℕ → ℕ
+  pub floor : ℕ
+  pub linked : ℕ → Bool
 
 abbrev pub IsLow : FlowNet → ℕ → Type 0
 IsLow net m = net.label m + 1 < net.height
 
--- a low AND node that isn't free: a path that passes it comes from one of its fan-ins
+-- a low AND node above the floor that isn't free: a path that passes it comes from one of its fan-ins
 pub record IsInner (net : FlowNet) (a : ℕ) : Type 0 where
   pub and : IsAnd net.graph a
+  pub above : net.floor < a
   pub below : a < net.node
   pub low : IsLow net a
   pub live : 1 ≤ net.label a
+
+-- a live node that may be on a path: above the floor, or linked
+pub record IsOpen (net : FlowNet) (m : ℕ) : Type 0 where
+  pub live : IsLive net.graph net.label m
+  pub reached : (net.floor < m) ⊎ (net.linked m ≡ true)
+
+-- a node at which a path may start: a linked one at or below the floor
+pub record IsRoot (net : FlowNet) (m : ℕ) : Type 0 where
+  pub live : IsLive net.graph net.label m
+  pub below : m ≤ net.floor
+  pub linked : net.linked m ≡ true
 
 -- the node itself, or a deep node that was met
 abbrev pub IsUpper : FlowNet → ℕ → Type 0
@@ -52,17 +67,29 @@ pub record AreEnds (net : FlowNet) (ends : List ℕ) : Type 0 where
   pub only : (u : ℕ) → In ends u → IsEnd net u
   pub all : (u : ℕ) → IsEnd net u → In ends u
 
--- the node and the labels below it are such that paths may be sought
+-- The node and the labels below it are such that paths may be sought. Each set that blocks some of the nodes at which paths may start has as
+-- many leaves.
 pub record IsNet (net : FlowNet) : Type 0 where
   pub and : IsAnd net.graph net.node
   pub high : 2 ≤ net.height
   pub normal : AreNormal (first_and net.graph) net.graph.pairs
   pub known : AreKnownTo net.graph net.node net.label
-  pub readers : AreReaders net
+  pub met : (m : ℕ) → 0 < net.reader m → IsLive net.graph net.label m × (m < net.node)
+  pub sources : length net.graph.kinds ≤ net.floor
+  pub under : net.floor < net.node
+  pub rooted : AreIndependent net.graph (IsRoot net)
 
--- the net of a node of a graph with these labels, for a height, with these readers
+-- are all regular sources linked, or those nodes alone that are linked up to this floor
+abbrev pub is_linked : Aig → ℕ → List ℕ → ℕ → Bool
+is_linked g floor until m = (floor == length g.kinds) || nat_le floor (slice_index until m)
+
+-- the net of a node of a graph with these labels, for a height, with these readers, above a floor
+abbrev pub net_on : Aig → List ℕ → ℕ → ℕ → List ℕ → ℕ → List ℕ → FlowNet
+net_on g labels n h readers floor until = record { graph = g; label = label_at labels; node = n; height = h; reader = λ m. slice_index readers m; floor = floor; linked = λ m. is_linked g floor until m }
+
+-- the net down to the sources
 abbrev pub net_at : Aig → List ℕ → ℕ → ℕ → List ℕ → FlowNet
-net_at g labels n h readers = record { graph = g; label = label_at labels; node = n; height = h; reader = λ m. slice_index readers m }
+net_at g labels n h readers = net_on g labels n h readers (length g.kinds) []
 
 -- what a site is seen as
 pub record SiteValue : Type 0 where
@@ -71,15 +98,17 @@ pub record SiteValue : Type 0 where
   pub node : ℕ
   pub height : ℕ
   pub readers : List ℕ
+  pub floor : ℕ
+  pub until : List ℕ
 
 abbrev pub net_of : SiteValue → FlowNet
-net_of s = net_at s.graph s.labels s.node s.height s.readers
+net_of s = net_on s.graph s.labels s.node s.height s.readers s.floor s.until
 
 -- is m an inner node
 abbrev pub is_inner : SiteValue → ℕ → Bool
-is_inner s m = nat_lt (length s.graph.kinds) m && (nat_lt m s.node && (nat_lt (label_at s.labels m + 1) s.height && nat_lt 0 (label_at s.labels m)))
+is_inner s m = nat_lt s.floor m && (nat_lt m s.node && (nat_lt (label_at s.labels m + 1) s.height && nat_lt 0 (label_at s.labels m)))
 
 -- what a site keeps
-pub record IsSite (g : Aig) (labels : List ℕ) (n h : ℕ) (readers low : List ℕ) : Type 0 where
-  pub net : IsNet (net_at g labels n h readers)
-  pub ends : AreEnds (net_at g labels n h readers) low
+pub record IsSite (at : FlowNet) (low : List ℕ) : Type 0 where
+  pub net : IsNet at
+  pub ends : AreEnds at low

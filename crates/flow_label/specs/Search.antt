@@ -3,9 +3,9 @@
 -- The queue has the low nodes that the search has met, each once, and the stack has the places of those that wait. A node that an inner
 -- node owns is handed on: the owner would choose another node, so its choices are met too. A node without an owner ends the search.
 use Rattle.std.specs.Prelude.{◌≡◌, ℕ, ◌-◌, ◌<◌, ◌≤◌, Bool, true, false, List, [], ◌∷◌, ◌++◌, length, slice_index, slice_set, ◌⊎◌, ◌+◌}
-use Rattle.flow_label.specs.Words.{node_count, AreApart, In}
+use Rattle.flow_label.specs.Words.{node_count, AreApart, In, IsFanIn}
 use Rattle.flow_label.specs.Value.{IsLive}
-use Rattle.flow_label.specs.Net.{FlowNet, SiteValue, net_of, IsLow, IsInner, IsEnd}
+use Rattle.flow_label.specs.Net.{FlowNet, SiteValue, net_of, IsLow, IsInner, IsEnd, IsOpen}
 use Rattle.flow_label.specs.Links.{IsChoice, owner_in}
 use Rattle.flow_label.specs.declared.search.SearchEnd.{SearchEnd}
 use Rattle.flow_label.specs.declared.search.SearchEnd.TheVariants.{Found, Blocked}
@@ -20,7 +20,7 @@ pub record ComesFrom (net : FlowNet) (owner : ℕ → ℕ) (queue : List ℕ) (b
 -- the nodes that a search has met, and whence
 pub record AreMet (net : FlowNet) (owner : ℕ → ℕ) (queue backs : List ℕ) : Type 0 where
   pub once : AreApart queue
-  pub nodes : (u : ℕ) → In queue u → (u < net.node) × IsLive net.graph net.label u × IsLow net u
+  pub nodes : (u : ℕ) → In queue u → (u < net.node) × IsOpen net u × IsLow net u
   pub count : length backs ≡ length queue
   pub whence : (j : ℕ) → j < length queue → ComesFrom net owner queue (slice_index backs j) j
 
@@ -53,11 +53,11 @@ pub record Extends (queue queue' : List ℕ) : Type 0 where
 
 -- One more node is met, unless it is free or was seen. If nobody has chosen it, it ends the search; otherwise its place waits.
 pub data HasMet (net : FlowNet) (owner : ℕ → ℕ) (m back : ℕ) (seen queue backs stack seen' queue' backs' stack' : List ℕ) : Bool → Type 0 where
-  free : {b : Bool} → b ≡ false → (IsLive net.graph net.label m → ⊥) → seen' ≡ seen → queue' ≡ queue → backs' ≡ backs → stack' ≡ stack → HasMet net owner m back seen queue backs stack seen' queue' backs' stack' b
+  free : {b : Bool} → b ≡ false → (IsOpen net m → ⊥) → seen' ≡ seen → queue' ≡ queue → backs' ≡ backs → stack' ≡ stack → HasMet net owner m back seen queue backs stack seen' queue' backs' stack' b
   old : {b : Bool} → b ≡ false → 0 < slice_index seen m → seen' ≡ seen → queue' ≡ queue → backs' ≡ backs → stack' ≡ stack → HasMet net owner m back seen queue backs stack seen' queue' backs' stack' b
-  end : {b : Bool} → b ≡ true → IsLive net.graph net.label m → slice_index seen m ≡ 0 → owner m ≡ 0 → seen' ≡ slice_set seen m 1 → queue' ≡ queue ++ m ∷ [] → backs' ≡ backs ++ back ∷ [] → stack' ≡ stack
+  end : {b : Bool} → b ≡ true → IsOpen net m → slice_index seen m ≡ 0 → owner m ≡ 0 → seen' ≡ slice_set seen m 1 → queue' ≡ queue ++ m ∷ [] → backs' ≡ backs ++ back ∷ [] → stack' ≡ stack
       → HasMet net owner m back seen queue backs stack seen' queue' backs' stack' b
-  new : {b : Bool} → b ≡ false → IsLive net.graph net.label m → slice_index seen m ≡ 0 → 0 < owner m → seen' ≡ slice_set seen m 1 → queue' ≡ queue ++ m ∷ [] → backs' ≡ backs ++ back ∷ [] → stack' ≡ stack ++ length queue ∷ []
+  new : {b : Bool} → b ≡ false → IsOpen net m → slice_index seen m ≡ 0 → 0 < owner m → seen' ≡ slice_set seen m 1 → queue' ≡ queue ++ m ∷ [] → backs' ≡ backs ++ back ∷ [] → stack' ≡ stack ++ length queue ∷ []
       → HasMet net owner m back seen queue backs stack seen' queue' backs' stack' b
 
 -- a search that came to a node without an owner, as the last that it met
@@ -69,9 +69,14 @@ pub record IsFound (site : SiteValue) (owners queue backs : List ℕ) : Type 0 w
 -- a search that has handed on all that it met, ends among them
 pub record IsBlocked (site : SiteValue) (owners queue backs passed : List ℕ) : Type 0 where
   pub met : AreMet (net_of site) (owner_in site owners) queue backs
-  pub ends : (u : ℕ) → IsEnd (net_of site) u → In queue u
+  pub ends : (u : ℕ) → IsEnd (net_of site) u → IsOpen (net_of site) u → In queue u
   pub handed : (u : ℕ) → In queue u → IsHandedOn (net_of site) (owner_in site owners) queue u
   pub passed_are : ArePassed (net_of site) (owner_in site owners) queue [] passed
+
+-- a search that wasn't held up at the floor: each end is open, and so is each live node that a passed node reads
+pub record IsTight (net : FlowNet) (owner : ℕ → ℕ) (queue : List ℕ) : Type 0 where
+  pub ends : (u : ℕ) → IsEnd net u → IsOpen net u
+  pub passed : (u m : ℕ) → In queue u → IsInner net (owner u) → IsFanIn net.graph m (owner u) → IsLive net.graph net.label m → IsOpen net m
 
 -- the numbers that one step back along the search reads are in range
 pub record CanTurn (site : SiteValue) (owners queue backs : List ℕ) (j : ℕ) : Type 0 where

@@ -72,6 +72,8 @@ mod search;
 mod site;
 mod stamped;
 mod steps;
+mod tight;
+mod trunks;
 mod walk;
 mod ways;
 

@@ -7,6 +7,7 @@ ghost use Rattle.flow_label.specs.Labelled.{IsLabelled, AreLabelledTo};
 ghost use Rattle.flow_label.specs.LowCuts.{IsLowerCut, HasLowWith};
 ghost use Rattle.flow_label.specs.Parts.{low_at, IsOwnPart, IsLowPart, IsGreatest, IsFanInCut};
 ghost use Rattle.flow_label.specs.Scratch.{HasRoom};
+ghost use Rattle.flow_label.specs.Memory.{HasTrunks, KeepsTrunks};
 
 use crate::live::is_live;
 use crate::question::low_cut_of;
@@ -65,9 +66,11 @@ fn lower_cut(
     requires greatest { IsGreatest graph.now (label_at labels.now) n p }
     requires some { 1 ≤ p }
     requires room { HasRoom (node_count graph.now) scratch.old }
+    requires trunks { HasTrunks graph.now n scratch.old.trunks }
     ensures answer { IfOk result (IsAnswer graph.now k n (p + 1) (label_at labels.now)) }
     ensures low { IfOk result (λ answer. IfSome answer (λ cut. IsLowerCut graph.now k (label_at labels.now) (low_at cuts.now) n p cut)) }
     ensures room { OnOk result (HasRoom (node_count graph.now) scratch.new) }
+    ensures trunks { KeepsTrunks scratch.old.trunks scratch.new.trunks }
 {
     // The proof needs what the contract of this call says of the graph.
     let _count = graph.len();
@@ -127,9 +130,11 @@ pub fn label_node(
     requires node { IsAnd graph.now n }
     requires labelled { AreLabelledTo graph.now k n (record { labels = labels.now; cuts = cuts.now }) }
     requires room { HasRoom (node_count graph.now) scratch.old }
+    requires trunks { HasTrunks graph.now n scratch.old.trunks }
     ensures labelled { IfOk result (λ made. IsLabelled graph.now k n (label_at labels.now) made.label made.cut) }
     ensures low { IfOk result (λ made. HasLowWith graph.now k (label_at labels.now) (low_at cuts.now) n made.label made.cut) }
     ensures room { OnOk result (HasRoom (node_count graph.now) scratch.new) }
+    ensures trunks { KeepsTrunks scratch.old.trunks scratch.new.trunks }
 {
     // The proof needs what the contract of this call says of the graph.
     let _count = graph.len();

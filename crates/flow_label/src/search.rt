@@ -2,7 +2,7 @@
 ghost use Rattle.std.specs.Prelude.{◌≡◌, ℕ, ◌<◌, ◌≤◌, ◌+◌, ◌^◌, List, [], ◌∷◌, true, false, length, IfOk, OnOk, slice_index};
 ghost use Rattle.aig_core.specs.Aig.{node_count};
 ghost use Rattle.list_laws.specs.Members.{In};
-ghost use Rattle.flow_label.specs.Net.{net_of, IsEnd};
+ghost use Rattle.flow_label.specs.Net.{net_of, IsEnd, IsOpen};
 ghost use Rattle.flow_label.specs.Links.{AreLinks};
 ghost use Rattle.flow_label.specs.Memory.{HasMarks, KeepsMarks, Meets, Searches, WaitForAll};
 ghost use Rattle.flow_label.specs.Search.{IsFound, IsEnded};
@@ -21,7 +21,7 @@ pub enum SearchEnd {
     Blocked,
 }
 
-// Adds a node to the search, unless it is free or was met. Returns whether it is on no path, which ends the search.
+// Adds a node to the search, unless no path may pass it or it was met. Returns whether it is on no path, which ends the search.
 fn meet(
     site: &Site,
     links: &Links,
@@ -35,7 +35,7 @@ fn meet(
     ensures met { IfOk result (Meets site.now links.now m back search.old search.new) }
     ensures passed { search.new.passed ≡ search.old.passed }
 {
-    if !site.is_live(m) || search.seen.get(m) != 0 {
+    if !site.is_open(m) || search.seen.get(m) != 0 {
         return Ok(false);
     }
     let place = search.queue.len() as u32;
@@ -81,8 +81,8 @@ fn hand_on(
     Ok(ends)
 }
 
-// A search that has met nothing.
-fn begin(site: &Site, links: &Links, search: &mut PathSearch)
+/// A search that has met nothing.
+pub fn begin(site: &Site, links: &Links, search: &mut PathSearch)
     requires seen { length search.old.seen ≡ node_count site.now.graph }
     requires passed { length search.old.passed ≡ node_count site.now.graph }
     ensures searching { Searches site.now links.now search.new [] }
@@ -97,8 +97,11 @@ fn begin(site: &Site, links: &Links, search: &mut PathSearch)
     search.passed.clear();
 }
 
-// Goes on from an end, until nothing waits. Returns whether the search ends.
-fn search_from(
+/// Goes on from an end, until nothing waits. Returns whether the search ends.
+///
+/// # Errors
+/// Only if memory runs out.
+pub fn search_from(
     site: &Site,
     links: &Links,
     search: &mut PathSearch,
@@ -110,7 +113,7 @@ fn search_from(
     requires none { search.old.stack.items ≡ [] }
     ensures on { IfOk result (λ ends. ends ≡ false → Searches site.now links.now search.new []) }
     ensures none { IfOk result (λ ends. ends ≡ false → search.new.stack.items ≡ []) }
-    ensures there { IfOk result (λ ends. ends ≡ false → In search.new.queue.items m) }
+    ensures there { IfOk result (λ ends. ends ≡ false → IsOpen (net_of site.now) m → In search.new.queue.items m) }
     ensures kept { OnOk result ((u : ℕ) → In search.old.queue.items u → In search.new.queue.items u) }
     ensures ended { IfOk result (λ ends. ends ≡ true → IsFound site.now links.now.owners search.new.queue.items search.new.backs.items) }
     ensures marks { OnOk result (KeepsMarks search.old search.new) }
@@ -129,7 +132,7 @@ fn search_from(
 }
 
 /// Searches for one more path. The search goes down from the node, and back up if a path is in the way, until it meets a node
-/// that is on no path, which is a regular source. It goes on from what it met last, and of the fan-ins of a node from the
+/// that is on no path, which is a regular source or linked. It goes on from what it met last, and of the fan-ins of a node from the
 /// one that is nearer to a source.
 ///
 /// # Errors

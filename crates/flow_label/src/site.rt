@@ -1,13 +1,14 @@
 //! The node to which paths are sought, with the data that the search reads.
-ghost use Rattle.std.specs.Prelude.{◌≡◌, ◌⊎◌, ℕ, ◌<◌, ◌≤◌, ◌+◌, ◌^◌, length, nat_lt, slice_index, true, false};
+ghost use Rattle.std.specs.Prelude.{◌≡◌, ◌==◌, ◌⊎◌, ℕ, ◌<◌, ◌≤◌, ◌+◌, ◌^◌, length, nat_lt, slice_index, true, false};
 ghost use Rattle.aig_core.specs.Aig.{node_count, IsAnd};
 ghost use Rattle.cut_sets.specs.Labels.{label_at};
 ghost use Rattle.cut_sets.specs.Paths.{IsFanIn};
 ghost use Rattle.flow_label.specs.Value.{IsLive};
-ghost use Rattle.flow_label.specs.Net.{IsNet, net_at, net_of, is_inner, AreEnds};
+ghost use Rattle.flow_label.specs.Net.{IsNet, IsOpen, net_on, net_of, is_inner, is_linked, AreEnds};
 ghost use Rattle.flow_label.specs.Links.{first_owner};
 
 use crate::live::is_live;
+use crate::scratch::ConeWalk;
 use crate::stamped::Stamped;
 use aig_core::Graph;
 use cut_sets::NodeLabels;
@@ -18,6 +19,13 @@ use std::marker::Model;
 pub struct FanIns {
     pub far: u32,
     pub near: u32,
+}
+
+/// Down to where paths are sought: the floor, and for each node up to which floor it stays linked.
+#[derive(Clone, Copy)]
+pub struct Ground<'a> {
+    pub floor: u32,
+    pub until: &'a [u32],
 }
 
 /// The node, its graph with the labels, the height that is in question, and the results of the walk down from the node: the
@@ -31,41 +39,45 @@ pub struct Site<'a> {
     readers: &'a Stamped,
     ends: &'a [u32],
     steps: &'a [u32],
+    floor: u32,
+    until: &'a [u32],
 }
 
 impl<'a> Model for Site<'a> {
-    ghost use Rattle.flow_label.specs.Net.{SiteValue, IsSite};
+    ghost use Rattle.flow_label.specs.Net.{SiteValue, net_on, IsSite};
 
     ghost Value = { SiteValue };
 
-    ghost view = { λ s. record { graph = s.graph.now; labels = s.labels.now; node = s.node; height = s.height; readers = s.readers.now } };
+    ghost view = { λ s. record { graph = s.graph.now; labels = s.labels.now; node = s.node; height = s.height; readers = s.readers.now; floor = s.floor; until = s.until.now } };
 
-    ghost invariant = { λ s. IsSite s.graph.now s.labels.now s.node s.height s.readers.now s.ends.now };
+    ghost invariant = { λ s. IsSite (net_on s.graph.now s.labels.now s.node s.height s.readers.now s.floor s.until.now) s.ends.now };
 }
 
 impl<'a> Site<'a> {
-    /// A site: a node with its readers and ends.
+    /// A site: a node with what the walk met, and the ground.
     pub fn make(
         graph: &'a Graph,
         labels: &'a NodeLabels,
         node: u32,
         height: u32,
-        readers: &'a Stamped,
-        ends: &'a [u32],
+        walk: &'a ConeWalk,
         steps: &'a [u32],
+        ground: Ground<'a>,
     ) -> Site<'a>
-        requires net { IsNet (net_at graph.now labels.now node height readers.now) }
-        requires ends { AreEnds (net_at graph.now labels.now node height readers.now) ends.now }
-        ensures { result ≡ record { graph = graph.now; labels = labels.now; node = node; height = height; readers = readers.now } }
+        requires net { IsNet (net_on graph.now labels.now node height walk.now.readers ground.floor ground.until.now) }
+        requires ends { AreEnds (net_on graph.now labels.now node height walk.now.readers ground.floor ground.until.now) walk.now.ends.items }
+        ensures { result ≡ record { graph = graph.now; labels = labels.now; node = node; height = height; readers = walk.now.readers; floor = ground.entry.floor; until = ground.entry.until.now } }
     {
         Site {
             graph,
             labels,
             node,
             height,
-            readers,
-            ends,
+            readers: &walk.readers,
+            ends: &walk.ends,
             steps,
+            floor: ground.floor,
+            until: ground.until,
         }
     }
 
@@ -94,11 +106,34 @@ impl<'a> Site<'a> {
         self.labels.label(m) + 1 < self.height
     }
 
-    /// Whether m is a low AND node below the node, and not free.
+    /// Whether m is a low AND node between the floor and the node, and not free.
     pub fn is_inner(&self, m: u32) -> bool
         ensures { result ≡ is_inner self.now m }
     {
-        m > self.graph.sources() && m < self.node && self.is_low(m) && self.labels.label(m) > 0
+        m > self.floor && m < self.node && self.is_low(m) && self.labels.label(m) > 0
+    }
+
+    /// Whether paths start at regular sources alone.
+    pub fn is_full(&self) -> bool
+        ensures { result ≡ (self.now.floor == length self.now.graph.kinds) }
+    {
+        self.floor == self.graph.sources()
+    }
+
+    // Whether m is linked at the floor, if it is at or below it.
+    fn is_linked(&self, m: u32) -> bool
+        ensures { result ≡ is_linked self.now.graph self.now.floor self.now.until m }
+    {
+        self.is_full() || self.floor <= self.until.get(m as usize).copied().unwrap_or(0)
+    }
+
+    /// Whether a path may pass m: a regular source is at or below it, and it is above the floor or linked.
+    pub fn is_open(&self, m: u32) -> bool
+        requires { m < node_count self.now.graph }
+        ensures yes { result ≡ true → IsOpen (net_of self.now) m }
+        ensures no { result ≡ false → IsOpen (net_of self.now) m → ⊥ }
+    {
+        self.is_live(m) && (m > self.floor || self.is_linked(m))
     }
 
     /// The node that has chosen m before the first path is added: an inner node has chosen itself; 0 means none.

@@ -53,3 +53,38 @@ pub fn steps_down(alloc: Global, graph: &Graph) -> Result<Vec<u32>, AllocError> 
     }
     Ok(numbers)
 }
+
+/// The sources.
+///
+/// # Errors
+/// Only if memory runs out.
+pub fn sources_of(alloc: Global, graph: &Graph) -> Result<Vec<u32>, AllocError> {
+    let mut nodes = Vec::new(alloc);
+    for m in 0..graph.sources() {
+        nodes.push(m + 1)?;
+    }
+    Ok(nodes)
+}
+
+// Sets the number at a place, if there is one.
+fn set_number(numbers: &mut [u32], place: u32, value: u32) {
+    if let Some(number) = numbers.get_mut(place as usize) {
+        *number = value;
+    }
+}
+
+/// For each node the last node that reads it, 0 if none does.
+///
+/// # Errors
+/// Only if memory runs out.
+pub fn last_readers(alloc: Global, graph: &Graph) -> Result<Vec<u32>, AllocError> {
+    let mut numbers = vec![in alloc; 0; graph.len() as usize]?;
+    for n in 0..graph.len() {
+        if n > graph.sources() {
+            let pair = graph.pair_at(n);
+            set_number(&mut numbers, pair.x.0 / 2, n);
+            set_number(&mut numbers, pair.y.0 / 2, n);
+        }
+    }
+    Ok(numbers)
+}

@@ -1,8 +1,8 @@
 //! The paths as lists, from their starts up to the node.
-ghost use Rattle.std.specs.Prelude.{◌≡◌, ℕ, ◌<◌, map, IfOk};
+ghost use Rattle.std.specs.Prelude.{◌≡◌, ℕ, ◌<◌, length, map, IfOk};
 ghost use Rattle.aig_core.specs.Aig.{IsSource};
 ghost use Rattle.aig_core.specs.declared.lit.Kind.TheVariants.{Regular};
-ghost use Rattle.flow_label.specs.Net.{net_of};
+ghost use Rattle.flow_label.specs.Net.{net_of, AreReaders};
 ghost use Rattle.flow_label.specs.Links.{AreLinks, owner_in, next_of, IsWayTo, AreWays};
 
 use crate::links::owner;
@@ -27,6 +27,7 @@ fn next(site: &Site, links: &Links, m: u32) -> u32
 // The path from a start.
 fn path_from(alloc: Global, site: &Site, links: &Links, s: u32) -> Result<Vec<u32>, AllocError>
     requires linked { AreLinks site.now links.now.owners links.now.starts.items }
+    requires readers { AreReaders (net_of site.now) }
     requires source { IsSource site.now.graph Regular s }
     requires owned { 0 < owner_in site.now links.now.owners s }
     ensures { IfOk result (λ path. IsWayTo (net_of site.now) (owner_in site.now links.now.owners) s site.now.node path.items) }
@@ -47,7 +48,9 @@ fn path_from(alloc: Global, site: &Site, links: &Links, s: u32) -> Result<Vec<u3
 /// # Errors
 /// Only if memory runs out.
 pub fn paths_of(alloc: Global, site: &Site, links: &Links) -> Result<Vec<Vec<u32>>, AllocError>
-    requires { AreLinks site.now links.now.owners links.now.starts.items }
+    requires linked { AreLinks site.now links.now.owners links.now.starts.items }
+    requires readers { AreReaders (net_of site.now) }
+    requires full { site.now.floor ≡ length site.now.graph.kinds }
     ensures { IfOk result (λ paths. AreWays (net_of site.now) (owner_in site.now links.now.owners) links.now.starts.items (map (λ p. p.items) paths.items)) }
 {
     let mut paths = Vec::new(alloc);

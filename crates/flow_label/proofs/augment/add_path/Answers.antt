@@ -54,7 +54,7 @@ set-requires c =
     let t = c.loop-links.invariant.turning in
     let place : c.loop-links.j < length c.args.search.now.queue.items = t.place in
     let end : c.index-end.result.now ≡ get_or c.args.search.now.queue.items c.loop-links.j 0 = get_or_read c.args.search.now.queue.items c.loop-links.j c.index-end.result.now place c.index-end.ensures 0 in
-    let inside : get_or c.args.search.now.queue.items c.loop-links.j 0 < node_count c.args.site.now.graph = live_inside c.args.site.now.graph (net_of c.args.site.now).label _ (c.requires.found.met.nodes _ (In-get_or c.args.search.now.queue.items c.loop-links.j 0 place)).1 in
+    let inside : get_or c.args.search.now.queue.items c.loop-links.j 0 < node_count c.args.site.now.graph = live_inside c.args.site.now.graph (net_of c.args.site.now).label _ (c.requires.found.met.nodes _ (In-get_or c.args.search.now.queue.items c.loop-links.j 0 place)).1.live in
     omega (arith, c.loop-links.invariant.size)
 
 pub returns-clause-linked : goal.returns-clause-linked
@@ -66,12 +66,23 @@ returns-clause-linked c =
     let end : c.index-end.result.now ≡ get_or c.args.search.now.queue.items c.loop-links.j 0 = get_or_read c.args.search.now.queue.items c.loop-links.j c.index-end.result.now place c.index-end.ensures 0 in
     let none : get_or c.args.search.now.backs.items c.loop-links.j 0 ≡ 0 = (let m : c.index-in-loop-links.result.now ≤ 0 = c.loop-links-test.false in omega arith) in
     let and : 0 < c.args.site.now.node = (let a : 1 + length c.args.site.now.graph.kinds ≤ c.args.site.now.node = c.node-node.ensures.net.and.0 in omega arith) in
-    let inside : get_or c.args.search.now.queue.items c.loop-links.j 0 < node_count c.args.site.now.graph = live_inside c.args.site.now.graph (net_of c.args.site.now).label _ (c.requires.found.met.nodes _ (In-get_or c.args.search.now.queue.items c.loop-links.j 0 place)).1 in
+    let inside : get_or c.args.search.now.queue.items c.loop-links.j 0 < node_count c.args.site.now.graph = live_inside c.args.site.now.graph (net_of c.args.site.now).label _ (c.requires.found.met.nodes _ (In-get_or c.args.search.now.queue.items c.loop-links.j 0 place)).1.live in
     let size : length c.loop-links.links.owners ≡ node_count c.args.site.now.graph = c.loop-links.invariant.size in
     rw (c.set.ensures, end, c.node-node.ensures.is, c.loop-links.invariant.starts) (record {
       chosen = t.chosen;
       routed = finish (net_of c.args.site.now) (length c.args.links.now.starts.items) (owner_in c.args.site.now c.args.links.now.owners) c.args.search.now.queue.items c.args.search.now.backs.items (length c.args.search.now.queue.items - 1) c.requires.found.met (omega (arith, c.requires.found.some))
-          c.requires.linked.chosen (owner_in c.args.site.now c.loop-links.links.owners) _ c.args.links.now.starts.items c.loop-links.j t none and refl c.requires.linked.routed c.requires.found.free
+          c.requires.linked.chosen (owner_in c.args.site.now c.loop-links.links.owners) _ c.args.links.now.starts.items c.loop-links.j t none and refl c.node-node.ensures.net.sources c.requires.linked.routed c.requires.found.free
           (owner_set c.args.site.now c.loop-links.links.owners _ _ (omega arith) and);
       size = length-set c.loop-links.links.owners _ _ ∙ size;
     })
+
+pub loop-links-smaller : goal.loop-links-smaller
+loop-links-smaller c =
+    let t = c.loop-links.invariant.turning in
+    let count : length c.args.search.now.backs.items ≡ length c.args.search.now.queue.items = c.requires.found.met.count in
+    let place : c.loop-links.j < length c.args.search.now.queue.items = t.place in
+    let back : c.index-in-loop-links.result.now ≡ get_or c.args.search.now.backs.items c.loop-links.j 0 = get_or_read c.args.search.now.backs.items c.loop-links.j c.index-in-loop-links.result.now (omega arith) c.index-in-loop-links.ensures 0 in
+    let r : CanTurn c.args.site.now c.loop-links.links.owners c.args.search.now.queue.items c.args.search.now.backs.items c.loop-links.j =
+    can_turn c.args.site.now (length c.args.links.now.starts.items) (owner_in c.args.site.now c.args.links.now.owners) c.args.search.now.queue.items c.args.search.now.backs.items (length c.args.search.now.queue.items - 1) c.requires.found.met (omega (arith, c.requires.found.some))
+    c.loop-links.links.owners c.loop-links.j t (let m : 0 < c.index-in-loop-links.result.now = c.loop-links-test.true in omega arith) in
+    omega (arith, r.back, c.turn-j.ensures.back)

@@ -3,13 +3,13 @@ use Rattle.flow_label.proofs.search.search_from.Goals as goal
 
 pub meet-requires-clause-node : goal.meet-requires-clause-node
 meet-requires-clause-node c =
-    let below : c.args.m < c.args.site.now.node = (c.node-node.ensures.net.readers.met c.args.m c.requires.end.met).below in
+    let below : c.args.m < c.args.site.now.node = (c.node-node.ensures.net.met c.args.m c.requires.end.met).1 in
     let top : c.args.site.now.node < node_count c.args.site.now.graph = c.node-node.ensures.net.and.1 in
     omega arith
 
 pub meet-requires-clause-room : goal.meet-requires-clause-room
 meet-requires-clause-room c =
-    let below : c.args.m < c.args.site.now.node = (c.node-node.ensures.net.readers.met c.args.m c.requires.end.met).below in
+    let below : c.args.m < c.args.site.now.node = (c.node-node.ensures.net.met c.args.m c.requires.end.met).1 in
     let top : c.args.site.now.node < node_count c.args.site.now.graph = c.node-node.ensures.net.and.1 in
     let size : length c.args.search.now.seen ≡ node_count c.args.site.now.graph = c.requires.searching.size in
     omega arith
@@ -63,7 +63,7 @@ pub loop-place-preserved : goal.loop-place-preserved
 loop-place-preserved c =
     record {
       searching = c.in_ok-hand_on.ensures.on c.if-branch-2.false;
-      there = c.in_ok-hand_on.ensures.kept c.args.m c.loop-place.invariant.there;
+      there = λ reached. c.in_ok-hand_on.ensures.kept c.args.m (c.loop-place.invariant.there reached);
       kept = λ u i. c.in_ok-hand_on.ensures.kept u (c.loop-place.invariant.kept u i);
       marks = record { room = c.in_ok-hand_on.ensures.marks.room ∙ c.loop-place.invariant.marks.room; size = c.in_ok-hand_on.ensures.marks.size ∙ c.loop-place.invariant.marks.size };
     }
