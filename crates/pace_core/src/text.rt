@@ -53,7 +53,6 @@ pub fn pace_events(alloc: Global, read: Vec<Event>) -> Result<Vec<PaceEvent>, Al
 /// # Errors
 /// The text's first refusal, as [`read_script`] reports it: T1 and T2 of its physical lines, and otherwise L7, S1, S2, S3 or S4 of
 /// the first logical line that has one. `Memory` if memory runs out. A text is one script or has one refusal, and not both.
-#[tactic(auto, using(crate::proofs::PaceTextLemmas::one_pace_reading))]
 pub fn read_pace(
     alloc: Global,
     text: &[u8],

@@ -1,6 +1,15 @@
 use Rattle.pace_core.proofs.Common.{List, sym, subst, event_values, PaceValue, pace_values, AreAsksAndTicks}
-use Rattle.pace_core.proofs.PaceTextLemmas.{script_paced, events_fit}
+use Rattle.pace_core.proofs.PaceTextLemmas.{script_paced, events_fit, one_pace_reading}
 use Rattle.pace_core.proofs.text.read_pace.Goals as goal
+
+pub returns-in_err-read-clause-one_reading : goal.returns-in_err-read-clause-one_reading
+returns-in_err-read-clause-one_reading c = one_pace_reading c.args.names.now c.args.text.now c.requires.forms
+
+pub returns-in_err-events-clause-one_reading : goal.returns-in_err-events-clause-one_reading
+returns-in_err-events-clause-one_reading c = one_pace_reading c.args.names.now c.args.text.now c.requires.forms
+
+pub returns-clause-one_reading : goal.returns-clause-one_reading
+returns-clause-one_reading c = one_pace_reading c.args.names.now c.args.text.now c.requires.forms
 
 pub returns-clause-events : goal.returns-clause-events
 returns-clause-events c =
