@@ -8,10 +8,11 @@ of the cell, modulo 2^width.
 
 from __future__ import annotations
 
+from functools import lru_cache
 from typing import Any, Callable, Iterable
 
 from tlutflow.arithmetic.certificate import Adder, Certificate, Counter, Table
-from tlutflow.arithmetic.meaning import Polynomial, Refused, bounds, cell_meaning, constant, inverse, modulo, number, plus, times
+from tlutflow.arithmetic.meaning import Polynomial, Refused, accumulate, bounds, cell_meaning, constant, inverse, modulo, number, plus, times
 from tlutflow.netlist import Cover, parse_library
 
 CONSTANTS = {"0": 0, "1": 1}
@@ -69,13 +70,18 @@ def cover_value(rows: list[tuple[str, str]], inputs: list[int], ones: int) -> in
     return found
 
 
+@lru_cache(maxsize=None)
+def columns(many: int) -> tuple[int, ...]:
+    """The columns of a truth table of so many inputs, as numbers with a digit for each case."""
+    return tuple(sum((case >> place & 1) << case for case in range(1 << many)) for place in range(many))
+
+
 def cases(names: Iterable[str]) -> tuple[dict[str, int], int]:
     """All cases of some nets: the value of each one in each case, and the value that is 1 in all."""
     listed = list(dict.fromkeys(name.lstrip("~") for name in names if name.lstrip("~") not in CONSTANTS))
     if len(listed) > MOST_INPUTS:
         raise Refused(f"a step has {len(listed)} inputs")
-    many = 1 << len(listed)
-    return {name: sum((case >> place & 1) << case for case in range(many)) for place, name in enumerate(listed)}, (1 << many) - 1
+    return dict(zip(listed, columns(len(listed)))), (1 << (1 << len(listed))) - 1
 
 
 def entries(it: Table) -> tuple[int, int]:
@@ -113,18 +119,17 @@ class Checker:
             if any(value is not None and value >> case & 1 != total >> place & 1 for place, value in enumerate(made)):
                 raise Refused(f"a counter of {', '.join([*it.low, *it.high])} miscounts")
 
-    def undo_counter(self, it: Counter, left: Polynomial, width: int) -> Polynomial:
+    def undo_counter(self, it: Counter, left: Polynomial, width: int) -> None:
         """Replaces the outputs of a counter by its inputs."""
         self.check_counter(it)
         for place, net in enumerate(it.outputs, it.place):
             if net:
-                left = plus(left, self.literal(net), -(1 << place))
+                accumulate(left, self.literal(net), -(1 << place))
             elif place < width:
                 raise Refused("a carry is lost")
         for place, nets in ((it.place, it.low), (it.place + 1, it.high)):
             for net in nets:
-                left = plus(left, self.literal(net), 1 << place)
-        return modulo(left, width)
+                accumulate(left, self.literal(net), 1 << place)
 
     def check_adder(self, it: Adder) -> None:
         """Refuses a prefix adder whose nodes don't have the carries of their spans, or whose outputs aren't the sum with these."""
@@ -167,11 +172,11 @@ class Checker:
     def expanded(self, left: Polynomial, width: int) -> Polynomial:
         """A polynomial of inputs alone: each gate that is left has to be a product of inputs."""
         found: Polynomial = {}
-        for monomial, weight in left.items():
+        for monomial, weight in modulo(left, width).items():
             product = constant(1)
             for name in monomial:
                 product = times(product, self.product(str(name)))
-            found = plus(found, product, weight)
+            accumulate(found, product, weight)
         return modulo(found, width)
 
     def product(self, net: str) -> Polynomial:
@@ -195,28 +200,28 @@ class Checker:
             product = constant(1)
             for net in [*addend.condition, *addend.parameters]:
                 product = times(product, self.literal(net))
-            meaning = plus(meaning, product, addend.weight)
-        shift = min(((weight & -weight).bit_length() - 1 for weight in meaning.values()), default=0)
+            accumulate(meaning, product, addend.weight)
+        shift = min(((weight & -weight).bit_length() - 1 for weight in meaning.values() if weight), default=0)
         width = len(it.bits)
         left: Polynomial = {}
         for place, net in enumerate(it.bits):
-            left = plus(left, self.literal(net), 1 << place)
+            accumulate(left, self.literal(net), 1 << place)
         for counter in reversed(it.counters):
-            left = self.undo_counter(counter, left, width)
+            self.undo_counter(counter, left, width)
         units = {monomial: weight >> shift for monomial, weight in meaning.items()}
         if self.expanded(left, width) != modulo(units, width):
             raise Refused("a table isn't the sum of its words")
         return meaning, shift
 
-    def undo_table(self, it: Table, left: Polynomial) -> Polynomial:
+    def undo_table(self, it: Table, left: Polynomial) -> None:
         """Replaces the bits of a table by what it stands for."""
         meaning, shift = self.table(it)
         width, (low, high) = self.certificate.width, entries(it)
         if (low < 0 or high >> shift >> len(it.bits)) and shift + len(it.bits) < width:
             raise Refused("a table's entries don't fit")
         for place, net in enumerate(it.bits):
-            left = plus(left, self.literal(net), -(1 << shift + place))
-        return modulo(plus(left, meaning), width)
+            accumulate(left, self.literal(net), -(1 << shift + place))
+        accumulate(left, meaning)
 
     def sum(self) -> Polynomial:
         """What the added bits of the module's output are, as a polynomial of its inputs."""
@@ -225,12 +230,11 @@ class Checker:
         left: Polynomial = {}
         for word in (it.adder.left, it.adder.right):
             for place, net in enumerate(word):
-                left = plus(left, self.literal(net), 1 << place)
-        left = modulo(left, it.width)
+                accumulate(left, self.literal(net), 1 << place)
         for counter in reversed(it.counters):
-            left = self.undo_counter(counter, left, it.width)
+            self.undo_counter(counter, left, it.width)
         for table in it.tables:
-            left = self.undo_table(table, left)
+            self.undo_table(table, left)
         return self.expanded(left, it.width)
 
     def check_outputs(self, many: int) -> None:

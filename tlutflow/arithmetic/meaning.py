@@ -21,11 +21,16 @@ class Refused(Fault):
     """Why a certificate doesn't show that a module is its cell."""
 
 
+def accumulate(total: Polynomial, right: Polynomial, factor: int = 1) -> None:
+    """Adds a multiple of a polynomial to another one, in place; coefficients may become 0."""
+    for monomial, weight in right.items():
+        total[monomial] = total.get(monomial, 0) + factor * weight
+
+
 def plus(left: Polynomial, right: Polynomial, factor: int = 1) -> Polynomial:
     """The sum of a polynomial and a multiple of another one."""
     found = dict(left)
-    for monomial, weight in right.items():
-        found[monomial] = found.get(monomial, 0) + factor * weight
+    accumulate(found, right, factor)
     return {monomial: weight for monomial, weight in found.items() if weight}
 
 
@@ -76,7 +81,7 @@ def word(bits: Iterable[Any], is_signed: bool, meaning: BitMeaning) -> Polynomia
     listed = list(bits)
     for place, bit in enumerate(listed):
         is_sign = is_signed and place == len(listed) - 1
-        found = plus(found, meaning(bit), -(1 << place) if is_sign else 1 << place)
+        accumulate(found, meaning(bit), -(1 << place) if is_sign else 1 << place)
     return found
 
 
@@ -102,9 +107,9 @@ def macc_meaning(cell: dict[str, Any], meaning: BitMeaning) -> Polynomial:
         product = word(left, bool(is_signed), meaning)
         if second:
             product = times(product, word(right, bool(is_signed), meaning))
-        found = plus(found, product, -1 if is_subtracted else 1)
+        accumulate(found, product, -1 if is_subtracted else 1)
     for bit in cell["connections"]["B"]:
-        found = plus(found, meaning(bit))
+        accumulate(found, meaning(bit))
     return found
 
 

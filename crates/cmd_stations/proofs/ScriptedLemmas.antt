@@ -73,4 +73,7 @@ script_to_scripted words old new o source template comes h =
 pub comes_scripted : (files : Files) (words : ScriptedWords) (s : Scripted) → ComesPast files words.source s.mapped
     → HasScript files words.script (names_in words.forms s.mapped.source s.mapped.tables.template.bits) (event_values s.events.items)
     → IsScriptSettled files words.script (names_in words.forms s.mapped.source s.mapped.tables.template.bits) → ComesScripted files words s
-comes_scripted files words s past script settled = search rules
+comes_scripted files words s past script settled = record {
+  has = record { mapped = past.has; script = script };
+  settled = record { source = past.settled; script = names_settled words s.mapped.source s.mapped.tables.template files past.has past.settled settled };
+}
