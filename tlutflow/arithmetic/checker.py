@@ -84,6 +84,12 @@ def cases(names: Iterable[str]) -> tuple[dict[str, int], int]:
     return dict(zip(listed, columns(len(listed)))), (1 << (1 << len(listed))) - 1
 
 
+def count_in(number: list[int], start: int, value: int) -> None:
+    """Adds a bit of the weight 2^start to a number, in each case at once; the number has a digit for each place."""
+    for place in range(start, len(number)):
+        number[place], value = number[place] ^ value, number[place] & value
+
+
 def entries(it: Table) -> tuple[int, int]:
     """A number that no entry of a table is below, and one that none is above: what literals of data select together is 0 or the sum of its words."""
     ranges: dict[tuple[str, ...], tuple[int, int]] = {}
@@ -100,6 +106,7 @@ class Checker:
 
     def __init__(self, certificate: Certificate, text: str):
         self.certificate, self.gates = certificate, Gates(text)
+        self.products: dict[str, Polynomial] = {}
 
     def literal(self, net: str) -> Polynomial:
         """A net as a polynomial of nets."""
@@ -110,14 +117,14 @@ class Checker:
     def check_counter(self, it: Counter) -> None:
         """Refuses a counter whose outputs aren't the number of its inputs; those without a name may be anything."""
         known, ones = cases([*it.low, *it.high])
-        inputs = [(1, self.gates.values(net, known, ones)) for net in it.low] + [(2, self.gates.values(net, known, ones)) for net in it.high]
-        made = [self.gates.values(net, known, ones) if net else None for net in it.outputs]
         if len(it.low) + 2 * len(it.high) >= 1 << len(it.outputs):
             raise Refused("a counter has too few outputs")
-        for case in range(ones.bit_length()):
-            total = sum(weight * (value >> case & 1) for weight, value in inputs)
-            if any(value is not None and value >> case & 1 != total >> place & 1 for place, value in enumerate(made)):
-                raise Refused(f"a counter of {', '.join([*it.low, *it.high])} miscounts")
+        number = [0] * len(it.outputs)
+        for start, nets in ((0, it.low), (1, it.high)):
+            for net in nets:
+                count_in(number, start, self.gates.values(net, known, ones))
+        if any(net and self.gates.values(net, known, ones) != value for net, value in zip(it.outputs, number)):
+            raise Refused(f"a counter of {', '.join([*it.low, *it.high])} miscounts")
 
     def undo_counter(self, it: Counter, left: Polynomial, width: int) -> None:
         """Replaces the outputs of a counter by its inputs."""
@@ -175,11 +182,17 @@ class Checker:
         for monomial, weight in modulo(left, width).items():
             product = constant(1)
             for name in monomial:
-                product = times(product, self.product(str(name)))
+                product = times(product, self.product(str(name))) if len(monomial) > 1 else self.product(str(name))
             accumulate(found, product, weight)
         return modulo(found, width)
 
     def product(self, net: str) -> Polynomial:
+        """A net as a polynomial of inputs, if it is a product of a few; each net is expanded once."""
+        if net not in self.products:
+            self.products[net] = self.expanded_product(net)
+        return self.products[net]
+
+    def expanded_product(self, net: str) -> Polynomial:
         """A net as a polynomial of inputs, if it is a product of a few."""
         name = net.lstrip("~")
         if name in self.gates.gates:
