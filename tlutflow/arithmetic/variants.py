@@ -24,8 +24,8 @@ class Variant:
 
 
 STYLES = {
-    "tables": Variant("sums with parameters as tables that bits of equal weight select"),
-    "prefix": Variant("the same with prefix adders", adder=AdderKind.PREFIX),
-    "digits": Variant("sums with parameters as tables that digits select", are_digits=True),
-    "alldata": Variant("as tables, and sums of data by the same compressors", has_data=True),
+    "tables": Variant("sums as tables, selected by bits of equal weight"),
+    "prefix": Variant("sums as tables, selected by bits of equal weight, with prefix adders", adder=AdderKind.PREFIX),
+    "digits": Variant("sums as tables, selected by digits", are_digits=True),
+    "alldata": Variant("sums as tables, and sums of data by the same compressors", has_data=True),
 }

@@ -161,7 +161,9 @@ def preparations_of(given: argparse.Namespace) -> list[Preparation]:
 
 def run(given: argparse.Namespace) -> int:
     if given.list:
-        print("\n".join(f"{it.name:8}{it.shown}" for it in preparations_of(given)))
+        listed = preparations_of(given)
+        width = max(len(it.name) for it in listed) + 2
+        print("\n".join(f"{it.name:{width}}{it.shown}" for it in listed))
         return 0
     settle(given)
     task = task_of(given, given.netlist, given.params)

@@ -314,6 +314,8 @@ def refused(code: str) -> str:
 
 def prepare(task: Task, folder: str, report: Report = silent) -> Found:
     """Tries all preparations in a folder, which keeps their files, and finds the best one."""
+    if task.preparations and not task.sums and all(it.sums for it in task.preparations):
+        raise Fault(f"the preparation {task.preparations[0].name} is of sums with parameters, which a netlist doesn't have: give the design in Verilog")
     shop = Workshop(task, folder)
     trials = [shop.as_read()]
     for number in range(task.rounds):

@@ -212,6 +212,8 @@ class Choices(InFolder):
         text = read_library(f"{self.folder}/n_prepared.blif").main
         self.assertEqual((text.inputs, text.outputs), (["clk", "a", "p"], ["q[0]", "a", "s"]))
         self.assertEqual(flow("check", f"{self.folder}/n.blif", f"{self.folder}/n_prepared.blif").stdout, "equal (ABC cec, latch by latch)\n")
+        ran = flow("prepare", f"{self.folder}/n.blif", f"{self.folder}/n.par", "--only", "tables", folder=self.folder)
+        self.assert_fault(ran, "the preparation tables is of sums with parameters, which a netlist doesn't have")
 
     @needs(ABC)
     @NEEDS_TLUT
