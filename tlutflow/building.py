@@ -8,10 +8,9 @@ from __future__ import annotations
 import argparse
 import os
 import shlex
-import sys
 from concurrent.futures import ThreadPoolExecutor
 from dataclasses import replace
-from typing import Any, Callable, Optional
+from typing import Any, Callable
 
 from tlutflow import tools
 from tlutflow.abc_form import abc_text
@@ -20,11 +19,11 @@ from tlutflow.built import Built, told_of
 from tlutflow.bus import Bus
 from tlutflow.buses import buses_of
 from tlutflow.changes import changes_of, rewritten
+from tlutflow.circuit import Circuit, read_circuit
 from tlutflow.commands import prepare as prepare_words
 from tlutflow.commands import verilog
-from tlutflow.commands.check import Pair, compare
-from tlutflow.commands.hdl import way_of, way_words
-from tlutflow.commands.show import view_words
+from tlutflow.commands.hdl import way_of
+from tlutflow.commands.show import view_of
 from tlutflow.devices.steps import DeviceSteps
 from tlutflow.faults import Fault, Undecided
 from tlutflow.mappings import Sizes, sizes_by_abc, sizes_by_tlut
@@ -36,12 +35,15 @@ from tlutflow.preparing.comparison import BY_PARTS, WHOLE
 from tlutflow.preparing.trials import AIMS, RULE_NAMES, RULES, keep, prepare
 from tlutflow.refusals import refusal_of
 from tlutflow.runs.script_writer import bit_script
+from tlutflow.stages.equality import Pair, compare
+from tlutflow.stages.hardware import Module, module_of, read_recording, simulated, write_module
+from tlutflow.stages.picture import draw
+from tlutflow.stages.runs import Run, Viewer, read_run
 from tlutflow.steps import Steps
 from tlutflow.text import logical_lines, read_text, write_text
 from tlutflow.verilog.hdl import Way
 from tlutflow.verilog.names import module_name
 
-RUN = "import sys; from tlutflow.main import main; sys.exit(main(sys.argv[1:]))"
 # A static picture of more LUTs is of no use; the page has one that can be moved.
 DRAWN = 300
 
@@ -251,11 +253,6 @@ class Build:
         check = ["no cover of the netlist's graph has less depth", f"{RULE_NAMES[self.built.rule]} audit, from the certificate", said, "ok"]
         return [check], [self.shown(["prove", *files]), self.shown(["audit", *files])]
 
-    def flow(self, words: list[str], given: str = "", seconds: Optional[float] = None) -> tuple[int, str, str]:
-        """Runs another subcommand, and returns its status, its output, and its last line on standard error."""
-        ran = tools.run([sys.executable, "-c", RUN, *words], None, seconds, given, {**os.environ, "PYTHONPATH": tools.TOP})
-        return ran.returncode, ran.stdout, ran.stderr.strip().rpartition("\n")[2]
-
     def verilog(self) -> tuple[list[list[str]], list[str]]:
         """The circuit in Verilog, and what a device counts of it."""
         checks, commands = self.hardware()
@@ -263,27 +260,27 @@ class Build:
             source = self.path(END) if self.is_verilog else self.given.files[0]
             self.built.device = self.device.count(source, self.is_verilog, self.built.rule, self.way)
             if self.script:
-                checks += self.device.played(self.flow, self.script, read_text(self.path("_run.txt")), self.way)
+                checks += self.device.played(self.script, read_text(self.path("_run.txt")), self.way)
         return checks, commands
 
     def hardware(self) -> tuple[list[list[str]], list[str]]:
         """The run of the script, and the circuit in Verilog, which also plays it if Icarus Verilog is installed."""
         files, script, module = [self.path("_t.blif"), self.path(".ppc")], self.script, self.module
-        words = ["hdl", *files, *way_words(self.way), "--module", os.path.basename(module), "--out", self.folder]
+        words = ["hdl", *files, *self.way.words, "--module", os.path.basename(module), "--out", self.folder]
         if not script:
-            self.steps.make("verilog", words, files, [f"{module}.v", f"{module}_bench.v"], lambda: self.must(words))
+            self.steps.make("verilog", words, files, [f"{module}.v", f"{module}_bench.v"], lambda: write_module(self.hdl(), self.folder, None))
             return [], [shlex.join(["flow", *words])]
         run = ["run", str(self.given.k), self.path(".blif"), self.path(".par"), script, "0", "0"]
         printed = self.tlut("run", run, [self.path(".blif"), self.path(".par"), script], [])
         write_text(self.path("_run.txt"), printed)
         ports = [self.path(".blif"), self.path(".par")]
-        show = ["show", *ports, *view_words(self.given)]
-        self.built.shown = self.steps.make("values", [show, printed], ports, [], lambda: self.must(show, printed))
+        show = ["show", *ports, *view_of(self.given).words]
+        self.built.shown = self.steps.make("values", [show, printed], ports, [], lambda: self.values(printed))
         words += ["--script", script, *(["--simulate"] if tools.find(tools.ICARUS) else [])]
         writes = [f"{module}.v", f"{module}_bench.v", f"{module}.events"]
-        check = self.steps.make("verilog", [words, printed, self.given.seconds], [*files, script], writes, lambda: self.simulated(words, printed))
+        check = self.steps.make("verilog", [words, printed, self.given.seconds], [*files, script], writes, lambda: self.simulated(printed))
         wave = ["wave", *ports, script]
-        self.steps.make("waveform", [printed], [*ports, script], [self.path(".vcd")], lambda: write_text(self.path(".vcd"), self.must(wave, printed)))
+        self.steps.make("waveform", [printed], [*ports, script], [self.path(".vcd")], lambda: self.waveform(printed))
         text, dump = shlex.quote(self.path("_run.txt")), shlex.quote(self.path(".vcd"))
         made = [] if script == self.given.script else [f"{shlex.join(['flow', 'script', *ports])} < {shlex.quote(self.given.script)} > {shlex.quote(script)}"]
         shown = [*made, f"{self.shown(run)} > {text}", f"{shlex.join(['flow', *words])} < {text}"]
@@ -297,27 +294,41 @@ class Build:
             self.steps.say(f"--bits {self.given.bits} becomes --bits all, since the script has upsets, which may be of any bit")
         return replace(self.way, bits="all")
 
-    def simulated(self, words: list[str], printed: str) -> list[str]:
+    def circuit(self) -> Circuit:
+        """The mapped circuit."""
+        return read_circuit(self.path("_t.blif"), self.path(".ppc"))
+
+    def hdl(self) -> Module:
+        """The mapped circuit in Verilog."""
+        return module_of(self.circuit(), self.way, os.path.basename(self.module))
+
+    def run_of(self, printed: str) -> Run:
+        """The run of the script that printed this."""
+        return read_run(self.path(".blif"), self.path(".par"), self.script, printed, self.path("_run.txt"))
+
+    def values(self, printed: str) -> str:
+        """The lines of the run with buses as numbers."""
+        played = self.run_of(printed)
+        return "".join(f"{line}\n" for line in Viewer(played.interface, view_of(self.given)).lines(played.output))
+
+    def waveform(self, printed: str) -> None:
+        """Writes the run as a waveform."""
+        played = self.run_of(printed)
+        played.check_end()
+        write_text(self.path(".vcd"), played.waveform())
+
+    def simulated(self, printed: str) -> list[str]:
         """Creates the Verilog, and says what the simulation showed."""
         what, by = "the Verilog plays the script as the run did", "Icarus Verilog"
-        if "--simulate" not in words:
-            self.must(words, printed)
+        module = self.hdl()
+        recording = read_recording(self.script, module.circuit.inputs, printed, self.path("_run.txt"))
+        write_module(module, self.folder, recording)
+        if tools.find(tools.ICARUS) is None:
             return [what, by, "Icarus Verilog isn't there", "missing"]
         try:
-            status, told, fault = self.flow(words, printed, self.given.seconds)
+            return [what, by, simulated(module, self.folder, recording, [], self.given.seconds), "ok"]
         except Undecided as stopped:
-            self.must([it for it in words if it != "--simulate"], printed)
             return [what, by, str(stopped), "open"]
-        if status:
-            raise Fault(fault.split(": ", 1)[-1])
-        return [what, by, told.strip(), "ok"]
-
-    def must(self, words: list[str], given: str = "") -> str:
-        """What another subcommand prints, which is to end well."""
-        status, told, fault = self.flow(words, given)
-        if status:
-            raise Fault(fault.split(": ", 1)[-1])
-        return told
 
     def picture(self) -> tuple[list[list[str]], list[str]]:
         """The drawing, and a picture of it if Graphviz is installed and the circuit isn't too large."""
@@ -325,7 +336,7 @@ class Build:
         tables = int(self.built.sizes[str(self.given.k)][self.built.rule][0])
         end = ".svg" if tools.find(tools.DOT) and tables <= DRAWN else ".dot"
         words = ["draw", *files, *(["--all"] if tables > DRAWN else []), "--out", self.path(end)]
-        self.steps.make("picture", [words, self.built.versions.get("Graphviz", "")], files, [self.path(end)], lambda: self.must(words))
+        self.steps.make("picture", [words, self.built.versions.get("Graphviz", "")], files, [self.path(end)], lambda: draw(self.circuit(), self.path(end)))
         return [], [shlex.join(["flow", *words])]
 
     def changes(self) -> tuple[list[list[str]], list[str]]:

@@ -11,7 +11,7 @@ from tlutflow.built import Built
 from tlutflow.circuit import Circuit, read_circuit
 from tlutflow.commands.hdl import add_device_words
 from tlutflow.commands.prepare import add_shared_words, check_limits, settle
-from tlutflow.commands.show import add_view_words, view_words
+from tlutflow.commands.show import add_view_words, view_of
 from tlutflow.commands.verilog import add_source_words
 from tlutflow.faults import Fault
 from tlutflow.netlist import read_library
@@ -63,7 +63,7 @@ def check(given: argparse.Namespace) -> None:
     elif len(given.files) != 2 or given.param or given.top:
         raise Fault("a netlist is followed by its parameter list, NETLIST PARAMS, and takes neither --top nor --param; Verilog files end in .v or .sv")
     check_limits(given)
-    if view_words(given) and not given.script:
+    if view_of(given).words and not given.script:
         raise Fault("--signed, --hex and --states show the run of a --script")
 
 

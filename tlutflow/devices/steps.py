@@ -4,25 +4,22 @@ from __future__ import annotations
 
 import argparse
 import os
-from typing import Any, Callable, Optional
+from typing import Any, Optional
 
 from tlutflow import tools
-from tlutflow.commands.hdl import way_words
 from tlutflow.commands.verilog import sources_of
+from tlutflow.circuit import read_circuit
 from tlutflow.devices.cells import Cells
 from tlutflow.devices.count import best_of, compared_text, count_of_circuit, count_of_registers, counts, is_measurable, source_of_netlist, source_of_verilog
 from tlutflow.devices.families import FAMILIES, costs_text, told
-from tlutflow.faults import Fault, Undecided
+from tlutflow.faults import Undecided
 from tlutflow.parameters import read_parameters
-from tlutflow.plain_names import PlainNames, work_folder
+from tlutflow.plain_names import PlainNames, temporary_folder, work_folder
 from tlutflow.preparing.trials import RULE_NAMES
+from tlutflow.stages.hardware import module_of, read_recording, simulated, write_module
 from tlutflow.steps import Steps
 from tlutflow.verilog.hdl import Way
 from tlutflow.verilog.names import UnwritableName
-
-# Runs another subcommand with a text on its standard input, within some seconds: its status and its outputs.
-Flow = Callable[[list[str], str, Optional[float]], tuple[int, str, str]]
-
 
 # What stands for the comparison if the source can't be counted.
 NO_SOURCE = "the source has names that Verilog can't hold, so Yosys counts nothing of it"
@@ -55,7 +52,7 @@ class DeviceSteps:
         """What was chosen, and what Yosys counts of the circuit and of its source with its parameters in registers. `source` is the netlist,
         or the file of the ports of a design in Verilog."""
         given, family, found = self.given, self.family, self.found
-        what = f"K {given.k}, {RULE_NAMES[rule]}, {' '.join(way_words(way))} ({found['costs']})"
+        what = f"K {given.k}, {RULE_NAMES[rule]}, {' '.join(way.words)} ({found['costs']})"
         found["told"] = told(family, what)
         if not is_measurable(source):
             return found
@@ -80,22 +77,24 @@ class DeviceSteps:
                 except UnwritableName:
                     return []
 
-    def played(self, flow: Flow, script: str, output: str, way: Way) -> list[list[str]]:
+    def played(self, script: str, output: str, way: Way) -> list[list[str]]:
         """Whether the synthesised netlist plays the run of a script, as tlut reads it."""
         made = f"{self.base}_device.v"
         if not (os.path.exists(made) and self.family.models and tools.find(tools.ICARUS) and "rows" in self.found):
             return []
         given, what = self.given, "the netlist that Yosys synthesised for the device plays the script as the run did"
-        words = ["hdl", f"{self.base}_t.blif", f"{self.base}.ppc", *way_words(way), "--module", os.path.basename(self.module)]
-        words += ["--script", script, "--simulate", "--netlist", made, "--netlist", tools.yosys_file(self.family.models)]
+        netlists = [made, tools.yosys_file(self.family.models)]
+        words = ["hdl", f"{self.base}_t.blif", f"{self.base}.ppc", *way.words, "--module", os.path.basename(self.module)]
+        words += ["--script", script, "--simulate", *(word for it in netlists for word in ("--netlist", it))]
 
         def work() -> list[str]:
-            try:
-                status, shown, fault = flow(words, output, given.seconds)
-            except Undecided as stopped:
-                return [what, "Icarus Verilog", str(stopped), "open"]
-            if status:
-                raise Fault(fault.split(": ", 1)[-1])
-            return [what, "Icarus Verilog", shown.strip(), "ok"]
+            module = module_of(read_circuit(f"{self.base}_t.blif", f"{self.base}.ppc"), way, os.path.basename(self.module))
+            recording = read_recording(script, module.circuit.inputs, output, "the run's output")
+            with temporary_folder() as folder:
+                write_module(module, folder, recording)
+                try:
+                    return [what, "Icarus Verilog", simulated(module, folder, recording, netlists, given.seconds), "ok"]
+                except Undecided as stopped:
+                    return [what, "Icarus Verilog", str(stopped), "open"]
 
         return [self.steps.make("netlist of the device", [words, output, given.seconds], [made, script], [], work)]
