@@ -1,8 +1,9 @@
 """What a designer needs around the mapper `tlut`; the executable `flow` runs it.
 
-`commands/` has a module for each subcommand. What is beside it is what they share: `verilog/`, `runs/`, `preparing/`, `reports/` and
-`devices/`, and modules for the readers of netlists and packs, the mapped circuit, the host, and the other programs that are called. Nothing
-but the standard library is imported. `api` is the interface for other Python programs, whose names can be imported from the package.
+`commands/` has a module for each subcommand. What is beside it is what they share: `stages/`, the work of subcommands that a build does
+too, `verilog/`, `runs/`, `preparing/`, `reports/` and `devices/`, and modules for the readers of netlists and packs, the mapped circuit,
+the host, and the other programs that are called. Nothing but the standard library is imported. `api` is the interface for other Python
+programs, whose names can be imported from the package.
 """
 
 from __future__ import annotations

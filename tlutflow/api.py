@@ -30,6 +30,7 @@ from tlutflow.preparing.trials import RULES, Found, keep
 from tlutflow.preparing.trials import prepare as try_preparations
 from tlutflow.refusals import refusal_of
 from tlutflow.reports.statistics import Statistics, statistics
+from tlutflow.stages.preparing import task_of
 from tlutflow.values import given_of
 
 __all__ = ["Fault", "Library", "Mapping", "Pack", "build", "prepare", "read_netlist", "read_pack"]
@@ -74,11 +75,11 @@ class Mapping:
 def prepare(netlist: str, parameters: str, k: int, aim: str = "depth", out: Optional[str] = None, program: Optional[str] = None, **options: Any) -> Found:
     """Tries preparations as `flow prepare` does, and writes the best netlist to `out`. Further options are those of `build`: only, further,
     seconds, jobs, rounds; and `beside`. The files of the results are gone when it returns."""
-    from tlutflow.commands.prepare import task_of
+    from tlutflow.commands.prepare import options_of
 
     given = arguments("prepare", {**options, "netlist": netlist, "params": parameters, "k": k, "aim": aim, "tlut": program})
     with temporary_folder() as folder:
-        found = try_preparations(replace(task_of(given, netlist, parameters), beside=given.beside), folder)
+        found = try_preparations(replace(task_of(options_of(given), netlist, parameters), beside=given.beside), folder)
         if out:
             keep(found.best, out)
     return found

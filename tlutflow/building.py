@@ -5,13 +5,12 @@ A step that has nothing new to read is left as it is. What follows from the mapp
 
 from __future__ import annotations
 
-import argparse
 import os
 import shlex
-import sys
 from concurrent.futures import ThreadPoolExecutor
 from dataclasses import replace
-from typing import Any, Callable, Optional
+from functools import partial
+from typing import Any, Callable
 
 from tlutflow import tools
 from tlutflow.abc_form import abc_text
@@ -20,15 +19,12 @@ from tlutflow.built import Built, told_of
 from tlutflow.bus import Bus
 from tlutflow.buses import buses_of
 from tlutflow.changes import changes_of, rewritten
-from tlutflow.commands import prepare as prepare_words
-from tlutflow.commands import verilog
-from tlutflow.commands.check import Pair, compare
-from tlutflow.commands.hdl import way_of, way_words
-from tlutflow.commands.show import view_words
+from tlutflow.circuit import Circuit, read_circuit
 from tlutflow.devices.steps import DeviceSteps
 from tlutflow.faults import Fault, Undecided
 from tlutflow.mappings import Sizes, sizes_by_abc, sizes_by_tlut
 from tlutflow.netlist import read_library
+from tlutflow.options import BuildOptions
 from tlutflow.parameters import parameter_list, read_parameters
 from tlutflow.plain_names import temporary_folder, work_folder
 from tlutflow.port_file import END, file_name, find_ports, keep_ports
@@ -36,31 +32,37 @@ from tlutflow.preparing.comparison import BY_PARTS, WHOLE
 from tlutflow.preparing.trials import AIMS, RULE_NAMES, RULES, keep, prepare
 from tlutflow.refusals import refusal_of
 from tlutflow.runs.script_writer import bit_script
+from tlutflow.stages.elaboration import make, sources_of, summary
+from tlutflow.stages.equality import Pair, compare
+from tlutflow.stages.hardware import Module, module_of, read_recording, simulated, write_module
+from tlutflow.stages.picture import draw
+from tlutflow.stages.preparing import progress, task_of
+from tlutflow.stages.runs import Run, Viewer, read_run
 from tlutflow.steps import Steps
 from tlutflow.text import logical_lines, read_text, write_text
 from tlutflow.verilog.hdl import Way
 from tlutflow.verilog.names import module_name
 
-RUN = "import sys; from tlutflow.main import main; sys.exit(main(sys.argv[1:]))"
 # A static picture of more LUTs is of no use; the page has one that can be moved.
 DRAWN = 300
 
 
 class Build:
-    """A build: its arguments, its folder, and the names of its files."""
+    """A build: its options, its folder, the names of its files, and what is chosen on the way: K, the rule, the script and the port."""
 
-    def __init__(self, given: argparse.Namespace):
-        self.given, self.folder, self.script = given, given.out, given.script
-        self.is_verilog = given.files[0].endswith((".v", ".sv", ".vh"))
-        self.name = file_name(verilog.sources_of(given).top) if self.is_verilog else os.path.splitext(os.path.basename(given.files[0]))[0]
+    def __init__(self, options: BuildOptions):
+        self.options, self.design, self.how = options, options.design, options.preparing
+        self.folder, self.script, self.k, self.way = options.folder, options.script, self.how.k, options.way
+        self.is_verilog = self.design.is_verilog
+        self.name = file_name(sources_of(self.design).top) if self.is_verilog else os.path.splitext(os.path.basename(self.design.files[0]))[0]
         self.module = f"{self.folder}/{module_name(None, self.name)}"
         make_folder(self.folder)
-        self.steps = Steps(self.folder, given.prog, given.again)
-        self.program = tools.tlut(given.tlut)
+        self.steps = Steps(self.folder, self.how.prog, options.again)
+        self.program = tools.tlut(self.how.program)
         self.binary = program_file(self.program)
-        self.device = DeviceSteps(given, self.steps, self.program, self.binary, self.path(""), self.module) if given.device else None
-        self.way = way_of(given)
-        self.built = Built(self.name, given.k, aim=given.aim, versions=tools.versions(self.program))
+        family = self.how.family
+        self.device = DeviceSteps(options, self.steps, family, self.program, self.binary, self.path(""), self.module) if family else None
+        self.built = Built(self.name, self.k, aim=self.how.aim, versions=tools.versions(self.program))
 
     def path(self, end: str) -> str:
         """A file of the folder."""
@@ -71,16 +73,16 @@ class Build:
         refuse_links([path for path, _ in self.listed()])
         self.netlist()
         if self.device is not None:
-            self.built.rule = self.device.choose(self.built.preparation.get("best"))
-        self.built.k = self.given.k
-        if self.given.script:
-            self.script = bit_script(self.given.script, self.path(".blif"), self.path(".par"), self.path("_run.scr"))
+            self.k, self.built.rule = self.device.choose(self.built.preparation.get("best"))
+        self.built.k = self.k
+        if self.options.script:
+            self.script = bit_script(self.options.script, self.path(".blif"), self.path(".par"), self.path("_run.scr"))
             self.way = self.way_of_script(self.script)
         self.sizes()
         self.map()
         self.built.commands += self.specialised()
         parts = [self.certificate, self.verilog, self.picture, self.changes, self.prepared, self.compared_mapping, self.compared_values]
-        with ThreadPoolExecutor(self.given.jobs or os.cpu_count() or 1) as pool:
+        with ThreadPoolExecutor(self.how.jobs or os.cpu_count() or 1) as pool:
             # The comparisons, which take longest, begin first.
             begun = {part: pool.submit(part) for part in reversed(parts)}
             told = [begun[part].result() for part in parts]
@@ -114,41 +116,42 @@ class Build:
 
     def netlist(self) -> None:
         """The netlist and its list of parameters."""
-        given = self.given
-        reads = [*given.files, *given.cells, self.binary]
-        sources = [given.set, given.define, given.include, given.reader, given.by_modules]
-        chosen = [*sources, given.k, given.aim, given.device, given.ks, given.rule, given.quick, given.abc, given.seconds, given.rounds, given.only, given.further]
-        words = [self.name, given.param, *chosen, {it: self.built.versions.get(it, "") for it in ("Yosys", "ABC", "tlut")}]
+        design, how = self.design, self.how
+        reads = [*design.files, *design.cells, self.binary]
+        sources = [design.settings, design.defines, design.includes, design.reader, design.by_modules]
+        chosen = [*sources, how.k, how.aim, how.device, how.ks, how.rule, how.quick, how.abc, how.seconds, how.rounds, how.only, how.further]
+        words = [self.name, design.parameters, *chosen, {it: self.built.versions.get(it, "") for it in ("Yosys", "ABC", "tlut")}]
         work = self.from_verilog if self.is_verilog else self.from_netlist
         self.built.preparation = self.steps.make("netlist", words, reads, [self.path(".blif"), self.path(".par"), *([self.path(END)] if self.is_verilog else [])], work)
         self.built.commands.append(self.call_shown())
 
     def call_shown(self) -> str:
         """The command line that creates only the netlist."""
-        given = self.given
-        words = [*given.files]
-        words += ["--top", given.top, *(word for it in given.param for word in ("--param", it))] if self.is_verilog else []
-        options = {"--set": given.set, "-D": given.define, "-I": given.include, "--cells": given.cells, "--reader": [given.reader] if given.reader != "verilog" else []}
+        design, how = self.design, self.how
+        words = [*design.files]
+        words += ["--top", design.top, *(word for it in design.parameters for word in ("--param", it))] if self.is_verilog else []
+        reader = (design.reader,) if design.reader != "verilog" else ()
+        options = {"--set": design.settings, "-D": design.defines, "-I": design.includes, "--cells": design.cells, "--reader": reader}
         words += [word for option, values in options.items() for value in values for word in (option, value)]
-        words += ["--by-modules"] if given.by_modules and self.is_verilog else []
-        words += ["--quick"] if given.quick else ["--abc", given.abc] if given.abc else self.choice_shown()
-        where = ["--out", given.out] if self.is_verilog else ["--out", self.path(".blif")]
-        if not self.is_verilog and (given.quick or given.abc):
-            return shlex.join(["cp", given.files[0], self.path(".blif")])
+        words += ["--by-modules"] if design.by_modules and self.is_verilog else []
+        words += ["--quick"] if how.quick else ["--abc", how.abc] if how.abc else self.choice_shown()
+        where = ["--out", self.folder] if self.is_verilog else ["--out", self.path(".blif")]
+        if not self.is_verilog and (how.quick or how.abc):
+            return shlex.join(["cp", design.files[0], self.path(".blif")])
         return shlex.join(["flow", "verilog" if self.is_verilog else "prepare", *words, *where])
 
     def choice_shown(self) -> list[str]:
         """The arguments that choose among preparations."""
-        given = self.given
-        chosen = ["--device", given.device] if given.device else []
-        chosen += [] if given.ks else ["--k", str(given.k)]
-        words = [*chosen, "--for", given.aim, *(["--rule", given.rule] if given.rule else []), *(["--rounds", str(given.rounds)] if given.rounds > 1 else [])]
-        return words + [word for option, values in (("--try", given.further), ("--only", given.only)) for value in values for word in (option, value)]
+        how = self.how
+        chosen = ["--device", how.device] if how.device else []
+        chosen += [] if how.ks else ["--k", str(how.k)]
+        words = [*chosen, "--for", how.aim, *(["--rule", how.rule] if how.rule else []), *(["--rounds", str(how.rounds)] if how.rounds > 1 else [])]
+        return words + [word for option, values in (("--try", how.further), ("--only", how.only)) for value in values for word in (option, value)]
 
     def from_verilog(self) -> dict[str, Any]:
         """The netlist of a design in Verilog."""
         with work_folder() as room:
-            made = verilog.make(self.given, room, beside=True)
+            made = make(self.design, self.how, room, beside=True)
             copy(f"{room}/netlist.blif", self.path(".blif"))
             write_text(self.path(".par"), parameter_list(made.parameters))
             write_text(self.path(END), made.ports_text)
@@ -156,27 +159,26 @@ class Build:
 
     def from_netlist(self) -> dict[str, Any]:
         """A netlist that was given, prepared unless that was refused."""
-        given = self.given
-        netlist, params = given.files
-        if given.abc:
+        netlist, params = self.design.files
+        if self.how.abc:
             raise Fault("--abc is for designs in Verilog; --try NAME=COMMANDS --only NAME prepares a netlist in one way")
         found = None
         with temporary_folder() as room:
-            if given.quick:
+            if self.how.quick:
                 copy(netlist, self.path(".blif"))
             else:
-                task = prepare_words.task_of(given, netlist, params)
-                found = prepare(replace(task, beside=True), room, prepare_words.progress(given.prog))
+                task = task_of(self.how, netlist, params)
+                found = prepare(replace(task, beside=True), room, progress(self.how.prog))
                 keep(found.best, self.path(".blif"))
         write_text(self.path(".par"), parameter_list(read_parameters(params)))
         keep_ports(netlist, self.path(".blif"))
         library = read_library(self.path(".blif"))
         ports = find_ports([self.path(".blif")], library.main.name)
-        return told_of(found, verilog.summary(library, read_parameters(params), ports))
+        return told_of(found, summary(library, read_parameters(params), ports))
 
     def sizes(self) -> None:
         """The sizes by both rules and by ABC at some K, and the rule that is taken."""
-        ks = sorted({self.given.k, 4, 6, *self.given.ks})
+        ks = sorted({self.k, 4, 6, *self.how.ks})
         words = [ks, self.built.versions.get("ABC", "")]
         made = self.steps.make("sizes", words, [self.path(".blif"), self.path(".par"), self.binary], [], lambda: self.measured(ks))
         self.built.sizes = made
@@ -184,11 +186,11 @@ class Build:
         if best or self.built.rule:
             self.built.rule = best["rule"] if best else self.built.rule
             return
-        at = {rule: made[str(self.given.k)][rule] for rule in RULES if self.given.rule in (None, rule)}
-        order = [{"tables": 0, "depth": 1, "bits": 2, "changed": 2, "sites": 0}[name] for name in AIMS[self.given.aim]]
+        at = {rule: made[str(self.k)][rule] for rule in RULES if self.how.rule in (None, rule)}
+        order = [{"tables": 0, "depth": 1, "bits": 2, "changed": 2, "sites": 0}[name] for name in AIMS[self.how.aim]]
         fits = {rule: cells for rule, cells in at.items() if cells[1]}
         if not fits:
-            raise Fault(f"tlut refuses the netlist at K {self.given.k}, which exceeds a limit ({next(iter(at.values()))[0]})")
+            raise Fault(f"tlut refuses the netlist at K {self.k}, which exceeds a limit ({next(iter(at.values()))[0]})")
         self.built.rule = min(fits, key=lambda rule: [int(fits[rule][place]) for place in order])
 
     def measured(self, ks: list[int]) -> dict[str, dict[str, list[str]]]:
@@ -203,7 +205,7 @@ class Build:
                 "inputs": lambda k, at: sizes_by_tlut(self.program, k, self.path(".blif"), f"{room}/none.par", at, "--compact"),
             }
             for words in ("if", "if -a") if abc else ():
-                calls[words] = by_abc(str(abc), f"{room}/source.blif", words, self.given.seconds)
+                calls[words] = by_abc(str(abc), f"{room}/source.blif", words, self.how.seconds)
             jobs = [(k, name) for k in ks for name in calls]
 
             def one(job: tuple[int, str]) -> list[str]:
@@ -211,7 +213,7 @@ class Build:
                 os.makedirs(at)
                 return calls[job[1]](job[0], at).cells()
 
-            with ThreadPoolExecutor(self.given.jobs or os.cpu_count() or 1) as pool:
+            with ThreadPoolExecutor(self.how.jobs or os.cpu_count() or 1) as pool:
                 found = dict(zip(jobs, pool.map(one, jobs)))
         return {str(k): {name: found[k, name] for name in calls} for k in ks}
 
@@ -233,59 +235,54 @@ class Build:
 
     def map(self) -> None:
         """The template and the pack."""
-        words = ["map", str(self.given.k), self.path(".blif"), self.path(".par"), self.path("_t.blif"), self.path(".ppc")]
+        words = ["map", str(self.k), self.path(".blif"), self.path(".par"), self.path("_t.blif"), self.path(".ppc")]
         self.tlut("map", words, [self.path(".blif"), self.path(".par")], [self.path("_t.blif"), self.path(".ppc")])
         self.built.commands.append(self.shown(words))
 
     def specialised(self) -> list[str]:
         """The netlist for the initial values; returns the call."""
-        words = ["spec", str(self.given.k), self.path(".blif"), self.path(".par"), self.path("_spec.blif")]
+        words = ["spec", str(self.k), self.path(".blif"), self.path(".par"), self.path("_spec.blif")]
         self.tlut("spec", words, [self.path(".blif"), self.path(".par")], [self.path("_spec.blif")])
         return [self.shown(words)]
 
     def certificate(self) -> tuple[list[list[str]], list[str]]:
         """The certificate of the depth, and its audit."""
-        files = [str(self.given.k), self.path(".blif"), self.path(".par"), self.path(".cert")]
+        files = [str(self.k), self.path(".blif"), self.path(".par"), self.path(".cert")]
         self.tlut("prove", ["prove", *files], [self.path(".blif"), self.path(".par")], [self.path(".cert")])
         said = self.tlut("audit", ["audit", *files], files[1:], []).strip()
         check = ["no cover of the netlist's graph has less depth", f"{RULE_NAMES[self.built.rule]} audit, from the certificate", said, "ok"]
         return [check], [self.shown(["prove", *files]), self.shown(["audit", *files])]
 
-    def flow(self, words: list[str], given: str = "", seconds: Optional[float] = None) -> tuple[int, str, str]:
-        """Runs another subcommand, and returns its status, its output, and its last line on standard error."""
-        ran = tools.run([sys.executable, "-c", RUN, *words], None, seconds, given, {**os.environ, "PYTHONPATH": tools.TOP})
-        return ran.returncode, ran.stdout, ran.stderr.strip().rpartition("\n")[2]
-
     def verilog(self) -> tuple[list[list[str]], list[str]]:
         """The circuit in Verilog, and what a device counts of it."""
         checks, commands = self.hardware()
         if self.device is not None:
-            source = self.path(END) if self.is_verilog else self.given.files[0]
-            self.built.device = self.device.count(source, self.is_verilog, self.built.rule, self.way)
+            source = self.path(END) if self.is_verilog else self.design.files[0]
+            self.built.device = self.device.count(source, self.k, self.built.rule, self.way)
             if self.script:
-                checks += self.device.played(self.flow, self.script, read_text(self.path("_run.txt")), self.way)
+                checks += self.device.played(self.script, read_text(self.path("_run.txt")), self.way)
         return checks, commands
 
     def hardware(self) -> tuple[list[list[str]], list[str]]:
         """The run of the script, and the circuit in Verilog, which also plays it if Icarus Verilog is installed."""
         files, script, module = [self.path("_t.blif"), self.path(".ppc")], self.script, self.module
-        words = ["hdl", *files, *way_words(self.way), "--module", os.path.basename(module), "--out", self.folder]
+        words = ["hdl", *files, *self.way.words, "--module", os.path.basename(module), "--out", self.folder]
         if not script:
-            self.steps.make("verilog", words, files, [f"{module}.v", f"{module}_bench.v"], lambda: self.must(words))
+            self.steps.make("verilog", words, files, [f"{module}.v", f"{module}_bench.v"], lambda: write_module(self.hdl(), self.folder, None))
             return [], [shlex.join(["flow", *words])]
-        run = ["run", str(self.given.k), self.path(".blif"), self.path(".par"), script, "0", "0"]
+        run = ["run", str(self.k), self.path(".blif"), self.path(".par"), script, "0", "0"]
         printed = self.tlut("run", run, [self.path(".blif"), self.path(".par"), script], [])
         write_text(self.path("_run.txt"), printed)
         ports = [self.path(".blif"), self.path(".par")]
-        show = ["show", *ports, *view_words(self.given)]
-        self.built.shown = self.steps.make("values", [show, printed], ports, [], lambda: self.must(show, printed))
+        show = ["show", *ports, *self.options.view.words]
+        self.built.shown = self.steps.make("values", [show, printed], ports, [], partial(self.values, script, printed))
         words += ["--script", script, *(["--simulate"] if tools.find(tools.ICARUS) else [])]
         writes = [f"{module}.v", f"{module}_bench.v", f"{module}.events"]
-        check = self.steps.make("verilog", [words, printed, self.given.seconds], [*files, script], writes, lambda: self.simulated(words, printed))
+        check = self.steps.make("verilog", [words, printed, self.how.seconds], [*files, script], writes, partial(self.simulated, script, printed))
         wave = ["wave", *ports, script]
-        self.steps.make("waveform", [printed], [*ports, script], [self.path(".vcd")], lambda: write_text(self.path(".vcd"), self.must(wave, printed)))
-        text, dump = shlex.quote(self.path("_run.txt")), shlex.quote(self.path(".vcd"))
-        made = [] if script == self.given.script else [f"{shlex.join(['flow', 'script', *ports])} < {shlex.quote(self.given.script)} > {shlex.quote(script)}"]
+        self.steps.make("waveform", [printed], [*ports, script], [self.path(".vcd")], partial(self.waveform, script, printed))
+        given, text, dump = self.options.script or script, shlex.quote(self.path("_run.txt")), shlex.quote(self.path(".vcd"))
+        made = [] if script == given else [f"{shlex.join(['flow', 'script', *ports])} < {shlex.quote(given)} > {shlex.quote(script)}"]
         shown = [*made, f"{self.shown(run)} > {text}", f"{shlex.join(['flow', *words])} < {text}"]
         return [check], [*shown, f"{shlex.join(['flow', *wave])} < {text} > {dump}"]
 
@@ -293,39 +290,53 @@ class Build:
         """How bits are changed in a run: an upset may be of any bit, so each one is writable then."""
         if self.way.bits == "all" or not any(line.tokens[0] == "upset" for line in logical_lines(read_text(script))):
             return self.way
-        if self.given.bits:
-            self.steps.say(f"--bits {self.given.bits} becomes --bits all, since the script has upsets, which may be of any bit")
+        if self.options.bits:
+            self.steps.say(f"--bits {self.options.bits} becomes --bits all, since the script has upsets, which may be of any bit")
         return replace(self.way, bits="all")
 
-    def simulated(self, words: list[str], printed: str) -> list[str]:
+    def circuit(self) -> Circuit:
+        """The mapped circuit."""
+        return read_circuit(self.path("_t.blif"), self.path(".ppc"))
+
+    def hdl(self) -> Module:
+        """The mapped circuit in Verilog."""
+        return module_of(self.circuit(), self.way, os.path.basename(self.module))
+
+    def run_of(self, script: str, printed: str) -> Run:
+        """The run of a script that printed this."""
+        return read_run(self.path(".blif"), self.path(".par"), script, printed, self.path("_run.txt"))
+
+    def values(self, script: str, printed: str) -> str:
+        """The lines of the run with buses as numbers."""
+        played = self.run_of(script, printed)
+        return "".join(f"{line}\n" for line in Viewer(played.interface, self.options.view).lines(played.output))
+
+    def waveform(self, script: str, printed: str) -> None:
+        """Writes the run as a waveform."""
+        played = self.run_of(script, printed)
+        played.check_end()
+        write_text(self.path(".vcd"), played.waveform())
+
+    def simulated(self, script: str, printed: str) -> list[str]:
         """Creates the Verilog, and says what the simulation showed."""
         what, by = "the Verilog plays the script as the run did", "Icarus Verilog"
-        if "--simulate" not in words:
-            self.must(words, printed)
+        module = self.hdl()
+        recording = read_recording(script, module.circuit.inputs, printed, self.path("_run.txt"))
+        write_module(module, self.folder, recording)
+        if tools.find(tools.ICARUS) is None:
             return [what, by, "Icarus Verilog isn't there", "missing"]
         try:
-            status, told, fault = self.flow(words, printed, self.given.seconds)
+            return [what, by, simulated(module, self.folder, recording, [], self.how.seconds), "ok"]
         except Undecided as stopped:
-            self.must([it for it in words if it != "--simulate"], printed)
             return [what, by, str(stopped), "open"]
-        if status:
-            raise Fault(fault.split(": ", 1)[-1])
-        return [what, by, told.strip(), "ok"]
-
-    def must(self, words: list[str], given: str = "") -> str:
-        """What another subcommand prints, which is to end well."""
-        status, told, fault = self.flow(words, given)
-        if status:
-            raise Fault(fault.split(": ", 1)[-1])
-        return told
 
     def picture(self) -> tuple[list[list[str]], list[str]]:
         """The drawing, and a picture of it if Graphviz is installed and the circuit isn't too large."""
         files = [self.path("_t.blif"), self.path(".ppc")]
-        tables = int(self.built.sizes[str(self.given.k)][self.built.rule][0])
+        tables = int(self.built.sizes[str(self.k)][self.built.rule][0])
         end = ".svg" if tools.find(tools.DOT) and tables <= DRAWN else ".dot"
         words = ["draw", *files, *(["--all"] if tables > DRAWN else []), "--out", self.path(end)]
-        self.steps.make("picture", [words, self.built.versions.get("Graphviz", "")], files, [self.path(end)], lambda: self.must(words))
+        self.steps.make("picture", [words, self.built.versions.get("Graphviz", "")], files, [self.path(end)], lambda: draw(self.circuit(), self.path(end)))
         return [], [shlex.join(["flow", *words])]
 
     def changes(self) -> tuple[list[list[str]], list[str]]:
@@ -353,7 +364,7 @@ class Build:
 
     def comparison(self, name: str, what: str, pair: Pair) -> tuple[list[list[str]], list[str]]:
         """A comparison by ABC, as a step."""
-        check = self.steps.make(name, [pair.words, self.given.seconds, self.built.versions.get("ABC", "")], pair.files, [], lambda: self.compared(what, pair))
+        check = self.steps.make(name, [pair.words, self.how.seconds, self.built.versions.get("ABC", "")], pair.files, [], lambda: self.compared(what, pair))
         return [check], [shlex.join(["flow", *pair.words])]
 
     def prepared(self) -> tuple[list[list[str]], list[str]]:
@@ -375,7 +386,7 @@ class Build:
         if tools.find(tools.ABC) is None:
             return [what, "ABC", "ABC isn't there", "missing"]
         try:
-            return [what, "ABC", compare(pair, self.given.seconds), "ok"]
+            return [what, "ABC", compare(pair, self.how.seconds), "ok"]
         except Undecided as why:
             return [what, "ABC", str(why), "open"]
 

@@ -9,12 +9,13 @@ from tlutflow.build_files import refuse_foreign_page, refuse_links
 from tlutflow.building import Build
 from tlutflow.built import Built
 from tlutflow.circuit import Circuit, read_circuit
-from tlutflow.commands.hdl import add_device_words
-from tlutflow.commands.prepare import add_shared_words, check_limits, settle
-from tlutflow.commands.show import add_view_words, view_words
-from tlutflow.commands.verilog import add_source_words
+from tlutflow.commands.hdl import add_device_words, way_of
+from tlutflow.commands.prepare import add_shared_words, options_of
+from tlutflow.commands.show import add_view_words, view_of
+from tlutflow.commands.verilog import add_source_words, design_of
 from tlutflow.faults import Fault
 from tlutflow.netlist import read_library
+from tlutflow.options import BuildOptions
 from tlutflow.reports.circuit_view import with_names
 from tlutflow.reports.report_page import page
 from tlutflow.steps import RECORD
@@ -62,8 +63,7 @@ def check(given: argparse.Namespace) -> None:
             raise Fault("--top names the module of a design in Verilog")
     elif len(given.files) != 2 or given.param or given.top:
         raise Fault("a netlist is followed by its parameter list, NETLIST PARAMS, and takes neither --top nor --param; Verilog files end in .v or .sv")
-    check_limits(given)
-    if view_words(given) and not given.script:
+    if view_of(given).words and not given.script:
         raise Fault("--signed, --hex and --states show the run of a --script")
 
 
@@ -76,14 +76,19 @@ class Made:
     report: str
 
 
+def build_options(given: argparse.Namespace) -> BuildOptions:
+    """What these arguments choose."""
+    check(given)
+    return BuildOptions(design_of(given), given.out, options_of(given), way_of(given), given.bits, given.script, view_of(given), given.again)
+
+
 def make(given: argparse.Namespace) -> Made:
     """Builds a design, and writes the page."""
-    check(given)
-    settle(given)
+    options = build_options(given)
     report = f"{given.out}/index.html"
     refuse_links([report, f"{given.out}/{RECORD}"])
     refuse_foreign_page(report)
-    build = Build(given)
+    build = Build(options)
     built = build.all()
     circuit = with_names(read_circuit(build.path("_t.blif"), build.path(".ppc")), read_library(build.path(".blif")))
     write_text(report, page(built, circuit))
@@ -95,7 +100,7 @@ def run(given: argparse.Namespace) -> int:
     built, circuit = made.built, made.circuit
     best = built.preparation.get("best")
     prepared = f", preparation {best['name']}" if best else ""
-    print(f"{built.name}: {count(len(circuit.luts), 'LUT')}, depth {circuit.depth}, {count(len(circuit.pack.bits), 'bit')} at K {given.k}{prepared}")
+    print(f"{built.name}: {count(len(circuit.luts), 'LUT')}, depth {circuit.depth}, {count(len(circuit.pack.bits), 'bit')} at K {built.k}{prepared}")
     for part in ("told", "text"):
         if part in built.device:
             print(built.device[part])

@@ -9,9 +9,8 @@ import shlex
 import sys
 
 from tlutflow import tools
-from tlutflow.build_files import copy, refuse_links
+from tlutflow.build_files import copy, make_folder, refuse_links
 from tlutflow.circuit import is_template
-from tlutflow.commands.hdl import make_folder
 from tlutflow.device import PART, PLACERS, WIDEST, device_recipe
 from tlutflow.faults import Fault
 from tlutflow.netlist import read_library

@@ -3,14 +3,11 @@
 from __future__ import annotations
 
 import argparse
-import os
 
-from tlutflow import tools
 from tlutflow.circuit import Circuit, read_circuit
 from tlutflow.faults import Fault
-from tlutflow.plain_names import temporary_folder
 from tlutflow.reports.drawing import drawing
-from tlutflow.text import write_text
+from tlutflow.stages.picture import draw
 
 HELP = "a picture of a mapped circuit"
 DESCRIPTION = """Draws a mapped circuit from its inputs and latches on the left to its outputs on the right. LUTs whose bits read parameters are
@@ -20,7 +17,6 @@ EXAMPLE = """examples:
   flow draw fir_t.blif fir.ppc --out fir.svg
   flow draw fir_t.blif fir.ppc --cone y[3] --out y3.svg"""
 
-PICTURES = (".svg", ".png", ".pdf")
 # A drawing of more LUTs than this is hard to read, and slow to lay out.
 MANY = 300
 
@@ -49,27 +45,14 @@ def ends_of(circuit: Circuit, names: list[str]) -> list[str]:
     return ends
 
 
-def paint(text: str, path: str) -> None:
-    """Creates a picture from a drawing."""
-    dot = tools.need(tools.DOT, f"a picture {os.path.splitext(path)[1]}")
-    with temporary_folder() as folder:
-        write_text(f"{folder}/drawing.dot", text)
-        ran = tools.run([dot, f"-T{os.path.splitext(path)[1][1:]}", f"{folder}/drawing.dot", "-o", os.path.abspath(path)])
-    if ran.returncode:
-        raise Fault(f"Graphviz: {(ran.stderr.strip().splitlines() or ['it failed'])[0]}")
-
-
 def run(given: argparse.Namespace) -> int:
     circuit = read_circuit(given.template, given.pack)
     cone = circuit.cone(ends_of(circuit, given.cone)) if given.cone else None
     luts = len(circuit.luts) if cone is None else len(cone & set(circuit.lut_of))
     if luts > MANY and not given.all:
         raise Fault(f"{luts} LUTs are too many to read, so nothing was drawn: --cone NET draws the cone of one output, and --all draws all LUTs")
-    text = drawing(circuit, cone)
     if given.out is None:
-        print(text, end="")
-    elif given.out.endswith(PICTURES):
-        paint(text, given.out)
+        print(drawing(circuit, cone), end="")
     else:
-        write_text(given.out, text)
+        draw(circuit, given.out, cone)
     return 0

@@ -3,23 +3,18 @@
 from __future__ import annotations
 
 import argparse
-import os
 import sys
 
 from tlutflow import tools
-from tlutflow.build_files import refuse_links
-from tlutflow.circuit import Circuit, read_circuit
+from tlutflow.build_files import make_folder
+from tlutflow.circuit import read_circuit
 from tlutflow.devices.families import FAMILIES, told
 from tlutflow.faults import Fault
 from tlutflow.patience import patience
-from tlutflow.plain_names import PlainNames, temporary_folder, work_folder
-from tlutflow.runs.output import Output, parse_output
-from tlutflow.runs.script import read_script
-from tlutflow.runs.waveform import check_end
-from tlutflow.text import count, physical_lines, read_input, write_text
-from tlutflow.verilog.bench import bench_text, events_text
-from tlutflow.verilog.hdl import PORTS, TARGETS, Device, Way, device_of, module_text
-from tlutflow.verilog.names import Names, module_name, names_of
+from tlutflow.plain_names import temporary_folder
+from tlutflow.stages.hardware import Module, module_of, read_recording, simulated, write_module
+from tlutflow.text import read_input
+from tlutflow.verilog.hdl import PORTS, TARGETS, Way
 from tlutflow.verilog.store import KINDS
 
 HELP = "a mapped circuit in Verilog, with a port that changes its configuration"
@@ -78,17 +73,10 @@ def way_of(given: argparse.Namespace) -> Way:
     return Way(target, port, bits, given.regions, word if given.word is None else given.word, not given.no_pairs)
 
 
-def way_words(way: Way) -> list[str]:
-    """The arguments that choose it."""
-    words = ["--target", way.target, "--port", way.port, "--bits", way.bits]
-    words += ["--word", str(way.word)] if way.word > 1 else []
-    return words + (["--regions", str(way.regions)] if way.regions > 1 else []) + ([] if way.pairs else ["--no-pairs"])
-
-
 def tell_way(given: argparse.Namespace) -> None:
     """Says on standard error what a device chose."""
     if given.device:
-        words = " ".join(way_words(way_of(given)))
+        words = " ".join(way_of(given).words)
         print(f"{given.prog}: {told(FAMILIES[given.device], words)}", file=sys.stderr)
 
 
@@ -103,89 +91,14 @@ def add_words(parser: argparse.ArgumentParser) -> None:
     parser.add_argument("--netlist", metavar="FILE.v", action="append", default=[], help="with --simulate: play this netlist (repeat it, as for its cells)")
 
 
-def make_folder(path: str) -> None:
-    """Creates a folder unless it exists."""
-    try:
-        os.makedirs(path, exist_ok=True)
-    except OSError as error:
-        raise Fault(f"{path}: {error.strerror}") from None
-
-
-def device_and_names(given: argparse.Namespace, circuit: Circuit) -> tuple[Device, Names]:
-    """What the arguments choose for a circuit."""
-    names = names_of(circuit, module_name(given.module, circuit.name))
-    return device_of(circuit, names, way_of(given)), names
-
-
-def write_files(given: argparse.Namespace, circuit: Circuit, folder: str) -> tuple[str, Output]:
-    """Writes the files, and returns their names' beginning and the run's output."""
-    device, names = device_and_names(given, circuit)
-    base = f"{folder}/{names.module}"
-    events = None
-    output = Output(None, [])
-    if given.script:
-        output = parse_output(read_input(), "standard input")
-        script = read_script(given.script, circuit.inputs)
-        check_end(len(script), output)
-        events = events_text(device, script, output)
-    refuse_links([f"{base}.v", f"{base}_bench.v", f"{base}.events"])
-    write_text(f"{base}.v", module_text(circuit, names, device))
-    write_text(f"{base}_bench.v", bench_text(circuit, names, device) + device.model)
-    if events is not None:
-        write_text(f"{base}.events", events)
-    return base, output
-
-
-def simulate(base: str, netlist: list[str]) -> list[str]:
-    """The lines that the bench prints."""
-    compiler, player = tools.need(tools.ICARUS, "a simulation"), tools.need(tools.ICARUS_PLAYER, "a simulation")
-    with work_folder() as folder:
-        names, variables = PlainNames(f"{folder}/names"), {**os.environ, "TMPDIR": folder}
-        read = [names.path(it) for it in netlist or [f"{base}.v"]]
-        # Without the macro Yosys's cells of the iCE40 have values for ports that Icarus can't read. Those of the ECP5 include files beside them.
-        beside = [f"-I{os.path.dirname(path) or '.'}" for path in read]
-        files = ["-DNO_ICE40_DEFAULT_ASSIGNMENTS", *beside, *read] if netlist else ["-DINSIDE", *read]
-        made = f"{folder}/bench.vvp"
-        ran = tools.run([compiler, "-g2012" if netlist else "-g2005", "-o", made, *files, names.path(f"{base}_bench.v")], variables=variables)
-        if ran.returncode:
-            told = names.shown(ran.stderr).strip().splitlines()
-            raise Fault(f"Icarus Verilog: {next((line for line in told if 'error' in line), (told or ['it failed'])[0])}")
-        ran = tools.run([player, made, f"+events={names.path(f'{base}.events')}"], variables=variables)
-    if ran.returncode:
-        raise Fault(f"Icarus Verilog: {(ran.stderr.strip().splitlines() or ['it failed'])[0]}")
-    return [line for line in physical_lines(ran.stdout) if line]
-
-
-def compare(shown: list[str], output: Output) -> str:
-    """What a comparison of the simulation with the run reports if they agree."""
-    wanted = ([output.header.text] if output.header else shown[:1]) + [event.text for event in output.events]
-    for number, pair in enumerate(zip(shown, wanted), 1):
-        if pair[0] != pair[1]:
-            raise Fault(f"line {number} of the simulation is `{pair[0][:60]}`, and that of the run `{pair[1][:60]}`")
-    if len(shown) != len(wanted):
-        raise Fault(f"the simulation has {count(len(shown), 'line')}, and the run {len(wanted)}")
-    return f"{count(len(shown), 'line')} of the simulation, all as the run's"
-
-
-def compare_outputs(shown: list[str], output: Output) -> str:
-    """The same of a netlist, of which the outputs of cycles are seen."""
-    found = [line.split(" ")[1] for line in shown if line.startswith("cycle ")]
-    wanted = [event.text.split(" ")[1] for event in output.events if event.word == "cycle"]
-    for number, pair in enumerate(zip(found, wanted), 1):
-        if pair[0] != pair[1]:
-            raise Fault(f"cycle {number} of the netlist has the outputs {pair[0][:60]}, and that of the run {pair[1][:60]}")
-    if len(found) != len(wanted):
-        raise Fault(f"the simulation has {count(len(found), 'cycle')}, and the run {len(wanted)}")
-    return f"{count(len(found), 'cycle')} of the netlist, all outputs as the run's"
-
-
-def play(given: argparse.Namespace, circuit: Circuit, folder: str) -> None:
+def play(given: argparse.Namespace, module: Module, folder: str) -> None:
     """Writes the files, and runs the testbench if asked."""
-    base, output = write_files(given, circuit, folder)
-    if given.simulate:
+    recording = read_recording(given.script, module.circuit.inputs, read_input(), "standard input") if given.script else None
+    write_module(module, folder, recording)
+    if recording and given.simulate:
         with patience(given.prog, "Icarus Verilog"):
-            shown = simulate(base, given.netlist)
-        print(compare_outputs(shown, output) if given.netlist else compare(shown, output))
+            told = simulated(module, folder, recording, given.netlist)
+        print(told)
 
 
 def run(given: argparse.Namespace) -> int:
@@ -199,13 +112,12 @@ def run(given: argparse.Namespace) -> int:
     tell_way(given)
     if given.out:
         make_folder(given.out)
-        play(given, circuit, given.out)
+        play(given, module_of(circuit, way_of(given), given.module), given.out)
     elif given.simulate:
         with temporary_folder() as folder:
-            play(given, circuit, folder)
+            play(given, module_of(circuit, way_of(given), given.module), folder)
     elif given.script:
         raise Fault("--script needs --out, or --simulate")
     else:
-        device, names = device_and_names(given, circuit)
-        print(module_text(circuit, names, device), end="")
+        print(module_of(circuit, way_of(given), given.module).text, end="")
     return 0

@@ -4,20 +4,19 @@ from __future__ import annotations
 
 import argparse
 import os
-import sys
 from dataclasses import replace
-from typing import Optional
 
 from tlutflow.commands.hdl import add_family_word
 from tlutflow.devices.families import FAMILIES, Family, costs_text, told
 from tlutflow.faults import Fault
+from tlutflow.options import PrepareOptions
 from tlutflow.parameters import read_parameters
 from tlutflow.plain_names import temporary_folder
 from tlutflow.port_file import keep_ports
-from tlutflow.preparations import PREPARATIONS, SUM_PREPARATIONS, Preparation, chosen, further
 from tlutflow.preparing.parts import PART_SIZE
-from tlutflow.preparing.trials import AIMS, OLD_AIMS, RULE_NAMES, RULES, Found, Report, Result, Task, Trial, keep, prepare
+from tlutflow.preparing.trials import AIMS, OLD_AIMS, RULE_NAMES, RULES, Found, keep, prepare
 from tlutflow.reports.statistics import grid
+from tlutflow.stages.preparing import preparations_of, progress, sizes, task_of
 from tlutflow.text import count
 
 HELP = "the preparation of a netlist that measures best"
@@ -65,43 +64,24 @@ def add_shared_words(parser: argparse.ArgumentParser, k: int) -> None:
     parser.add_argument("--rounds", type=int, choices=(1, 2, 3), default=1, help="a further round starts from the two best of the round before (default: 1)")
     parser.add_argument("-j", dest="jobs", metavar="N", type=int, default=0, help="how many run at a time (default: one for each processor)")
     parser.add_argument("--tlut", metavar="PATH", help="the program (default: that of the variable TLUT, or the one next to this one)")
-    parser.set_defaults(usual_k=k, device=None, ks=())
+    parser.set_defaults(usual_k=k, device=None)
 
 
-def settle(given: argparse.Namespace) -> None:
-    """Fills in what no option chose: the aim and K, or with a device the values of K among which its count chooses."""
-    family = family_of(given)
+def goal_of(given: argparse.Namespace) -> tuple[int, tuple[int, ...], str]:
+    """K, the values of K among which the count of a device chooses, and the aim: what options chose, and the usual for the rest."""
+    family = FAMILIES[given.device] if given.device else None
     if given.aim == "sites" and family is None:
         raise Fault("--for sites needs --device, which says what is counted")
-    given.aim = given.aim or ("sites" if family else "depth")
-    given.ks = family.ks if family and given.k is None and not given.ks else given.ks
-    given.k = given.k or (max(given.ks) if given.ks else given.usual_k)
+    ks = family.ks if family and given.k is None else ()
+    return given.k or (max(ks) if ks else given.usual_k), ks, given.aim or ("sites" if family else "depth")
 
 
-def family_of(given: argparse.Namespace) -> Optional[Family]:
-    """The family of devices that was named."""
-    return FAMILIES[given.device] if given.device else None
-
-
-def progress(prog: str) -> Report:
-    """Says on standard error how many preparations are done, the best so far, what fails, and which parts stay as they were read."""
-
-    def report(done: int, many: int, trial: Trial, best: Optional[Result]) -> None:
-        if trial.failure:
-            print(f"{prog}: {trial.name} is left out: {trial.failure}", file=sys.stderr)
-        if trial.parts_left_out:
-            print(f"{prog}: {trial.name} leaves {trial.parts_left_out}", file=sys.stderr)
-        so_far = f"best so far: {sizes(best)} by {best.name}" if best else "none could be mapped so far"
-        print(f"{prog}: {done} of {many} preparations, {so_far}", file=sys.stderr, flush=True)
-
-    return report
-
-
-def sizes(result: Result) -> str:
-    """The sizes of a result in words."""
-    changed = "" if result.changed is None else f", {count(result.changed, 'bit')} a change"
-    sites = "" if result.sites is None else f"{count(result.sites, 'site')}, "
-    return f"{sites}depth {result.depth}, {count(result.tables, 'LUT')}, {count(result.bits, 'bit')}{changed}"
+def options_of(given: argparse.Namespace) -> PrepareOptions:
+    """What these arguments choose. `prepare` itself has no --quick and no --abc."""
+    k, ks, aim = goal_of(given)
+    quick, abc = getattr(given, "quick", False), getattr(given, "abc", None)
+    tried = (tuple(given.further), tuple(given.only), given.rounds)
+    return PrepareOptions(k, ks, aim, given.rule, given.device, quick, abc, *tried, given.seconds, given.jobs, given.tlut, given.prog)
 
 
 def table(found: Found) -> list[str]:
@@ -127,10 +107,9 @@ def least_costs(found: Found) -> dict[int, int]:
     return least
 
 
-def choice_text(given: argparse.Namespace, found: Found) -> str:
+def choice_text(family: Family, aim: str, found: Found) -> str:
     """What was chosen for a device, and why."""
-    family = FAMILIES[given.device]
-    what = f"K {found.best.k}, {RULE_NAMES[found.best.rule]}, preparation {found.best.name} for {given.aim} ({costs_text(family, least_costs(found))})"
+    what = f"K {found.best.k}, {RULE_NAMES[found.best.rule]}, preparation {found.best.name} for {aim} ({costs_text(family, least_costs(found))})"
     return told(family, what)
 
 
@@ -139,43 +118,23 @@ def default_file(netlist: str) -> str:
     return f"{os.path.splitext(os.path.basename(netlist))[0]}_prepared.blif"
 
 
-def check_limits(given: argparse.Namespace) -> None:
-    """Refuses limits that nothing could be done in."""
-    if given.seconds <= 0 or given.jobs < 0:
-        raise Fault("--seconds is more than 0, and -j at least 1")
-
-
-def task_of(given: argparse.Namespace, netlist: str, params: str) -> Task:
-    """The task that words name."""
-    check_limits(given)
-    preparations = preparations_of(given)
-    task = Task(netlist, params, given.k, given.aim, given.seconds, given.jobs, given.rounds, preparations=preparations, program=given.tlut)
-    return replace(task, rules=(given.rule,) if given.rule else tuple(RULES), family=family_of(given), ks=given.ks)
-
-
-def preparations_of(given: argparse.Namespace) -> list[Preparation]:
-    """The preparations that words name."""
-    known = [*PREPARATIONS, *SUM_PREPARATIONS]
-    return chosen(given.only, [*known, *further(given.further, known)])
-
-
 def run(given: argparse.Namespace) -> int:
     if given.list:
-        listed = preparations_of(given)
+        listed = preparations_of(given.only, given.further)
         width = max(len(it.name) for it in listed) + 2
         print("\n".join(f"{it.name:{width}}{it.shown}" for it in listed))
         return 0
-    settle(given)
-    task = task_of(given, given.netlist, given.params)
+    options = options_of(given)
+    task = task_of(options, given.netlist, given.params)
     named = count(len(read_parameters(given.params)), "parameter")
     out = given.out or default_file(given.netlist)
     with temporary_folder() as folder:
         found = prepare(replace(task, beside=given.beside), folder, progress(given.prog))
         keep(found.best, out)
     keep_ports(given.netlist, out)
-    print(f"{os.path.basename(given.netlist)}, {named}, K {' '.join(map(str, given.ks or [given.k]))}, for {given.aim}")
+    print(f"{os.path.basename(given.netlist)}, {named}, K {' '.join(map(str, options.ks or [options.k]))}, for {options.aim}")
     print("\n".join(table(found)))
-    if given.device:
-        print(choice_text(given, found))
+    if options.family:
+        print(choice_text(options.family, options.aim, found))
     print(f"{out}: {found.best.name}, {sizes(found.best)} with {RULE_NAMES[found.best.rule]}; equal to its source ({found.best_trial.compared})")
     return 0

@@ -5,12 +5,12 @@ from __future__ import annotations
 import argparse
 import sys
 
-from tlutflow.bus import Bus
 from tlutflow.faults import Fault
-from tlutflow.parameters import Interface, read_interface
-from tlutflow.runs.output import Played, parse_output
+from tlutflow.parameters import read_interface
+from tlutflow.runs.output import parse_output
 from tlutflow.runs.script import read_script
 from tlutflow.runs.waveform import check_end, pairs
+from tlutflow.stages.runs import View, Viewer
 from tlutflow.text import read_input
 
 HELP = "the lines of a run with buses as numbers"
@@ -37,56 +37,19 @@ def add_view_words(parser: argparse.ArgumentParser) -> None:
     parser.add_argument("--states", action="store_true", help="also show the flip-flops' states after each cycle of a run, after a |")
 
 
-def view_words(given: argparse.Namespace) -> list[str]:
-    """These arguments as they could be given."""
-    return [*(word for bus in given.signed for word in ("--signed", bus)), *(["--hex"] if given.hex else []), *(["--states"] if given.states else [])]
-
-
-class Viewer:
-    """Writes cycle lines with numbers."""
-
-    def __init__(self, interface: Interface, signed: list[str], is_hex: bool, with_states: bool):
-        self.outputs = interface.outputs
-        self.states = [state.name for state in interface.states]
-        self.signed, self.is_hex, self.with_states = signed, is_hex, with_states
-        self.buses = {name: interface.buses(names) for name, names in (("outputs", self.outputs), ("states", self.states))}
-        known = [*self.buses["outputs"].values(), *(self.buses["states"].values() if with_states else ())]
-        for name in signed:
-            if name not in [bus.name for bus in known]:
-                raise Fault(f"--signed {name}: the buses shown are {', '.join(bus.title for bus in known) or 'none'}")
-
-    def number(self, bus: Bus, bits: dict[str, int]) -> str:
-        """A bus with its value."""
-        value = bus.number(bits, bus.name in self.signed)
-        return f"{bus.name}={bus.text(value, self.is_hex)}"
-
-    def numbers(self, which: str, names: list[str], digits: str) -> list[str]:
-        """The buses of some nets, which have these digits, with their values."""
-        bits = dict(zip(names, map(int, digits)))
-        return [self.number(bus, bits) for bus in self.buses[which].values()]
-
-    def line_of(self, event: Played) -> str:
-        """The line of an event with numbers."""
-        if event.word != "cycle":
-            return event.text
-        if len(event.outputs) != len(self.outputs) or len(event.states) != len(self.states):
-            raise Fault(f"`{event.text[:60]}` doesn't fit this netlist, which has {len(self.outputs)} outputs and {len(self.states)} latches")
-        shown = self.numbers("outputs", self.outputs, event.outputs)
-        if self.with_states:
-            shown += ["|", *self.numbers("states", self.states, event.states)]
-        return " ".join(["cycle", *shown])
+def view_of(given: argparse.Namespace) -> View:
+    """What these arguments choose."""
+    return View(tuple(given.signed), given.hex, given.states)
 
 
 def run(given: argparse.Namespace) -> int:
     interface = read_interface(given.netlist, given.params)
-    viewer = Viewer(interface, given.signed, given.hex, given.states)
+    viewer = Viewer(interface, view_of(given))
     text = read_input()
     output = parse_output(text, "standard input")
     events = read_script(given.script, interface.regular) if given.script else None
-    if output.header:
-        print(output.header.text)
-    for event in output.events:
-        print(viewer.line_of(event))
+    for line in viewer.lines(output):
+        print(line)
     sys.stdout.flush()
     if events is not None:
         check_end(len(events), output)

@@ -5,10 +5,7 @@ from __future__ import annotations
 import argparse
 import sys
 
-from tlutflow.parameters import read_interface
-from tlutflow.runs.output import parse_output
-from tlutflow.runs.script import read_script
-from tlutflow.runs.waveform import check_end, dump_of
+from tlutflow.stages.runs import read_run
 from tlutflow.text import read_input
 
 HELP = "a waveform of a run, for GTKWave"
@@ -30,10 +27,8 @@ def add_words(parser: argparse.ArgumentParser) -> None:
 
 
 def run(given: argparse.Namespace) -> int:
-    interface = read_interface(given.netlist, given.params)
-    events = read_script(given.script, interface.regular)
-    output = parse_output(read_input(), "standard input")
-    print(dump_of(interface, events, output), end="")
+    played = read_run(given.netlist, given.params, given.script, read_input(), "standard input")
+    print(played.waveform(), end="")
     sys.stdout.flush()
-    check_end(len(events), output)
+    played.check_end()
     return 0

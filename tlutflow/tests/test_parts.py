@@ -195,7 +195,7 @@ class LeftOut(InFolder):
         """The lines of `flow prepare` on what was left out."""
         partly = self.partly("exit 9")
         words = ("prepare", self.put("n.blif", SHARED), self.put("n.par", "p 0\nq 1\n"), "--only", "raw", "--only", "dc2", "-j", "1", "--tlut", self.sizes())
-        with mock.patch("tlutflow.tools.need", return_value=partly), mock.patch("tlutflow.commands.prepare.Task", partial(Task, part_size=5)):
+        with mock.patch("tlutflow.tools.need", return_value=partly), mock.patch("tlutflow.stages.preparing.Task", partial(Task, part_size=5)):
             ran = flow(*words, folder=self.folder)
         self.assertEqual(ran.returncode, 0, ran.stderr)
         self.assertEqual(ran.stderr.count("leaves 1 of 3 parts as read, with z: ABC ended with status 9"), 2, ran.stderr)
@@ -220,7 +220,7 @@ class Modules(InFolder):
         self.put("top.v", PLACED)
         words = ("verilog", "top.v", "--top", "top", "--param", "k=5", "--quick")
         for name, more, size in (("whole", (), PART_SIZE), ("modules", ("--by-modules",), PART_SIZE), ("parts", (), 10)):
-            with mock.patch("tlutflow.commands.verilog.PART_SIZE", size):
+            with mock.patch("tlutflow.stages.elaboration.PART_SIZE", size):
                 ran = flow(*words, *more, "--out", name, folder=self.folder)
             self.assertEqual((ran.returncode, ran.stderr), (0, ""))
             self.assertEqual(flow("check", "whole/top.blif", f"{name}/top.blif", folder=self.folder).stdout, "equal (ABC cec, latch by latch)\n")

@@ -114,7 +114,7 @@ class Stopped(Programs):
         raise AssertionError(f"{number} still runs")
 
     def test_nothing_is_left(self):
-        """Neither programs, and what these have called, nor folders; whether one program runs, or several in threads, one of them `flow` itself."""
+        """Neither programs, and what these have called, nor folders; whether one program runs, or several in threads."""
         os.mkdir(f"{self.folder}/temporary")
         path = self.put_program("yosys-abc", f"sleep 60 & echo $! > {self.folder}/inner; echo $$ > {self.folder}/outer.new; mv {self.folder}/outer.new {self.folder}/outer; wait")
         self.put_program("tlut", FAKE)
@@ -135,7 +135,7 @@ class Stopped(Programs):
 
     @NEEDS_TLUT
     def test_a_build(self):
-        """The simulation, which `flow` within `flow` runs."""
+        """The simulation, which one of several threads runs."""
         if not shutil.which("iverilog"):
             self.skipTest("Icarus Verilog (iverilog) isn't there")
         os.mkdir(f"{self.folder}/temporary")

@@ -33,6 +33,13 @@ class Way:
     word: int = 1
     pairs: bool = True
 
+    @property
+    def words(self) -> list[str]:
+        """The arguments that choose it."""
+        words = ["--target", self.target, "--port", self.port, "--bits", self.bits]
+        words += ["--word", str(self.word)] if self.word > 1 else []
+        return words + (["--regions", str(self.regions)] if self.regions > 1 else []) + ([] if self.pairs else ["--no-pairs"])
+
 
 def device_of(circuit: Circuit, names: Names, way: Way) -> Device:
     """The LUTs and the configuration port of a circuit."""
