@@ -164,12 +164,12 @@ class Install(Checkout):
         self.install()
 
     def test_destdir(self):
-        self.install("/usr", DESTDIR=f"{self.folder}/stage")
-        self.assertEqual(self.call(f"{self.folder}/stage/usr/bin/tlut", "x").stdout, "<x>")
-        with open(f"{self.folder}/stage/usr/lib/tlut/manifest", encoding="utf-8") as file:
-            self.assertNotIn("stage", file.read())
-        ran = self.call(f"{self.top}/tlut", "uninstall", "/usr", DESTDIR=f"{self.folder}/stage")
-        self.assertEqual((ran.returncode, self.files(f"{self.folder}/stage")), (0, ["usr"]))
+        self.install("/usr", DESTDIR=f"{self.folder}/destination")
+        self.assertEqual(self.call(f"{self.folder}/destination/usr/bin/tlut", "x").stdout, "<x>")
+        with open(f"{self.folder}/destination/usr/lib/tlut/manifest", encoding="utf-8") as file:
+            self.assertNotIn("destination", file.read())
+        ran = self.call(f"{self.top}/tlut", "uninstall", "/usr", DESTDIR=f"{self.folder}/destination")
+        self.assertEqual((ran.returncode, self.files(f"{self.folder}/destination")), (0, ["usr"]))
 
     def test_a_prefix_that_can_t_be_written(self):
         self.put("file", "")
