@@ -4,8 +4,8 @@
     python3 tools/filters.py [--json FILE] [--only NAME ..] [--k K ..] [-j N]
 
 For each design and K it prints LUTs and depth by `tlut --compact`: of the recipe's own preparation, in which a product is an array of gates; of
-the netlist with tables that has the fewest LUTs, with the preparation that made it, and of the one with the least depth; and of ABC's `if` on the recipe's netlist with the
-parameters as inputs. Last come geometric means. It needs Yosys, ABC and a built ./tlut, and takes some minutes.
+the netlist with tables that has the fewest LUTs, with the preparation that made it; and of ABC's `if` on the recipe's netlist with the parameters
+as inputs. Last come geometric means. It needs Yosys, ABC and a built ./tlut, and takes some minutes.
 """
 
 from __future__ import annotations
@@ -31,7 +31,6 @@ FILES = {"fir8": f"{TOP}/examples/fir8/fir8.v", "kernel": f"{TOP}/tlutflow/tests
 FILES |= {name: f"{SUMS}/{name}.v" for name in ("fir16s", "biquad", "conv5", "mixer", "layer", "horner", "fir12t")}
 STYLES = ("tables", "prefix", "digits", "alldata")
 CHOICES = [f"{style}{end}" for style in STYLES for end in ("", "_map", "_st")]
-CHANGES = ("tables", "digits")
 
 
 @dataclass(frozen=True)
